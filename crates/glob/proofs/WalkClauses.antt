@@ -6,14 +6,14 @@ use Rattle.glob_tree.specs.Content.{Content}
 use Rattle.glob_pattern.specs.declared.options.MatchOptions.{MatchOptions}
 use Rattle.glob_walk.specs.Marks.{Item, items, front, paths, IsBeginning}
 use Rattle.glob_walk.specs.Listing.{listing}
-use Rattle.glob_walk.specs.Goal.{is_readable, IsPlainWalk, ReachesGoal, GivesGoal}
+use Rattle.glob_walk.specs.Goal.{is_readable, named_goal, IsNamedWalk, IsPlainWalk, ReachesTexts, GivesTexts, ReachesGoal, GivesGoal}
 use Rattle.glob_walk.specs.Order.{IsOrderly}
 use Rattle.glob_walk.specs.Walks.{Gives, AreItems, IsWalk}
 use Rattle.glob_walk.specs.WalkGoals.{item_of, given_items}
 use Rattle.glob_walk.specs.declared.error.GlobError.{GlobError}
 use Rattle.glob_walk.specs.declared.ending.End.{End}
 use Rattle.glob_walk.specs.declared.ending.End.TheVariants.{Done, Limit, Memory}
-use Rattle.glob_walk.proofs.GoalLemmas.Clauses.{IsBeginning-whole, IsBeginning-within, reaches_goal, gives_goal, comes_in_order}
+use Rattle.glob_walk.proofs.GoalLemmas.Clauses.{IsBeginning-whole, IsBeginning-within, reaches_goal, gives_goal, comes_in_order, reaches_names, gives_names, names_in_order}
 
 -- the items of answers that say them
 given_items-is : {A : Type 0} (answers : List (Result (PathBuf A) (GlobError A))) (is : List Item) → AreItems answers is → given_items answers ≡ is
@@ -23,7 +23,7 @@ given_items-is answers is said = ap (filter_map item_of) said ∙ kept is
     kept [] = refl
     kept (i ∷ is) = ap (λ js. i ∷ js) (kept is)
 
-module _ {A : Type 0} (c : Content) (o : MatchOptions) (pattern : Text) (p : IsPlainWalk c o pattern) (limit spent : ℕ) (answers : List (Result (PathBuf A) (GlobError A))) where
+module _ {A : Type 0} (c : Content) (o : MatchOptions) (pattern : Text) (limit spent : ℕ) (answers : List (Result (PathBuf A) (GlobError A))) where
   -- the items are a beginning, and where the walk is done they are all
   begins : (end : End) → IsWalk (listing c o pattern) limit end spent answers → IsBeginning (given_items answers) (items (listing c o pattern))
   unfolding IsWalk
@@ -37,11 +37,22 @@ module _ {A : Type 0} (c : Content) (o : MatchOptions) (pattern : Text) (p : IsP
   whole Limit walk e = absurd (cc)
   whole Memory walk e = absurd (cc)
 
-  pub walk_reaches_goal : (end : End) → IsWalk (listing c o pattern) limit end spent answers → ReachesGoal c o pattern (end ≡ Done) (given_items answers)
-  walk_reaches_goal end walk = reaches_goal c o pattern p (given_items answers) (end ≡ Done) (begins end walk) (whole end walk)
+  module _ (p : IsPlainWalk c o pattern) where
+    pub walk_reaches_goal : (end : End) → IsWalk (listing c o pattern) limit end spent answers → ReachesGoal c o pattern (end ≡ Done) (given_items answers)
+    walk_reaches_goal end walk = reaches_goal c o pattern p (given_items answers) (end ≡ Done) (begins end walk) (whole end walk)
 
-  pub walk_gives_goal : (end : End) → IsWalk (listing c o pattern) limit end spent answers → is_readable c pattern ≡ true → end ≡ Done → GivesGoal c o pattern (given_items answers)
-  walk_gives_goal end walk readable e = gives_goal c o pattern p (given_items answers) readable (whole end walk e)
+    pub walk_gives_goal : (end : End) → IsWalk (listing c o pattern) limit end spent answers → is_readable c pattern ≡ true → end ≡ Done → GivesGoal c o pattern (given_items answers)
+    walk_gives_goal end walk readable e = gives_goal c o pattern p (given_items answers) readable (whole end walk e)
 
-  pub walk_is_orderly : (end : End) → IsWalk (listing c o pattern) limit end spent answers → IsOrderly pattern (paths (given_items answers))
-  walk_is_orderly end walk = comes_in_order c o pattern p (given_items answers) (begins end walk)
+    pub walk_is_orderly : (end : End) → IsWalk (listing c o pattern) limit end spent answers → IsOrderly pattern (paths (given_items answers))
+    walk_is_orderly end walk = comes_in_order c o pattern p (given_items answers) (begins end walk)
+
+  pub walk_finds_names : IsNamedWalk c pattern → (end : End) → IsWalk (listing c o pattern) limit end spent answers
+      → ReachesTexts c pattern (named_goal c o pattern) (end ≡ Done) (given_items answers)
+      × (is_readable c pattern ≡ true → end ≡ Done → GivesTexts (named_goal c o pattern) (given_items answers))
+      × IsOrderly pattern (paths (given_items answers))
+  walk_finds_names p end walk = (
+    reaches_names c o pattern p (given_items answers) (end ≡ Done) (begins end walk) (whole end walk),
+    (λ readable e. gives_names c o pattern p (given_items answers) readable (whole end walk e)),
+    names_in_order c o pattern p (given_items answers) (begins end walk),
+  )

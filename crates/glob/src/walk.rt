@@ -5,7 +5,7 @@ ghost use Rattle.glob_tree.specs.Answers.{IsTold};
 ghost use Rattle.glob_walk.specs.Components.{walk_fault};
 ghost use Rattle.glob_walk.specs.Listing.{listing};
 ghost use Rattle.glob.specs.Private.Walking.{EndsAs};
-ghost use Rattle.glob_walk.specs.WalkGoals.{FindsGoal, FindsExactly, FindsInOrder};
+ghost use Rattle.glob_walk.specs.WalkGoals.{FindsGoal, FindsExactly, FindsInOrder, FindsNames};
 ghost use Rattle.glob_walk.specs.Walks.{HasNoRefusal, IsFresh, IsWalk, IsWalkAsked, RefusesWith, Walking};
 
 use crate::paths::{Paths, glob_in};
@@ -41,6 +41,10 @@ pub struct Walk<T: Tree> {
 /// - Each path comes once if `**` stands in at most one place, where `**/**` is one, and in order if besides at most
 ///   one component follows it.
 ///
+/// In either case the paths are those below the start whose names the components take: a component without wildcards
+/// takes its own name alone, unless `**` is right before it, and another takes each name that it matches. So over a
+/// directory `aaa`, case-insensitively, `AAA` finds nothing, and `**/AAA` finds `aaa`.
+///
 /// `limit` is in units of work: lookups, listings and entries. Over files `x` and `y`, `walk_in(alloc, tree, "*",
 /// options, 4)` gives both and `End::Done`; with the limit 3 it gives none, and `End::Limit`.
 pub fn walk_in<T: Tree>(
@@ -68,6 +72,8 @@ pub fn walk_in<T: Tree>(
         (λ walk. FindsExactly (T.tells tree) options pattern.now walk.end walk.items.items) }
     ensures orderly { IfOk result
         (λ walk. FindsInOrder (T.tells tree) options pattern.now walk.items.items) }
+    ensures named { IfOk result
+        (λ walk. FindsNames (T.tells tree) options pattern.now walk.end walk.items.items) }
 {
     walked(alloc, glob_in(alloc, tree, pattern, options, limit))
 }

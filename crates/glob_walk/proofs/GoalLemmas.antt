@@ -12,6 +12,7 @@ pub mod ListingFinds
 pub mod FoundIsTaken
 pub mod TakenIsFound
 pub mod GoalNames
+pub mod UndividedGoal
 pub mod ItemsFound
 pub mod NoError
 pub mod ReachedGoals

@@ -1,5 +1,5 @@
 -- What a walk is for: the texts of the keys below its start that the undivided pattern matches.
-use Rattle.std.specs.Prelude.{◌≡◌, ◌≢◌, Bool, true, false, ◌&&◌, ◌||◌, not, if◌then◌else◌, List, [], ◌∷◌, ◌++◌, filter_map, Contains, Option, Some, None, is_none, option_and_then, ◌⊎◌, ◌↔◌, IsTrue}
+use Rattle.std.specs.Prelude.{◌≡◌, ◌≢◌, Bool, true, false, ◌&&◌, ◌||◌, not, if◌then◌else◌, List, [], ◌∷◌, ◌++◌, filter_map, Contains, bytes_eq, Option, Some, None, is_none, option_and_then, ◌⊎◌, ◌↔◌, IsTrue}
 use Rattle.std.specs.List.{list_all, join_with_byte}
 use Rattle.std.specs.Str.{chars, IsUtf8}
 use Rattle.std.specs.declared.io.ErrorKind.{ErrorKind}
@@ -7,8 +7,9 @@ use Rattle.glob_text.specs.Characters.{slash, dot}
 use Rattle.glob_text.specs.Text.{Text}
 use Rattle.glob_text.specs.Pieces.{is_empty, begins_with}
 use Rattle.glob_tree.specs.Content.{Content, is_content, Key, is_dir, names_past, kind_at, resolve}
-use Rattle.glob_walk.specs.Components.{components, has_root, wants_directories, without_end_separator, is_literal, is_recursive, is_current_or_parent, walk_fault}
+use Rattle.glob_walk.specs.Components.{components, has_root, wants_directories, without_end_separator, is_literal, is_recursive, is_current_or_parent, matches_name, walk_fault}
 use Rattle.glob_pattern.specs.Computing.Deciding.{is_match}
+use Rattle.glob_pattern.specs.Matching.Components.{name_before, run_before, run_to_end}
 use Rattle.glob_walk.specs.Marks.{Item, Unread, paths}
 use Rattle.glob_pattern.specs.declared.options.MatchOptions.{MatchOptions}
 use Rattle.glob_tree.specs.declared.kind.Kind.{Kind}
@@ -65,6 +66,33 @@ unfoldable pub goal : Content → MatchOptions → (pattern : Text) → List Tex
 goal c o pattern =
     filter_map (λ e. option_and_then (goal_text o pattern e.1) (names_past (start_key c pattern) e.0)) c.kinds
 
+-- A component takes a name: one that stands for itself takes that name alone, unless `**` is before it, and another each
+-- name that it matches.
+abbrev pub walk_takes_name : MatchOptions → (after_recursive : Bool) → (component name : Text) → Bool
+walk_takes_name o after_recursive t n = if after_recursive || not (is_literal t) then matches_name o t n else bytes_eq t n
+
+-- The components take the names: `**` any number of them, at the end at least one, and another component one name.
+abbrev pub walk_takes : MatchOptions → (after_recursive : Bool) → (components names : List Text) → Bool
+walk_takes o after [] [] = true
+walk_takes o after [] (n ∷ ns) = false
+walk_takes o after (t ∷ []) names =
+    if is_recursive t then run_to_end o names else name_before (walk_takes_name o after t) (walk_takes o false []) names
+walk_takes o after (t ∷ u ∷ us) names =
+    if is_recursive t then run_before o (walk_takes o true (u ∷ us)) names
+    else name_before (walk_takes_name o after t) (walk_takes o false (u ∷ us)) names
+
+-- the text of the names past the start of a key of this kind, if the components take them
+abbrev pub named_text : MatchOptions → (pattern : Text) → Kind → Key → Option Text
+named_text o pattern kind [] = None
+named_text o pattern kind (n ∷ ns) =
+    if matches_kind pattern kind && walk_takes o false (components pattern) (n ∷ ns)
+    then Some (text_below pattern (n ∷ ns)) else None
+
+-- the texts that a walk is to find in either case, in no order: case-sensitively they are the goal
+unfoldable pub named_goal : Content → MatchOptions → (pattern : Text) → List Text
+named_goal c o pattern =
+    filter_map (λ e. option_and_then (named_text o pattern e.1) (names_past (start_key c pattern) e.0)) c.kinds
+
 abbrev pub is_shut : Kind → Bool
 is_shut Dir = false
 is_shut (Shut kind) = true
@@ -73,6 +101,12 @@ is_shut Other = false
 -- neither the start nor a key below it is shut
 unfoldable pub is_readable : Content → (pattern : Text) → Bool
 is_readable c pattern = list_all (λ e. not (is_shut e.1) || is_none (names_past (start_key c pattern) e.0)) c.kinds
+
+-- a walk over a content, after a plain pattern
+pub record IsNamedWalk (c : Content) (pattern : Text) : Type 0 where
+  pub content : IsTrue (is_content c)
+  pub text : IsUtf8 pattern
+  pub plain : IsTrue (is_plain pattern)
 
 -- a plain walk: over a content, after a plain pattern, case-sensitively
 pub record IsPlainWalk (c : Content) (o : MatchOptions) (pattern : Text) : Type 0 where
@@ -95,14 +129,19 @@ pub record IsHidden (c : Content) (pattern : Text) (given : List Item) (text : T
   pub extends : start_key c pattern ++ names ≡ above ++ below
   pub same : text ≡ text_below pattern names
 
--- each path is a goal, and if the walk is whole, each goal is a path or hidden
-pub record ReachesGoal (c : Content) (o : MatchOptions) (pattern : Text) (IsWhole : Type 0)
-    (given : List Item) : Type 0 where
-  pub sound : (text : Text) → Contains (paths given) text → Contains (goal c o pattern) text
-  pub complete : IsWhole → (text : Text) → Contains (goal c o pattern) text
+-- each path is wanted, and if the walk is whole, each text that is wanted is a path or hidden
+pub record ReachesTexts (c : Content) (pattern : Text) (wanted : List Text) (IsWhole : Type 0) (given : List Item) : Type 0 where
+  pub sound : (text : Text) → Contains (paths given) text → Contains wanted text
+  pub complete : IsWhole → (text : Text) → Contains wanted text
       → Contains (paths given) text ⊎ IsHidden c pattern given text
 
--- no item is an error, and the paths are exactly the goal
-pub record GivesGoal (c : Content) (o : MatchOptions) (pattern : Text) (given : List Item) : Type 0 where
+-- no item is an error, and the paths are exactly those that are wanted
+pub record GivesTexts (wanted : List Text) (given : List Item) : Type 0 where
   pub readable : (path : Text) (kind : ErrorKind) → ¬ (Contains given (Unread path kind))
-  pub exact : (text : Text) → Contains (paths given) text ↔ Contains (goal c o pattern) text
+  pub exact : (text : Text) → Contains (paths given) text ↔ Contains wanted text
+
+abbrev pub ReachesGoal : Content → MatchOptions → (pattern : Text) → (IsWhole : Type 0) → List Item → Type 0
+ReachesGoal c o pattern IsWhole given = ReachesTexts c pattern (goal c o pattern) IsWhole given
+
+abbrev pub GivesGoal : Content → MatchOptions → (pattern : Text) → List Item → Type 0
+GivesGoal c o pattern given = GivesTexts (goal c o pattern) given

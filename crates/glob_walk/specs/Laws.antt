@@ -8,7 +8,7 @@ use Rattle.glob_tree.specs.Content.{Content, Key, DirEntry, is_content, is_dir_a
 use Rattle.glob_walk.specs.Components.{components, matches_name}
 use Rattle.glob_walk.specs.Marks.{Mark, Item, items, paths, IsBeginning}
 use Rattle.glob_walk.specs.Listing.{descent, levels, listing}
-use Rattle.glob_walk.specs.Goal.{is_plain, matches_undivided, text_below, is_readable, IsPlainWalk, ReachesGoal, GivesGoal}
+use Rattle.glob_walk.specs.Goal.{is_plain, matches_undivided, text_below, is_readable, goal, named_goal, IsNamedWalk, IsPlainWalk, ReachesTexts, GivesTexts, ReachesGoal, GivesGoal}
 use Rattle.glob_walk.specs.Order.{IsOrderly}
 use Rattle.glob_pattern.specs.declared.options.MatchOptions.{MatchOptions}
 use Rattle.glob_pattern.specs.Matching.Components.{takes_names}
@@ -43,6 +43,27 @@ abbrev pub PlainWalkOrderly : Type 0
 PlainWalkOrderly =
     (c : Content) (o : MatchOptions) (pattern : Text) → IsPlainWalk c o pattern
     → (given : List Item) → IsBeginning given (items (listing c o pattern)) → IsOrderly pattern (paths given)
+
+-- in either case the same holds of the keys whose names the components take
+abbrev pub NamedWalkReaches : Type 0
+NamedWalkReaches =
+    (c : Content) (o : MatchOptions) (pattern : Text) → IsNamedWalk c pattern
+    → (given : List Item) → IsBeginning given (items (listing c o pattern))
+    → ReachesTexts c pattern (named_goal c o pattern) (given ≡ items (listing c o pattern)) given
+
+abbrev pub NamedWalkGives : Type 0
+NamedWalkGives =
+    (c : Content) (o : MatchOptions) (pattern : Text) → IsNamedWalk c pattern → IsTrue (is_readable c pattern)
+    → GivesTexts (named_goal c o pattern) (items (listing c o pattern))
+
+abbrev pub NamedWalkOrderly : Type 0
+NamedWalkOrderly =
+    (c : Content) (o : MatchOptions) (pattern : Text) → IsNamedWalk c pattern
+    → (given : List Item) → IsBeginning given (items (listing c o pattern)) → IsOrderly pattern (paths given)
+
+-- case-sensitively these keys are those whose texts the undivided pattern matches
+abbrev pub NamedGoalIsGoal : Type 0
+NamedGoalIsGoal = (c : Content) (o : MatchOptions) (pattern : Text) → IsPlainWalk c o pattern → named_goal c o pattern ≡ goal c o pattern
 
 -- as many levels as `levels` or more give the same marks of a descent below a directory
 abbrev pub EnoughLevelsAgree : Type 0

@@ -20,7 +20,7 @@ use Rattle.glob_walk.specs.Components.{components, has_root, is_recursive, walk_
 use Rattle.glob_walk.specs.Goal.{ends_recursive, goal_options, goal_text, is_plain, matches_kind, matches_undivided, text_below}
 use Rattle.glob_walk.specs.Laws.{are_names}
 use Rattle.glob_walk.specs.Order.{after_first_recursive, keeps_order}
-use Rattle.glob_walk.proofs.GoalLemmas.GoalNames.{plain_matches_levels}
+use Rattle.glob_walk.proofs.GoalLemmas.UndividedGoal.{plain_matches_levels}
 use Rattle.glob_walk.proofs.GoalLemmas.NamedPaths.{AllUtf8-from, AreNames-from, flat-from}
 use Rattle.glob_walk.proofs.GoalLemmas.TakenNames.{takes}
 use Rattle.glob_walk.proofs.GoalLemmas.Characters.{AllUtf8}

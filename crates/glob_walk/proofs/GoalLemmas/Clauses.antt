@@ -1,5 +1,5 @@
 -- What the laws of a plain walk say of the items that a walk gave: the clauses of a whole walk.
-use Rattle.std.proofs.Common.{◌≡◌, ℕ, true, List, [], ◌∷◌, ◌++◌, map, refl, sym, ap, ap₂, subst, ◌∙◌}
+use Rattle.std.proofs.Common.{◌≡◌, ℕ, true, List, [], ◌++◌, sym, ap, subst, ◌∙◌}
 use Rattle.std.specs.Prelude.{IsTrue, Option}
 use Rattle.std.specs.Str.{IsUtf8}
 use Rattle.std.proofs.lemmas.List.{append-nil}
@@ -8,12 +8,12 @@ use Rattle.glob_tree.specs.Content.{Content}
 use Rattle.glob_tree.specs.Answers.{IsTold}
 use Rattle.glob_walk.specs.Marks.{Item, items, front, paths, IsBeginning}
 use Rattle.glob_walk.specs.Listing.{listing}
-use Rattle.glob_walk.specs.Goal.{is_plain, is_readable, IsPlainWalk, ReachesGoal, GivesGoal}
+use Rattle.glob_walk.specs.Goal.{is_plain, is_readable, named_goal, IsNamedWalk, IsPlainWalk, ReachesTexts, GivesTexts, ReachesGoal, GivesGoal}
 use Rattle.glob_walk.specs.Order.{IsOrderly}
 use Rattle.glob_pattern.specs.declared.options.MatchOptions.{MatchOptions}
 use Rattle.glob_walk.proofs.ListingLemmas.Marks.{IsBeginning-front}
-use Rattle.glob_walk.proofs.GoalLemmas.ReachedGoals.{plain_walk_reaches, plain_walk_gives}
-use Rattle.glob_walk.proofs.GoalLemmas.OnceInOrder.{plain_walk_orderly}
+use Rattle.glob_walk.proofs.GoalLemmas.ReachedGoals.{named_walk_reaches, named_walk_gives, plain_walk_reaches, plain_walk_gives}
+use Rattle.glob_walk.proofs.GoalLemmas.OnceInOrder.{named_walk_orderly, plain_walk_orderly}
 
 -- the premises of a plain walk, over a tree with a known content
 pub plain_walk : (known : Option Content) (c : Content) (o : MatchOptions) (pattern : Text) → IsTold known c → IsUtf8 pattern → IsTrue (is_plain pattern) → IsTrue o.case_sensitive → IsPlainWalk c o pattern
@@ -40,3 +40,15 @@ module _ (c : Content) (o : MatchOptions) (pattern : Text) (p : IsPlainWalk c o 
   -- the paths come once and in order
   pub comes_in_order : IsBeginning given (items (listing c o pattern)) → IsOrderly pattern (paths given)
   comes_in_order begins = plain_walk_orderly c o pattern p given begins
+
+-- so it is in either case, of the keys whose names the components take
+module _ (c : Content) (o : MatchOptions) (pattern : Text) (p : IsNamedWalk c pattern) (given : List Item) where
+  pub reaches_names : (IsDone : Type 0) → IsBeginning given (items (listing c o pattern)) → (IsDone → given ≡ items (listing c o pattern))
+      → ReachesTexts c pattern (named_goal c o pattern) IsDone given
+  reaches_names IsDone begins done = named_walk_reaches c o pattern p given begins IsDone done
+
+  pub gives_names : is_readable c pattern ≡ true → given ≡ items (listing c o pattern) → GivesTexts (named_goal c o pattern) given
+  gives_names readable whole = subst (GivesTexts (named_goal c o pattern)) (sym whole) (named_walk_gives c o pattern p readable)
+
+  pub names_in_order : IsBeginning given (items (listing c o pattern)) → IsOrderly pattern (paths given)
+  names_in_order begins = named_walk_orderly c o pattern p given begins

@@ -1,7 +1,6 @@
 -- The goal of a plain walk: the texts of the keys below its start whose names the components take.
 use Rattle.std.proofs.Common.{◌≡◌, ◌<◌, ⊎_elim, Bool, true, false, cond, ◌&&◌, ◌==◌, List, [], ◌∷◌, ◌++◌, length, Some, None, refl, sym, ap, ◌∙◌, arith}
 use Rattle.std.specs.Prelude.{Contains, option_and_then}
-use Rattle.std.specs.Str.{IsUtf8}
 use Rattle.std.proofs.lemmas.Bool.{both_ways, and_parts, and_from, cond-true, cases_Bool}
 use Rattle.std.proofs.lemmas.List.Splits.{length-slice_split}
 use Rattle.std.proofs.lemmas.Option.{none-some, same_Some, option_and_then_some}
@@ -12,30 +11,22 @@ use Rattle.glob_tree.specs.declared.kind.Kind.{Kind}
 use Rattle.glob_tree.proofs.ContentLemmas.Membership.{Contains-filter_map, filter_map-contains}
 use Rattle.glob_tree.proofs.ContentLemmas.Contents.{IsContent, IsContent-from_test, contains_kind_at, kind_at-entry, names_past-append, names_past_is}
 use Rattle.glob_walk.specs.Components.{without_root, without_end_separator, components, wants_directories, is_recursive}
-use Rattle.glob_walk.specs.Goal.{is_plain, start_key, text_below, matches_undivided, matches_kind, goal_text, goal, IsPlainWalk}
+use Rattle.glob_walk.specs.Goal.{start_key, text_below, matches_kind, named_text, named_goal, walk_takes, IsNamedWalk}
 use Rattle.glob_walk.specs.Laws.{are_names}
 use Rattle.glob_pattern.specs.declared.options.MatchOptions.{MatchOptions}
 use Rattle.glob_walk.proofs.GoalLemmas.KeysBelow.{names_at}
-use Rattle.glob_walk.proofs.GoalLemmas.NamedPaths.{AreNames-from, AllUtf8-from, flat-from}
-use Rattle.glob_walk.proofs.GoalLemmas.TakenNames.{takes, run-nil, takes-one_none}
+use Rattle.glob_walk.proofs.GoalLemmas.TakenNames.{run-nil, takes-one_none}
 use Rattle.glob_walk.proofs.GoalLemmas.FoundIsTaken.{IsTakenAt}
-use Rattle.glob_walk.proofs.GoalLemmas.Undivided.{undivided_takes}
-
--- the pattern matches the text of names where its components take them
-pub plain_matches_levels : (o : MatchOptions) (pattern : Text) → IsUtf8 pattern → is_plain pattern ≡ true → o.case_sensitive ≡ true → (n : Text) (ns : Key) → are_names (n ∷ ns) ≡ true
-    → matches_undivided o pattern (text_below pattern (n ∷ ns)) ≡ takes o (components pattern) (n ∷ ns)
-plain_matches_levels o pattern utf8 plain case n ns h =
-    undivided_takes o case pattern utf8 plain n ns (AllUtf8-from (n ∷ ns) h) (flat-from (n ∷ ns) (AreNames-from (n ∷ ns) h))
 
 -- components take at least one name
-pub takes_some : (o : MatchOptions) (pattern : Text) → takes o (components pattern) [] ≡ true → ⊥
+pub takes_some : (o : MatchOptions) (pattern : Text) → walk_takes o false (components pattern) [] ≡ true → ⊥
 takes_some o pattern h = no_names (components pattern) (omega (arith, length-slice_split (λ c. c == slash) (without_end_separator (without_root pattern)))) h
   where
-    no_names : (ts : List Text) → 0 < length ts → takes o ts [] ≡ true → ⊥
+    no_names : (ts : List Text) → 0 < length ts → walk_takes o false ts [] ≡ true → ⊥
     no_names [] l g = omega arith
     no_names (t ∷ ts) l g = ⊎_elim
-        (λ r. run-nil o t ts r g)
-        (λ r. both_ways (takes o (t ∷ ts) []) (takes-one_none o t ts r) g) (cases_Bool (is_recursive t))
+        (λ r. run-nil o false t ts r g)
+        (λ r. both_ways (walk_takes o false (t ∷ ts) []) (takes-one_none o false t ts r) g) (cases_Bool (is_recursive t))
 
 -- the names are those of a key below the start that the components take, and its kind is wanted
 abbrev pub IsTaken : Content → MatchOptions → (pattern : Text) → Key → Type 0
@@ -49,44 +40,43 @@ pub record IsGoal (c : Content) (o : MatchOptions) (pattern text : Text) : Type 
   pub taken : IsTaken c o pattern (name ∷ names)
   pub proper : are_names (name ∷ names) ≡ true
 
-module _ (c : Content) (o : MatchOptions) (pattern : Text) (p : IsPlainWalk c o pattern) where
+module _ (c : Content) (o : MatchOptions) (pattern : Text) (p : IsNamedWalk c pattern) where
   w : IsContent c
   w = IsContent-from_test c p.content
 
   -- the test of a goal
   is_wanted : Kind → Text → Key → Bool
-  is_wanted kind n ns = matches_kind pattern kind && matches_undivided o pattern (text_below pattern (n ∷ ns))
+  is_wanted kind n ns = matches_kind pattern kind && walk_takes o false (components pattern) (n ∷ ns)
 
-  pub goal_of_taken : (n : Text) (ns : Key) → IsTaken c o pattern (n ∷ ns) → Contains (goal c o pattern) (text_below pattern (n ∷ ns))
-  unfolding goal is_wanted
+  pub goal_of_taken : (n : Text) (ns : Key) → IsTaken c o pattern (n ∷ ns) → Contains (named_goal c o pattern) (text_below pattern (n ∷ ns))
+  unfolding named_goal is_wanted
   goal_of_taken n ns is =
-      let proper = names_at c w (start_key c pattern) (n ∷ ns) is.kind is.held in
-      let test : is_wanted is.kind n ns ≡ true = and_from (matches_kind pattern is.kind) _ is.allowed (plain_matches_levels o pattern p.text p.plain p.case n ns proper ∙ is.taken) in
-      filter_map-contains (λ e. option_and_then (goal_text o pattern e.1) (names_past (start_key c pattern) e.0)) c.kinds (start_key c pattern ++ n ∷ ns, is.kind) (text_below pattern (n ∷ ns))
+      let test : is_wanted is.kind n ns ≡ true = and_from (matches_kind pattern is.kind) _ is.allowed is.taken in
+      filter_map-contains (λ e. option_and_then (named_text o pattern e.1) (names_past (start_key c pattern) e.0)) c.kinds (start_key c pattern ++ n ∷ ns, is.kind) (text_below pattern (n ∷ ns))
       (contains_kind_at c (start_key c pattern ++ n ∷ ns) is.kind is.held)
-      (ap (option_and_then (goal_text o pattern is.kind)) (names_past-append (start_key c pattern) (n ∷ ns))
+      (ap (option_and_then (named_text o pattern is.kind)) (names_past-append (start_key c pattern) (n ∷ ns))
       ∙ cond-true (is_wanted is.kind n ns) (Some (text_below pattern (n ∷ ns))) None test)
 
-  goal_text_is : (kind : Kind) (names : Key) (text : Text) → kind_at c (start_key c pattern ++ names) ≡ Some kind → goal_text o pattern kind names ≡ Some text → IsGoal c o pattern text
-  goal_text_is kind [] text held h = absurd (none-some text h)
-  goal_text_is kind (n ∷ ns) text held h = by_test (matches_kind pattern kind && matches_undivided o pattern (text_below pattern (n ∷ ns))) refl h
+  named_text_is : (kind : Kind) (names : Key) (text : Text) → kind_at c (start_key c pattern ++ names) ≡ Some kind → named_text o pattern kind names ≡ Some text → IsGoal c o pattern text
+  unfolding is_wanted
+  named_text_is kind [] text held h = absurd (none-some text h)
+  named_text_is kind (n ∷ ns) text held h = by_test (is_wanted kind n ns) refl h
     where
-      by_test : (b : Bool) → (matches_kind pattern kind && matches_undivided o pattern (text_below pattern (n ∷ ns))) ≡ b → cond b (Some (text_below pattern (n ∷ ns))) None ≡ Some text → IsGoal c o pattern text
+      by_test : (b : Bool) → (matches_kind pattern kind && walk_takes o false (components pattern) (n ∷ ns)) ≡ b → cond b (Some (text_below pattern (n ∷ ns))) None ≡ Some text → IsGoal c o pattern text
       by_test true e g =
-          let both = and_parts (matches_kind pattern kind) (matches_undivided o pattern (text_below pattern (n ∷ ns))) e in
-          let proper = names_at c w (start_key c pattern) (n ∷ ns) kind held in
+          let both = and_parts (matches_kind pattern kind) (walk_takes o false (components pattern) (n ∷ ns)) e in
           record {
             name = n;
             names = ns;
             same = sym (same_Some (text_below pattern (n ∷ ns)) text g);
-            taken = record { kind = kind; held = held; taken = sym (plain_matches_levels o pattern p.text p.plain p.case n ns proper) ∙ both.1; allowed = both.0 };
-            proper = proper;
+            taken = record { kind = kind; held = held; taken = both.1; allowed = both.0 };
+            proper = names_at c w (start_key c pattern) (n ∷ ns) kind held;
           }
       by_test false e g = absurd (none-some text g)
 
-  pub taken_of_goal : (text : Text) → Contains (goal c o pattern) text → IsGoal c o pattern text
-  unfolding goal
+  pub taken_of_goal : (text : Text) → Contains (named_goal c o pattern) text → IsGoal c o pattern text
+  unfolding named_goal
   taken_of_goal text h =
-      let (e, in', gives) = Contains-filter_map (λ e. option_and_then (goal_text o pattern e.1) (names_past (start_key c pattern) e.0)) c.kinds text h in
-      option_and_then_some (goal_text o pattern e.1) (names_past (start_key c pattern) e.0) text gives
-      (λ names past is. goal_text_is e.1 names text (ap (kind_at c) (sym (names_past_is (start_key c pattern) e.0 names past)) ∙ kind_at-entry c w e in') is)
+      let (e, in', gives) = Contains-filter_map (λ e. option_and_then (named_text o pattern e.1) (names_past (start_key c pattern) e.0)) c.kinds text h in
+      option_and_then_some (named_text o pattern e.1) (names_past (start_key c pattern) e.0) text gives
+      (λ names past is. named_text_is e.1 names text (ap (kind_at c) (sym (names_past_is (start_key c pattern) e.0 names past)) ∙ kind_at-entry c w e in') is)

@@ -1,10 +1,7 @@
 -- The items of a plain walk: what is found below its start, and so the keys that the components take.
-use Rattle.std.proofs.Common.{◌≡◌, true, false, List, [], ◌∷◌, map, refl, sym, ap, ◌∙◌}
+use Rattle.std.proofs.Common.{◌≡◌, true, false, map, sym, ap, ◌∙◌}
 use Rattle.std.specs.Prelude.{Contains, option_map, unwrap_or}
-use Rattle.std.specs.List.{list_all}
-use Rattle.std.specs.Str.{is_utf8}
-use Rattle.std.proofs.lemmas.Str.{is_utf8-from_IsUtf8}
-use Rattle.std.proofs.lemmas.Bool.{and_parts, and_from}
+use Rattle.std.proofs.lemmas.Bool.{and_parts}
 use Rattle.glob_text.specs.Text.{Text}
 use Rattle.glob_tree.specs.Content.{Content, Key, is_dir}
 use Rattle.glob_tree.proofs.ContentLemmas.Contents.{IsContent, IsContent-from_test}
@@ -12,11 +9,9 @@ use Rattle.glob_tree.proofs.ContentLemmas.Directories.{is_directory-look_result,
 use Rattle.glob_walk.specs.Marks.{items}
 use Rattle.glob_walk.specs.Components.{start, components, wants_directories}
 use Rattle.glob_walk.specs.Listing.{enter, listing}
-use Rattle.glob_walk.specs.Goal.{are_plain, is_plain, start_key, IsPlainWalk}
+use Rattle.glob_walk.specs.Goal.{are_plain, is_plain, start_key, IsNamedWalk}
 use Rattle.glob_pattern.specs.declared.options.MatchOptions.{MatchOptions}
-use Rattle.glob_walk.proofs.GoalLemmas.Characters.{AllUtf8}
-use Rattle.glob_walk.proofs.GoalLemmas.LiteralComponents.{own_only, own_name}
-use Rattle.glob_walk.proofs.GoalLemmas.PatternParts.{components-utf8, components-flat}
+use Rattle.glob_walk.proofs.GoalLemmas.PatternParts.{components-flat}
 use Rattle.glob_walk.proofs.GoalLemmas.KeysBelow.{Here}
 use Rattle.glob_walk.proofs.GoalLemmas.NamedPaths.{LeadsTo-start}
 use Rattle.glob_walk.proofs.GoalLemmas.Finds.{Hit, item_under, finds}
@@ -25,20 +20,13 @@ use Rattle.glob_walk.proofs.GoalLemmas.FoundIsTaken.{hits_are_taken}
 use Rattle.glob_walk.proofs.GoalLemmas.TakenIsFound.{FoundOrCovered, taken_are_found}
 use Rattle.glob_walk.proofs.GoalLemmas.GoalNames.{IsTaken}
 
-module _ (c : Content) (o : MatchOptions) (pattern : Text) (p : IsPlainWalk c o pattern) where
+module _ (c : Content) (o : MatchOptions) (pattern : Text) (p : IsNamedWalk c pattern) where
   w : IsContent c
   w = IsContent-from_test c p.content
 
   plain-components : are_plain false (components pattern) ≡ true
   unfolding is_plain
   plain-components = (and_parts _ (are_plain false (components pattern)) p.plain).1
-
-  utf8-components : list_all is_utf8 (components pattern) ≡ true
-  utf8-components = all_utf8 (components pattern) (components-utf8 pattern p.text)
-    where
-      all_utf8 : (ts : List Text) → AllUtf8 ts → list_all is_utf8 ts ≡ true
-      all_utf8 [] all = refl
-      all_utf8 (t ∷ ts) all = and_from (is_utf8 t) (list_all is_utf8 ts) (is_utf8-from_IsUtf8 t all.0) (all_utf8 ts all.1)
 
   -- the start is a directory
   here : Here c (start_key c pattern) true
@@ -55,8 +43,8 @@ module _ (c : Content) (o : MatchOptions) (pattern : Text) (p : IsPlainWalk c o 
 
   -- each hit is of a key that the components take
   pub found_is_taken : (names : Key) → Contains (finds c o pattern) (Hit names) → IsTaken c o pattern names
-  found_is_taken = hits_are_taken c w o (wants_directories pattern) (own_name o p.case) (components pattern) utf8-components (start_key c pattern) true here
+  found_is_taken = hits_are_taken c w o (wants_directories pattern) (components pattern) (start_key c pattern) true here
 
   -- each key that the components take is a hit, or lies below one that cannot be listed
   pub taken_is_found : (names : Key) → IsTaken c o pattern names → FoundOrCovered c (finds c o pattern) (start_key c pattern) names
-  taken_is_found = taken_are_found c w o (wants_directories pattern) (own_only o p.case) (components pattern) utf8-components (start_key c pattern) true here
+  taken_is_found = taken_are_found c w o (wants_directories pattern) (components pattern) (start_key c pattern) true here

@@ -1,16 +1,16 @@
 -- Each key whose names the components take is found, or lies below a directory that cannot be listed.
 use Rattle.std.proofs.Common.{◌≡◌, ◌≢◌, ℕ, zero, suc, ◌+◌, ◌≤◌, ◌⊎◌, inl, inr, ⊎_elim, Bool, true, false, cond, not, ◌||◌, List, [], ◌∷◌, ◌++◌, length, flat_map, Option, Some, None, refl, sym, ap, subst, ◌∙◌, arith}
-use Rattle.std.specs.Prelude.{Contains, option_map, unwrap_or}
-use Rattle.std.specs.List.{list_all}
-use Rattle.std.specs.Str.{is_utf8}
+use Rattle.std.specs.Prelude.{Contains, bytes_eq, option_map, unwrap_or}
 use Rattle.std.specs.declared.io.ErrorKind.{ErrorKind}
 use Rattle.std.proofs.lemmas.Bool.{false≢true, both_ways, and_parts, and_from}
 use Rattle.std.proofs.lemmas.List.{append_assoc, append-nil, length-append}
 use Rattle.std.proofs.lemmas.List.Elements.{Contains-append_left, Contains-append_right}
 use Rattle.std.proofs.lemmas.Option.{same_Some}
+use Rattle.std.proofs.lemmas.Slice.Eq.{bytes_eq-Decides}
 use Rattle.glob_text.specs.Text.{Text}
 use Rattle.glob_tree.specs.Content.{Content, Key, DirEntry, kind_at, is_dir, is_dir_at, children, sorted_entries}
 use Rattle.glob_walk.specs.Components.{Literal, Recursive, Wild, component_kind, ComponentKind, begins_recursive, is_recursive, is_literal, matches_name}
+use Rattle.glob_walk.specs.Goal.{walk_takes, walk_takes_name}
 use Rattle.glob_walk.specs.Listing.{is_entered, levels}
 use Rattle.glob_pattern.specs.declared.options.MatchOptions.{MatchOptions}
 use Rattle.glob_tree.specs.declared.kind.Kind.{Kind}
@@ -23,11 +23,11 @@ use Rattle.glob_tree.proofs.ContentLemmas.Sorting.{sorted_entries-contains}
 use Rattle.glob_walk.proofs.GoalLemmas.Finds.{at_entry, run_entry, Find, Hit, Miss, deepen, below, list_kind, list_names, found_names, descent_names, enter_names, meet_names}
 use Rattle.glob_walk.proofs.ListingLemmas.ComponentKinds.{kind-Literal, kind-Recursive, kind-Wild, literal_not_recursive}
 use Rattle.glob_walk.proofs.GoalLemmas.ListingFinds.{names-literal, names-wild, names-run, names-levels}
-use Rattle.glob_walk.proofs.GoalLemmas.FoundIsTaken.{IsTakenAt, IsMet, ends-cons}
+use Rattle.glob_walk.proofs.GoalLemmas.FoundIsTaken.{IsTakenAt, IsMet, ends-cons, wild_takes}
 use Rattle.glob_walk.proofs.GoalLemmas.FoundParts.{flat_map-contains, map-contains}
 use Rattle.glob_pattern.specs.Matching.Components.{is_open}
-use Rattle.glob_walk.proofs.GoalLemmas.KeysBelow.{held_above, on_the_way, name_is_utf8, Here, Here-dir, held-from_deeper}
-use Rattle.glob_walk.proofs.GoalLemmas.TakenNames.{takes, takes-one, takes-one_none, run-cases, run-nil, run-run}
+use Rattle.glob_walk.proofs.GoalLemmas.KeysBelow.{held_above, on_the_way, Here, Here-dir, held-from_deeper}
+use Rattle.glob_walk.proofs.GoalLemmas.TakenNames.{takes-one, takes-one_none, run-cases, run-nil, run-run}
 
 -- the key with these names past k lies below one that is shut, which is a miss
 pub record IsCovered (c : Content) (finds : List Find) (k names : Key) : Type 0 where
@@ -85,8 +85,7 @@ module _ (c : Content) (w : IsContent c) where
       })
       by_kind (Some Other) e d = absurd (both_ways false refl (sym (ap (λ x. unwrap_or (option_map is_dir x) false) e) ∙ d))
 
-  module _ (o : MatchOptions) (directories : Bool)
-      (own : (t n : Text) → is_literal t ≡ true → is_utf8 t ≡ true → is_utf8 n ≡ true → matches_name o t n ≡ true → t ≡ n) where
+  module _ (o : MatchOptions) (directories : Bool) where
     abbrev Entered : List Text → Type 0
     Entered ts = (k : Key) (d : Bool) → Here c k d → (names : Key) → IsTakenAt c o directories ts k names → FoundOrCovered c (enter_names c o directories ts k d) k names
 
@@ -129,20 +128,20 @@ module _ (c : Content) (w : IsContent c) where
     found-met : (u : Text) (us : List Text) → is_recursive u ≡ false → Entered us → (t : Text) → Met (u ∷ us) t
     unfolding meet_names
     found-met u us plain next t k name d at names is =
-        let both = and_parts (matches_name o u name) (takes o us names) (sym (takes-one o u us name names plain) ∙ is.met) in
+        let both = and_parts (matches_name o u name) (walk_takes o false us names) (sym (takes-one o true u us name names plain) ∙ is.met) in
         FoundOrCovered-cond (matches_name o u name) (enter_names c o directories us k d) k names both.0
         (next k d at names (record { kind = is.kind; held = is.held; taken = both.1; allowed = ap (λ x. is_dir is.kind || not (directories || x)) (sym (ends-cons u us plain)) ∙ is.allowed }))
 
     -- the hit of a component and of what follows it
     record IsStep (t : Text) (ts : List Text) (k : Key) (n : Text) (ns : Key) : Type 0 where
-      matched : matches_name o t n ≡ true
+      matched : walk_takes_name o false t n ≡ true
       found : Kind
       stands : kind_at c (k ++ n ∷ []) ≡ Some found
       hit : IsTakenAt c o directories ts (k ++ n ∷ []) ns
 
     step_of : (t : Text) (ts : List Text) (k : Key) (n : Text) (ns : Key) → is_recursive t ≡ false → IsTakenAt c o directories (t ∷ ts) k (n ∷ ns) → IsStep t ts k n ns
     step_of t ts k n ns plain is =
-        let both = and_parts (matches_name o t n) (takes o ts ns) (sym (takes-one o t ts n ns plain) ∙ is.taken) in
+        let both = and_parts (walk_takes_name o false t n) (walk_takes o false ts ns) (sym (takes-one o false t ts n ns plain) ∙ is.taken) in
         let way = on_the_way c w k n ns is.kind is.held in
         record {
           matched = both.0;
@@ -156,37 +155,40 @@ module _ (c : Content) (w : IsContent c) where
           };
         }
 
-    found-literal : (t : Text) (ts : List Text) → component_kind t ≡ Literal → is_utf8 t ≡ true → Entered ts → Entered (t ∷ ts)
-    found-literal t ts kind utf8 next k d at [] is = absurd (both_ways _ (takes-one_none o t ts (literal_not_recursive t (kind-Literal t kind))) is.taken)
-    found-literal t ts kind utf8 next k d at (n ∷ ns) is =
+    found-literal : (t : Text) (ts : List Text) → component_kind t ≡ Literal → Entered ts → Entered (t ∷ ts)
+    found-literal t ts kind next k d at [] is = absurd (both_ways _ (takes-one_none o false t ts (literal_not_recursive t (kind-Literal t kind))) is.taken)
+    found-literal t ts kind next k d at (n ∷ ns) is =
         let literal = kind-Literal t kind in
         let step = step_of t ts k n ns (literal_not_recursive t literal) is in
-        let same : t ≡ n = own t n literal utf8 (name_is_utf8 c w k n ns is.kind is.held) step.matched in
+        let same : t ≡ n = literal_is literal step.matched in
         subst (λ fs. FoundOrCovered c fs k (n ∷ ns)) (sym (names-literal c o directories t ts k d kind))
         (subst (λ m. FoundOrCovered c (below m (found_names (kind_at c (k ++ m ∷ [])) (λ x. enter_names c o directories ts (k ++ m ∷ []) x))) k (n ∷ ns)) (sym same)
         (subst (λ found. FoundOrCovered c (below n (found_names found (λ x. enter_names c o directories ts (k ++ n ∷ []) x))) k (n ∷ ns)) (sym step.stands)
         (FoundOrCovered-below n (enter_names c o directories ts (k ++ n ∷ []) (is_dir step.found)) k ns
         (next (k ++ n ∷ []) (is_dir step.found) (record { kind = step.found; held = step.stands; is = refl }) ns step.hit))))
+      where
+        literal_is : is_literal t ≡ true → walk_takes_name o false t n ≡ true → t ≡ n
+        literal_is literal took = (bytes_eq-Decides t n).0 (subst (λ b. cond (not b) (matches_name o t n) (bytes_eq t n) ≡ true) literal took)
 
     -- a directory, where a key below it stands
     is_directory_here : (k : Key) (d : Bool) → Here c k d → (n : Text) (found : Kind) → kind_at c (k ++ n ∷ []) ≡ Some found → d ≡ true
     is_directory_here k d at n found held = sym (Here-dir c k d at) ∙ held_above c w k n found held
 
     found-wild : (t : Text) (ts : List Text) → component_kind t ≡ Wild → Entered ts → Entered (t ∷ ts)
-    found-wild t ts kind next k d at [] is = absurd (both_ways _ (takes-one_none o t ts (kind-Wild t kind).1) is.taken)
+    found-wild t ts kind next k d at [] is = absurd (both_ways _ (takes-one_none o false t ts (kind-Wild t kind).1) is.taken)
     found-wild t ts kind next k d at (n ∷ ns) is =
         let step = step_of t ts k n ns (kind-Wild t kind).1 is in
         subst (λ b. FoundOrCovered c (enter_names c o directories (t ∷ ts) k b) k (n ∷ ns)) (sym (is_directory_here k d at n step.found step.stands))
         (subst (λ fs. FoundOrCovered c fs k (n ∷ ns)) (sym (names-wild c o directories t ts k kind))
         (FoundOrCovered-listed k n ns step.found step.stands (λ e. below e.0 (at_entry c o directories t ts k e))
         (FoundOrCovered-below n (cond (matches_name o t n) (enter_names c o directories ts (k ++ n ∷ []) (is_dir step.found)) []) k ns
-        (FoundOrCovered-cond (matches_name o t n) (enter_names c o directories ts (k ++ n ∷ []) (is_dir step.found)) (k ++ n ∷ []) ns step.matched
+        (FoundOrCovered-cond (matches_name o t n) (enter_names c o directories ts (k ++ n ∷ []) (is_dir step.found)) (k ++ n ∷ []) ns (sym (wild_takes o t n (kind-Wild t kind).0) ∙ step.matched)
         (next (k ++ n ∷ []) (is_dir step.found) (record { kind = step.found; held = step.stands; is = refl }) ns step.hit)))))
 
     found-descent : (t : Text) (ts : List Text) → is_recursive t ≡ true → Met ts t → (n : ℕ) (k names : Key) → is_dir_at c k ≡ true → levels c ≤ length k + n → IsTakenAt c o directories (t ∷ ts) k names
         → FoundOrCovered c (descent_names c o (meet_names c o directories ts) n k) k names
     unfolding descent_names
-    found-descent t ts r next n k [] d l is = absurd (run-nil o t ts r is.taken)
+    found-descent t ts r next n k [] d l is = absurd (run-nil o false t ts r is.taken)
     found-descent t ts r next zero k (m ∷ ms) d l is = absurd (omega (arith, l, depth c k d))
     found-descent t ts r next (suc n) k (m ∷ ms) d l is =
         let (found, stands) = on_the_way c w k m ms is.kind is.held in
@@ -201,13 +203,13 @@ module _ (c : Content) (w : IsContent c) where
         (next (k ++ m ∷ []) m (is_dir found) (record { kind = found; held = stands; is = refl }) ms (record { kind = is.kind; held = deeper; met = by; allowed = is.allowed })))
         (λ on. from_below found stands deeper on
         (λ directory. found-descent t ts r next n (k ++ m ∷ []) ms directory (omega (arith, l, length-append k (m ∷ []))) (record { kind = is.kind; held = deeper; taken = on.1; allowed = is.allowed })) ms refl)
-        (run-cases o t ts m ms r is.taken)))
+        (run-cases o false t ts m ms r is.taken)))
       where
         from_below : (found : Kind) → kind_at c (k ++ m ∷ []) ≡ Some found → kind_at c ((k ++ m ∷ []) ++ ms) ≡ Some is.kind
-            → (is_open o m ≡ true) × (takes o (t ∷ ts) ms ≡ true)
+            → (is_open o m ≡ true) × (walk_takes o false (t ∷ ts) ms ≡ true)
             → (is_dir_at c (k ++ m ∷ []) ≡ true → FoundOrCovered c (descent_names c o (meet_names c o directories ts) n (k ++ m ∷ [])) (k ++ m ∷ []) ms) → (ls : Key) → ms ≡ ls
             → FoundOrCovered c (meet_names c o directories ts (k ++ m ∷ []) m (is_dir found) ++ (cond (is_entered o m (is_dir found)) (descent_names c o (meet_names c o directories ts) n (k ++ m ∷ [])) [])) (k ++ m ∷ []) ms
-        from_below found stands deeper on further [] e = absurd (run-nil o t ts r (subst (λ ls. takes o (t ∷ ts) ls ≡ true) e on.1))
+        from_below found stands deeper on further [] e = absurd (run-nil o false t ts r (subst (λ ls. walk_takes o false (t ∷ ts) ls ≡ true) e on.1))
         from_below found stands deeper on further (l' ∷ ls) e =
             let met : List Find = meet_names c o directories ts (k ++ m ∷ []) m (is_dir found) in
             let deep : List Find = descent_names c o (meet_names c o directories ts) n (k ++ m ∷ []) in
@@ -219,30 +221,29 @@ module _ (c : Content) (w : IsContent c) where
 
     found-run : (t : Text) (ts : List Text) → is_recursive t ≡ true → begins_recursive ts ≡ true → (k names : Key) → IsTakenAt c o directories (t ∷ ts) k names → IsTakenAt c o directories ts k names
     found-run t [] r more k names is = absurd (false≢true more)
-    found-run t (u ∷ us) r more k names is = record { kind = is.kind; held = is.held; taken = run-run o t u us names r more is.taken; allowed = is.allowed }
+    found-run t (u ∷ us) r more k names is = record { kind = is.kind; held = is.held; taken = run-run o false t u us names r more is.taken; allowed = is.allowed }
 
     found-recursive : (t : Text) (ts : List Text) → component_kind t ≡ Recursive → EachFound ts → (b : Bool) → begins_recursive ts ≡ b → Entered (t ∷ ts)
     found-recursive t ts kind next true more k d at names is =
         subst (λ fs. FoundOrCovered c fs k names) (sym (names-run c o directories t ts k d kind more)) (next.entered k d at names (found-run t ts (kind-Recursive t kind) more k names is))
-    found-recursive t ts kind next false last k d at [] is = absurd (run-nil o t ts (kind-Recursive t kind) is.taken)
+    found-recursive t ts kind next false last k d at [] is = absurd (run-nil o false t ts (kind-Recursive t kind) is.taken)
     found-recursive t ts kind next false last k d at (n ∷ ns) is =
         let (found, stands) = on_the_way c w k n ns is.kind is.held in
         subst (λ b. FoundOrCovered c (enter_names c o directories (t ∷ ts) k b) k (n ∷ ns)) (sym (is_directory_here k d at n found stands))
         (subst (λ fs. FoundOrCovered c fs k (n ∷ ns)) (sym (names-levels c o directories t ts k kind last))
         (found-descent t ts (kind-Recursive t kind) (next.met last t (kind-Recursive t kind)) (levels c) k (n ∷ ns) (held_above c w k n found stands) (omega arith) is))
 
-    each_is_found : (ts : List Text) → list_all is_utf8 ts ≡ true → EachFound ts
-    each_is_found [] utf8 = record { entered = found-nothing; met = λ last t r. found-met_nothing t r }
-    each_is_found (t ∷ ts) utf8 =
-        let both = and_parts (is_utf8 t) (list_all is_utf8 ts) utf8 in
-        let next = each_is_found ts both.1 in
-        record { entered = by_kind both.0 next (component_kind t) refl; met = λ plain u r. found-met t ts plain next.entered u }
+    each_is_found : (ts : List Text) → EachFound ts
+    each_is_found [] = record { entered = found-nothing; met = λ last t r. found-met_nothing t r }
+    each_is_found (t ∷ ts) =
+        let next = each_is_found ts in
+        record { entered = by_kind next (component_kind t) refl; met = λ plain u r. found-met t ts plain next.entered u }
       where
-        by_kind : is_utf8 t ≡ true → EachFound ts → (kind : ComponentKind) → component_kind t ≡ kind → Entered (t ∷ ts)
-        by_kind utf8 next Literal kind = found-literal t ts kind utf8 next.entered
-        by_kind utf8 next Recursive kind = found-recursive t ts kind next (begins_recursive ts) refl
-        by_kind utf8 next Wild kind = found-wild t ts kind next.entered
+        by_kind : EachFound ts → (kind : ComponentKind) → component_kind t ≡ kind → Entered (t ∷ ts)
+        by_kind next Literal kind = found-literal t ts kind next.entered
+        by_kind next Recursive kind = found-recursive t ts kind next (begins_recursive ts) refl
+        by_kind next Wild kind = found-wild t ts kind next.entered
 
     -- each key whose names the components take is found or covered
-    pub taken_are_found : (ts : List Text) → list_all is_utf8 ts ≡ true → Entered ts
-    taken_are_found ts utf8 = (each_is_found ts utf8).entered
+    pub taken_are_found : (ts : List Text) → Entered ts
+    taken_are_found ts = (each_is_found ts).entered

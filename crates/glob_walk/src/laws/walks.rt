@@ -1,5 +1,5 @@
 //! Laws of walks: each is the contract of a function that does nothing.
-ghost use Rattle.glob_walk.specs.Laws.{EnoughLevelsAgree, EntriesAscend, PlainMatchesLevels, PlainWalkReaches, PlainWalkGives, PlainWalkOrderly};
+ghost use Rattle.glob_walk.specs.Laws.{EnoughLevelsAgree, EntriesAscend, NamedGoalIsGoal, NamedWalkGives, NamedWalkOrderly, NamedWalkReaches, PlainMatchesLevels, PlainWalkReaches, PlainWalkGives, PlainWalkOrderly};
 
 /// Case-sensitively and under the separator rule, a plain pattern, without a `/` at its end, matches the path of a key
 /// below the start exactly where its components take the key's names: `a/**/c` that of `a/b/c`, since `a` takes `a`,
@@ -25,6 +25,17 @@ pub fn plain_walk_gives_the_goal()
 /// order where at most one component follows it. So `**/*` gives `d` before `d/x`, and each once.
 pub fn plain_walk_is_orderly()
     ensures { PlainWalkOrderly }
+{}
+
+/// In either case the walk of a plain pattern finds the keys below its start whose names its components take, once and
+/// in order as far as each `**` allows: a component without wildcards takes its own name alone, unless `**` is before
+/// it, and another each name that it matches. So over a directory `aaa`, case-insensitively, `AAA` finds nothing, and
+/// `AA[A]` and `**/AAA` find `aaa`. Case-sensitively these are the keys whose texts the undivided pattern matches.
+pub fn walk_finds_what_its_components_take()
+    ensures reaches { NamedWalkReaches }
+    ensures gives { NamedWalkGives }
+    ensures orderly { NamedWalkOrderly }
+    ensures same { NamedGoalIsGoal }
 {}
 
 /// A descent by `**` below a directory, which the written listing cuts at a number of levels, is not changed by the
