@@ -3,6 +3,7 @@ pub mod CallerLemmas
 pub mod ComponentLemmas
 mod Premises
 pub mod GoalLemmas
+pub mod CostLemmas
 pub mod ListingLemmas
 pub mod MatchLemmas
 pub mod WalkLemmas

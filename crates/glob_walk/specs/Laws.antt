@@ -1,12 +1,12 @@
 -- Laws of walks, as statements.
-use Rattle.std.specs.Prelude.{◌≡◌, ℕ, ◌≤◌, List, ◌∷◌, Some, IsTrue, ◌&&◌, Bool, IsPermutation, AllPairs}
+use Rattle.std.specs.Prelude.{◌≡◌, ℕ, ◌+◌, ◌*◌, ◌≤◌, if◌then◌else◌, List, [], ◌∷◌, length, Some, IsTrue, ◌&&◌, Bool, IsPermutation, AllPairs}
 use Rattle.std.specs.Str.{IsUtf8, is_utf8}
 use Rattle.std.specs.List.{list_all}
 use Rattle.glob_text.specs.Text.{Text}
 use Rattle.glob_tree.specs.Paths.{is_proper}
 use Rattle.glob_tree.specs.Content.{Content, Key, DirEntry, is_content, is_dir_at, is_before, resolve, sorted_entries}
-use Rattle.glob_walk.specs.Components.{components, matches_name}
-use Rattle.glob_walk.specs.Marks.{Mark, Item, items, paths, IsBeginning}
+use Rattle.glob_walk.specs.Components.{components, is_recursive, matches_name}
+use Rattle.glob_walk.specs.Marks.{Mark, Item, items, cost, paths, IsBeginning}
 use Rattle.glob_walk.specs.Listing.{descent, levels, listing}
 use Rattle.glob_walk.specs.Goal.{is_plain, matches_undivided, text_below, is_readable, goal, named_goal, IsNamedWalk, IsPlainWalk, ReachesTexts, GivesTexts, ReachesGoal, GivesGoal}
 use Rattle.glob_walk.specs.Order.{IsOrderly}
@@ -64,6 +64,17 @@ NamedWalkOrderly =
 -- case-sensitively these keys are those whose texts the undivided pattern matches
 abbrev pub NamedGoalIsGoal : Type 0
 NamedGoalIsGoal = (c : Content) (o : MatchOptions) (pattern : Text) → IsPlainWalk c o pattern → named_goal c o pattern ≡ goal c o pattern
+
+-- what components cost at most for each of n keys: a polynomial in n, whose degree is the number of `**`
+abbrev pub cost_per_key : (n : ℕ) → (components : List Text) → ℕ
+cost_per_key n [] = 0
+cost_per_key n (t ∷ ts) = if is_recursive t then 2 + n * cost_per_key n ts else 1 + cost_per_key n ts
+
+-- in either case the whole walk of a plain pattern costs at most one unit, and this for each key of the content
+abbrev pub NamedWalkCosts : Type 0
+NamedWalkCosts =
+    (c : Content) (o : MatchOptions) (pattern : Text) → IsNamedWalk c pattern
+    → cost (listing c o pattern) ≤ 1 + cost_per_key (length c.kinds) (components pattern) * length c.kinds
 
 -- as many levels as `levels` or more give the same marks of a descent below a directory
 abbrev pub EnoughLevelsAgree : Type 0

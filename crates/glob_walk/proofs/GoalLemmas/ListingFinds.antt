@@ -68,7 +68,7 @@ given-listed c path k at each names same = by_answer (ListsAs-from_leads c path 
     by_answer (Unreadable kind held answer) = rw (answer, held) refl
 
 -- an entry's path leads to its key
-Leads-entry : (c : Content) → IsContent c → (path : Text) (k : Key) → LeadsTo c path k → (e : DirEntry) → Contains (children c k) e → Leads c (child path e.0) (k ++ e.0 ∷ []) e.1
+pub Leads-entry : (c : Content) → IsContent c → (path : Text) (k : Key) → LeadsTo c path k → (e : DirEntry) → Contains (children c k) e → Leads c (child path e.0) (k ++ e.0 ∷ []) e.1
 Leads-entry c w path k at e in' =
     let is = IsChild-list_result c w k e in' in
     record { resolved = resolve_listed c w path k at e in'; is = is_dir_at-kind c (k ++ e.0 ∷ []) is.kind is.held ∙ is.is_same }
@@ -131,14 +131,14 @@ module _ (c : Content) (o : MatchOptions) (directories : Bool) where
   names-levels t ts k kind last = rw (kind, last, enter_names) refl
 
 -- a component of a plain pattern that stands for itself
-record IsOwnName (t : Text) : Type 0 where
-  some : 0 < length t
-  plain : has_no_slash t ≡ true
-  leads : stays t ≡ false
-  down : bytes_eq t parent_dir ≡ false
-  special : is_current_or_parent t ≡ false
+pub record IsOwnName (t : Text) : Type 0 where
+  pub some : 0 < length t
+  pub plain : has_no_slash t ≡ true
+  pub leads : stays t ≡ false
+  pub down : bytes_eq t parent_dir ≡ false
+  pub special : is_current_or_parent t ≡ false
 
-own_name : (after : Bool) (t : Text) → is_plain_component after t ≡ true → has_no_slash t ≡ true → IsOwnName t
+pub own_name : (after : Bool) (t : Text) → is_plain_component after t ≡ true → has_no_slash t ≡ true → IsOwnName t
 own_name after t h plain =
     let outer = and_parts (not (is_empty t) && not (is_current_or_parent t)) (is_literal t || not (begins_with dot t) || after) h in
     let inner = and_parts (not (is_empty t)) (not (is_current_or_parent t)) outer.0 in
@@ -153,12 +153,12 @@ own_name after t h plain =
     stays_no : (t : Text) → is_empty t ≡ false → bytes_eq t cur_dir ≡ false → stays t ≡ false
     stays_no t e f = rw e f
 
-resolve-own : (c : Content) (path : Text) (k : Key) (t : Text) (kind : Kind) → IsContent c → IsOwnName t → resolve c path ≡ Some k → kind_at c (k ++ t ∷ []) ≡ Some kind
+pub resolve-own : (c : Content) (path : Text) (k : Key) (t : Text) (kind : Kind) → IsContent c → IsOwnName t → resolve c path ≡ Some k → kind_at c (k ++ t ∷ []) ≡ Some kind
     → resolve c (child path t) ≡ Some (k ++ t ∷ [])
 resolve-own c path k t kind w is leads held =
     resolve_child c path t k leads is.some is.plain ∙ rw (held_above c w k t kind held, is.leads, is.down, held) refl
 
-look_result-own : (c : Content) (path : Text) (k : Key) (t : Text) → IsContent c → IsOwnName t → resolve c path ≡ Some k → look_result c (child path t) ≡ look_of (kind_at c (k ++ t ∷ []))
+pub look_result-own : (c : Content) (path : Text) (k : Key) (t : Text) → IsContent c → IsOwnName t → resolve c path ≡ Some k → look_result c (child path t) ≡ look_of (kind_at c (k ++ t ∷ []))
 unfolding look_result
 look_result-own c path k t w is leads = by_kind (kind_at c (k ++ t ∷ [])) refl
   where
@@ -170,24 +170,24 @@ look_result-own c path k t w is leads = by_kind (kind_at c (k ++ t ∷ [])) refl
     by_kind None e = rw (resolve_child c path t k leads is.some is.plain ∙ by_dir (is_dir_at c k) refl e, e) refl
     by_kind (Some kind) e = rw (resolve-own c path k t kind w is leads e) refl
 
-look_of-there : (kind : Kind) → is_there (look_of (Some kind)) ≡ true
+pub look_of-there : (kind : Kind) → is_there (look_of (Some kind)) ≡ true
 look_of-there Dir = refl
 look_of-there (Shut kind) = refl
 look_of-there Other = refl
 
-look_of-directory : (kind : Kind) → is_directory (look_of (Some kind)) ≡ is_dir kind
+pub look_of-directory : (kind : Kind) → is_directory (look_of (Some kind)) ≡ is_dir kind
 look_of-directory Dir = refl
 look_of-directory (Shut kind) = refl
 look_of-directory Other = refl
 
 -- right after `**` a `**` is as plain as elsewhere
-plain-after : (t : Text) (ts : List Text) → is_recursive t ≡ true → are_plain true (t ∷ ts) ≡ true → are_plain false (t ∷ ts) ≡ true
+pub plain-after : (t : Text) (ts : List Text) → is_recursive t ≡ true → are_plain true (t ∷ ts) ≡ true → are_plain false (t ∷ ts) ≡ true
 plain-after t ts r h =
     let both = and_parts (is_plain_component true t) (are_plain (is_recursive t) ts) h in
     and_from (is_plain_component false t) (are_plain (is_recursive t) ts) (ap (is_plain_component false) (recursive_is t r)) both.1
 
 -- a wildcard component finds no special names, but right after `**`
-no_specials : (c : Content) (o : MatchOptions) (next : Next) (t path : Text) → is_plain_component false t ≡ true → is_literal t ≡ false → special_names c o next t path ≡ []
+pub no_specials : (c : Content) (o : MatchOptions) (next : Next) (t path : Text) → is_plain_component false t ≡ true → is_literal t ≡ false → special_names c o next t path ≡ []
 no_specials c o next t path h wild =
     let outer = and_parts (not (is_empty t) && not (is_current_or_parent t)) (is_literal t || not (begins_with dot t) || false) h in
     by_test (begins_with dot t) refl outer.1

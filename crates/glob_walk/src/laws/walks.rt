@@ -1,5 +1,5 @@
 //! Laws of walks: each is the contract of a function that does nothing.
-ghost use Rattle.glob_walk.specs.Laws.{EnoughLevelsAgree, EntriesAscend, NamedGoalIsGoal, NamedWalkGives, NamedWalkOrderly, NamedWalkReaches, PlainMatchesLevels, PlainWalkReaches, PlainWalkGives, PlainWalkOrderly};
+ghost use Rattle.glob_walk.specs.Laws.{EnoughLevelsAgree, EntriesAscend, NamedGoalIsGoal, NamedWalkCosts, NamedWalkGives, NamedWalkOrderly, NamedWalkReaches, PlainMatchesLevels, PlainWalkReaches, PlainWalkGives, PlainWalkOrderly};
 
 /// Case-sensitively and under the separator rule, a plain pattern, without a `/` at its end, matches the path of a key
 /// below the start exactly where its components take the key's names: `a/**/c` that of `a/b/c`, since `a` takes `a`,
@@ -36,6 +36,13 @@ pub fn walk_finds_what_its_components_take()
     ensures gives { NamedWalkGives }
     ensures orderly { NamedWalkOrderly }
     ensures same { NamedGoalIsGoal }
+{}
+
+/// The whole walk of a plain pattern costs at most one unit, and `cost_per_key` units for each key of the content, the
+/// root among them: so there is a limit that always suffices. A component costs one for each key, and `**` two and as
+/// many times what follows it as there are keys. So `*/*.rs` over 9 keys costs at most 19 units, and `**/*.rs` 100.
+pub fn walk_costs_a_polynomial_of_keys()
+    ensures { NamedWalkCosts }
 {}
 
 /// A descent by `**` below a directory, which the written listing cuts at a number of levels, is not changed by the
