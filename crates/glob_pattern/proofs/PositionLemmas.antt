@@ -1,11 +1,9 @@
 pub mod Alive
-pub mod Cut
 pub mod DeadPlaces
 pub mod DeadWords
 pub mod LastOnes
 pub mod Mapped
 pub mod Prefixes
 pub mod Running
-pub mod Spans
 pub mod Spreading
 pub mod Words

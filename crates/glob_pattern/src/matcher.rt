@@ -152,9 +152,15 @@ pub fn run_positions<A: Allocator + Copy, J: Judge>(
 {
     let span = Span::all(shapes.len());
     if shapes.len() <= WORD {
-        decide(alloc, shapes, &[ShapeWord::new(shapes, 0)], span, judge)
+        decide(
+            alloc,
+            shapes,
+            &[ShapeWord::new(shapes, span.end, 0)],
+            span,
+            judge,
+        )
     } else {
-        let words = shape_words(alloc, shapes)?;
+        let words = shape_words(alloc, shapes, span.end)?;
         decide(alloc, shapes, words.as_slice(), span, judge)
     }
 }

@@ -1,7 +1,7 @@
 -- Wildcards where no rule applies.
-use Rattle.std.proofs.Common.{◌≡◌, ◌≢◌, ℕ, ◌≤◌, Bool, true, false, List, length, map, get_or, refl, arith}
+use Rattle.std.proofs.Common.{◌≡◌, ◌≢◌, ℕ, ◌≤◌, Bool, true, false, List, length, map, take, get_or, refl, arith}
 use Rattle.std.proofs.lemmas.Bool.{or_parts}
-use Rattle.std.proofs.lemmas.List.{get_or-map}
+use Rattle.std.proofs.lemmas.List.{get_or-map, get_or-take}
 use Rattle.glob_text.specs.Text.{Text}
 use Rattle.glob_pattern.specs.Grammar.Tokens.{Token, shape_of}
 use Rattle.glob_pattern.specs.Matching.Taking.{takes, has_rules}
@@ -22,11 +22,12 @@ takes-freely o opening c (NoneOf e) free grows = absurd (grows refl)
 
 -- where no rule applies, a last wildcard that may end anywhere takes the rest
 pub TakesRest-freely : (opening : Bool) (o : MatchOptions) (tokens : List Token) (text : Text) (end n : ℕ) → has_rules o ≡ false → end ≤ length tokens
-    → EndsFreely (map shape_of tokens) end n → TakesRest (table_within opening o tokens text) (map shape_of tokens) end n
+    → EndsFreely (map shape_of tokens) end n → TakesRest (table_within opening o (take end tokens) text) (map shape_of tokens) end n
 unfolding table_within
 TakesRest-freely opening o tokens text end n unruled within free =
+    let asked = get_or-take end tokens n AnyChar (omega (arith, free.last)) in
     let shape : get_or (map shape_of tokens) n One ≡ shape_of (get_or tokens n AnyChar) = get_or-map shape_of tokens n AnyChar One (omega (arith, free.last, within)) in
     record {
       free = free;
-      takes = λ k from below. takes-freely o (opens_within opening text k) (get_or text k 0) (get_or tokens n AnyChar) unruled (λ one. free.grows (rw shape one));
+      takes = λ k from below. rw asked (takes-freely o (opens_within opening text k) (get_or text k 0) (get_or tokens n AnyChar) unruled (λ one. free.grows (rw shape one)));
     }

@@ -1,7 +1,7 @@
 -- Parts of a text that tokens split: a character less at either end, and the tokens of a whole text.
-use Rattle.std.proofs.Common.{◌≡◌, ℕ, zero, suc, ◌+◌, ◌<◌, ◌≤◌, ◌⊎◌, ◌↔◌, ◌==◌, Bool, true, List, [], ◌∷◌, ◌++◌, length, map, take, get_or, IsTrue, refl, sym, ap, ap₂, subst, subst₂, ◌∙◌, inl, inr, ⊎_elim, arith}
-use Rattle.std.proofs.lemmas.List.{get_or-map, get_or_append_left, get_or-take, get_or_at, length-append, length-map, length-drop, length-take-le, take_all, take-map}
-use Rattle.std.proofs.lemmas.Bool.{cases_eq, cases_lt}
+use Rattle.std.proofs.Common.{◌≡◌, ℕ, zero, suc, ◌+◌, ◌<◌, ◌≤◌, ◌↔◌, ◌==◌, Bool, true, List, [], ◌∷◌, ◌++◌, length, map, take, get_or, IsTrue, refl, sym, ap, ap₂, subst, subst₂, ◌∙◌, inl, inr, ⊎_elim, arith}
+use Rattle.std.proofs.lemmas.List.{get_or-map, get_or_append_left, get_or-take, get_or_at, length-append, length-map, length-take-le}
+use Rattle.std.proofs.lemmas.Bool.{cases_eq}
 use Rattle.glob_text.specs.Characters.{slash}
 use Rattle.glob_text.specs.Text.{Text, opens}
 use Rattle.glob_pattern.specs.Grammar.Tokens.{Token, shape_of}
@@ -18,8 +18,7 @@ use Rattle.glob_pattern.specs.declared.token.Token.TheVariants.{AnyChar}
 use Rattle.glob_pattern.proofs.MatchingLemmas.PiecesAndSplits.{Splits-from_TokensMatch, TokensMatch-from_Splits}
 use Rattle.glob_pattern.proofs.MatchingLemmas.Splits.{MayReach-le}
 use Rattle.glob_pattern.proofs.MatchingLemmas.Stepping.{opens-suc}
-use Rattle.glob_pattern.proofs.PositionLemmas.Cut.{some-first, SameUntil, PrefixSplits-until}
-use Rattle.glob_pattern.proofs.PositionLemmas.LastOnes.{SameBefore, PrefixSplits-same, one-from_PrefixSplits, PrefixSplits-one}
+use Rattle.glob_pattern.proofs.PositionLemmas.LastOnes.{SameBefore, PrefixSplits-same, some-first, one-from_PrefixSplits, PrefixSplits-one}
 use Rattle.glob_pattern.proofs.PositionLemmas.Prefixes.{Splits-iff_prefix}
 
 -- what opens after a first character, opens without it
@@ -112,15 +111,12 @@ module _ (o : MatchOptions) (opening : Bool) (tokens : List Token) (n : ℕ) (wi
     opens-front zero le = refl
     opens-front (suc k) le = ap (λ d. d == slash) (get_or_append_left cs (c ∷ []) 0 k (omega arith))
 
-    same-front : SameBefore (table_within opening o tokens (cs ++ c ∷ [])) (table_within opening o tokens cs) (length cs)
+    same-front : SameBefore (table_within opening o tokens (cs ++ c ∷ [])) (table_within opening o tokens cs) n (length cs)
     unfolding table_within
     same-front = record {
-      takes = λ m j lt. ap₂ (λ b d. takes o b d (get_or tokens m AnyChar)) (opens-front j (omega arith)) (get_or_append_left cs (c ∷ []) 0 j lt);
+      takes = λ m j few lt. ap₂ (λ b d. takes o b d (get_or tokens m AnyChar)) (opens-front j (omega arith)) (get_or_append_left cs (c ∷ []) 0 j lt);
       opens = opens-front;
     }
-
-    same-back : SameBefore (table_within opening o tokens cs) (table_within opening o tokens (cs ++ c ∷ [])) (length cs)
-    same-back = record { takes = λ m j lt. sym (same-front.takes m j lt); opens = λ j le. sym (same-front.opens j le) }
 
     takes-last : (table_within opening o tokens (cs ++ c ∷ [])).takes n (length cs) ≡ takes o (opens_within opening cs (length cs)) c (get_or tokens n AnyChar)
     unfolding table_within
@@ -132,12 +128,12 @@ module _ (o : MatchOptions) (opening : Bool) (tokens : List Token) (n : ℕ) (wi
     SplitsPart-last =
         let shapes = map shape_of tokens in
         let long : length (cs ++ c ∷ []) ≡ suc (length cs) = omega (arith, length-append cs (c ∷ [])) in
+        let fewer = PrefixSplits-same _ _ shapes n (length cs) same-front in
         subst (λ k. PrefixSplits (table_within opening o tokens (cs ++ c ∷ [])) shapes (suc n) k
         ↔ (IsTrue (takes o (opens_within opening cs (length cs)) c (get_or tokens n AnyChar)) × PrefixSplits (table_within opening o tokens cs) shapes n (length cs))) (sym long) (
           λ splits. let (took, rest) = one-from_PrefixSplits (table_within opening o tokens (cs ++ c ∷ [])) shapes n (length cs) one-at splits in
-              (sym takes-last ∙ took, PrefixSplits-same _ _ shapes (length cs) n (length cs) same-front (omega arith) rest),
-          λ (took, rest). PrefixSplits-one (table_within opening o tokens (cs ++ c ∷ [])) shapes n (length cs) one-at (takes-last ∙ took)
-              (PrefixSplits-same _ _ shapes (length cs) n (length cs) same-back (omega arith) rest),
+              (sym takes-last ∙ took, fewer.0 rest),
+          λ (took, rest). PrefixSplits-one (table_within opening o tokens (cs ++ c ∷ [])) shapes n (length cs) one-at (takes-last ∙ took) (fewer.1 rest),
         )
 
   -- but there has to be one
@@ -150,10 +146,10 @@ opens-whole : (text : Text) (k : ℕ) → opens text k ≡ opens_within true tex
 opens-whole text zero = refl
 opens-whole text (suc k) = opens-suc text k
 
-same-whole_text : (o : MatchOptions) (tokens : List Token) (text : Text) (n : ℕ) → SameBefore (table_of o tokens text) (table_within true o tokens text) n
+same-whole_text : (o : MatchOptions) (tokens : List Token) (text : Text) (m k : ℕ) → SameBefore (table_of o tokens text) (table_within true o tokens text) m k
 unfolding table_of table_within
-same-whole_text o tokens text n = record {
-  takes = λ m j lt. ap (λ b. takes o b (get_or text j 0) (get_or tokens m AnyChar)) (opens-whole text j);
+same-whole_text o tokens text m k = record {
+  takes = λ n j few lt. ap (λ b. takes o b (get_or text j 0) (get_or tokens n AnyChar)) (opens-whole text j);
   opens = λ j le. opens-whole text j;
 }
 
@@ -165,56 +161,20 @@ TokensMatch-iff_part o tokens text =
     let n : ℕ = length text in
     let whole : Splits (table_of o tokens text) shapes ↔ PrefixSplits (table_of o tokens text) shapes (length tokens) n =
     subst (λ m. Splits (table_of o tokens text) shapes ↔ PrefixSplits (table_of o tokens text) shapes m n) (length-map tokens shape_of) (Splits-iff_prefix (table_of o tokens text) shapes) in
-    let same = same-whole_text o tokens text n in
-    let back : SameBefore (table_within true o tokens text) (table_of o tokens text) n = record { takes = λ m j lt. sym (same.takes m j lt); opens = λ j le. sym (same.opens j le) } in (
-      λ match. PrefixSplits-same (table_of o tokens text) (table_within true o tokens text) shapes n (length tokens) n same (omega arith) (whole.0 (Splits-from_TokensMatch o tokens text match)),
-      λ splits. TokensMatch-from_Splits o tokens text (whole.1 (PrefixSplits-same (table_within true o tokens text) (table_of o tokens text) shapes n (length tokens) n back (omega arith) splits)),
+    let within = PrefixSplits-same (table_of o tokens text) (table_within true o tokens text) shapes (length tokens) n (same-whole_text o tokens text (length tokens) n) in (
+      λ match. within.0 (whole.0 (Splits-from_TokensMatch o tokens text match)),
+      λ splits. TokensMatch-from_Splits o tokens text (whole.1 (within.1 splits)),
     )
 
--- the first n tokens, with at least one of those after them
-module _ (o : MatchOptions) (opening : Bool) (tokens : List Token) (n m : ℕ) (part : Text) (lt : n < m) (short : m < length tokens) where
-  long-cut : length (map shape_of (take m tokens)) ≡ m
-  long-cut = length-map (take m tokens) shape_of ∙ length-take-le m tokens (omega arith)
-
-  token-cut : (j : ℕ) → j < n → get_or (take m tokens) j AnyChar ≡ get_or tokens j AnyChar
-  token-cut j below = get_or-take m tokens j AnyChar (omega arith)
-
-  shape-cut : (j : ℕ) → j < n → get_or (map shape_of (take m tokens)) j One ≡ get_or (map shape_of tokens) j One
-  shape-cut j below = ap (λ s. get_or s j One) (sym (take-map shape_of m tokens)) ∙ get_or-take m (map shape_of tokens) j One (omega arith)
-
-  same-cut : SameUntil (table_within opening o tokens part) (table_within opening o (take m tokens) part) (map shape_of tokens) (map shape_of (take m tokens)) n
-  unfolding table_within
-  same-cut = record {
-    takes = λ j k below. ap (takes o (opens_within opening part k) (get_or part k 0)) (sym (token-cut j below));
-    opens = λ k. refl;
-    shape = λ j below. sym (shape-cut j below);
-    ends = λ j below none. absurd (omega (arith, ap length none, length-drop (suc j) (map shape_of tokens), length-map tokens shape_of));
-  }
-
-  same-whole : SameUntil (table_within opening o (take m tokens) part) (table_within opening o tokens part) (map shape_of (take m tokens)) (map shape_of tokens) n
-  unfolding table_within
-  same-whole = record {
-    takes = λ j k below. ap (takes o (opens_within opening part k) (get_or part k 0)) (token-cut j below);
-    opens = λ k. refl;
-    shape = shape-cut;
-    ends = λ j below none. absurd (omega (arith, ap length none, length-drop (suc j) (map shape_of (take m tokens)), long-cut));
-  }
-
-  SplitsPart-some : SplitsPart o opening tokens n part ↔ SplitsPart o opening (take m tokens) n part
-  unfolding SplitsPart
-  SplitsPart-some = (
-    PrefixSplits-until _ _ _ _ n same-cut n (length part) (omega arith),
-    PrefixSplits-until _ _ _ _ n same-whole n (length part) (omega arith),
-  )
-
--- the first n tokens split the same where others are cut off, but not all of them
-pub SplitsPart-cut : (o : MatchOptions) (opening : Bool) (tokens : List Token) (n m : ℕ) (part : Text) → (n < m) ⊎ (length tokens ≤ m)
-    → SplitsPart o opening tokens n part ↔ SplitsPart o opening (take m tokens) n part
-SplitsPart-cut o opening tokens n m part cut =
-    ⊎_elim
-    (λ short. ⊎_elim (λ lt. SplitsPart-some o opening tokens n m part lt short) (λ le. absurd (omega arith)) cut)
-    (λ le. rw (take_all m tokens le) (λ s. s, λ s. s))
-    (cases_lt m (length tokens))
+-- the tokens from number n on need not be asked
+pub SplitsPart-asked : (o : MatchOptions) (opening : Bool) (tokens : List Token) (n : ℕ) (part : Text)
+    → PrefixSplits (table_within opening o (take n tokens) part) (map shape_of tokens) n (length part) ↔ SplitsPart o opening tokens n part
+unfolding SplitsPart table_within
+SplitsPart-asked o opening tokens n part =
+    PrefixSplits-same (table_within opening o (take n tokens) part) (table_within opening o tokens part) (map shape_of tokens) n (length part) (record {
+      takes = λ m j few lt. ap (takes o (opens_within opening part j) (get_or part j 0)) (get_or-take n tokens m AnyChar few);
+      opens = λ j le. refl;
+    })
 
 -- fewer of the shapes split some of the characters
 PrefixSplits-fewer : (table : Table) (shapes : List Shape) (n m k : ℕ) → m ≤ n → PrefixSplits table shapes n k → (j : ℕ) × (j ≤ k) × PrefixSplits table shapes m j
@@ -235,10 +195,10 @@ opens-take : (opening : Bool) (text : Text) (j k : ℕ) → k ≤ j → opens_wi
 opens-take opening text j zero le = refl
 opens-take opening text j (suc k) le = ap (λ d. d == slash) (sym (get_or-take j text k 0 (omega arith)))
 
-same-take : (o : MatchOptions) (opening : Bool) (tokens : List Token) (text : Text) (j : ℕ) → SameBefore (table_within opening o tokens text) (table_within opening o tokens (take j text)) j
+same-take : (o : MatchOptions) (opening : Bool) (tokens : List Token) (text : Text) (m j : ℕ) → SameBefore (table_within opening o tokens text) (table_within opening o tokens (take j text)) m j
 unfolding table_within
-same-take o opening tokens text j = record {
-  takes = λ m k lt. ap₂ (λ b d. takes o b d (get_or tokens m AnyChar)) (opens-take opening text j k (omega arith)) (sym (get_or-take j text k 0 lt));
+same-take o opening tokens text m j = record {
+  takes = λ n k few lt. ap₂ (λ b d. takes o b d (get_or tokens n AnyChar)) (opens-take opening text j k (omega arith)) (sym (get_or-take j text k 0 lt));
   opens = λ k le. opens-take opening text j k le;
 }
 
@@ -248,4 +208,4 @@ unfolding SplitsPart
 SplitsPart-fewer o opening tokens n m text within splits =
     let (j, le, fewer) = PrefixSplits-fewer (table_within opening o tokens text) (map shape_of tokens) n m (length text) within splits in
     let long : j ≡ length (take j text) = sym (length-take-le j text le) in
-    (j, subst (PrefixSplits (table_within opening o tokens (take j text)) (map shape_of tokens) m) long (PrefixSplits-same _ _ (map shape_of tokens) j m j (same-take o opening tokens text j) (omega arith) fewer))
+    (j, subst (PrefixSplits (table_within opening o tokens (take j text)) (map shape_of tokens) m) long ((PrefixSplits-same _ _ (map shape_of tokens) m j (same-take o opening tokens text m j)).0 fewer))

@@ -1,8 +1,8 @@
 -- What the ends of a pattern leave of a text, and of its tokens.
-use Rattle.std.proofs.Common.{◌≡◌, ℕ, ◌+◌, ◌-◌, ◌<◌, ◌≤◌, ◌↔◌, Bool, true, List, [], ◌∷◌, ◌++◌, length, map, take, drop, get_or, refl, sym, ap, ap₂, subst, subst₂, ◌∙◌, inl, inr, ⊎_elim, arith, chars, append-nil}
+use Rattle.std.proofs.Common.{◌≡◌, ℕ, ◌+◌, ◌-◌, ◌<◌, ◌≤◌, ◌↔◌, Bool, true, List, [], ◌∷◌, ◌++◌, length, map, take, drop, get_or, refl, sym, ap, ap₂, subst, subst₂, ◌∙◌, arith, chars, append-nil}
 use Rattle.std.proofs.Math.Seq.{drop-append_seam, take-append_seam}
-use Rattle.std.proofs.lemmas.Bool.{and_from, and_parts, cases_eq}
-use Rattle.std.proofs.lemmas.List.{drop-drop, drop-map, drop_more, get_or-drop, get_or-map, get_or-take, get_or_past, length-append, length-drop, length-map, length-take-le, map-append, nil_from_length, take-append-drop, take-map, take_all, take_more}
+use Rattle.std.proofs.lemmas.Bool.{and_from, and_parts}
+use Rattle.std.proofs.lemmas.List.{drop-drop, drop_more, get_or-map, get_or-take, length-append, length-drop, length-map, length-take-le, map-append, nil_from_length, take-append-drop, take_all, take_more}
 use Rattle.std.proofs.lemmas.List.Folds.{drop_split}
 use Rattle.std.proofs.lemmas.Str.{IsUtf8-take, IsUtf8-drop, IsCharBoundary-from_drop, chars-append, chars-encodes, encodes-append, encodes-chars, length-encode, scalars-chars}
 use Rattle.std.specs.List.{slice_range}
@@ -14,8 +14,8 @@ use Rattle.glob_pattern.specs.Grammar.Tokens.{Token, shape_of}
 use Rattle.glob_pattern.specs.Grammar.Units.{HasTokens}
 use Rattle.glob_pattern.specs.Laws.{SameTexts}
 use Rattle.glob_pattern.specs.Matching.Texts.{TokensMatch}
-use Rattle.glob_pattern.specs.Private.Ends.{HasLiterals, IsEnds, HasEnds, SameBytes, middle_of}
-use Rattle.glob_pattern.specs.Private.Parts.{SplitsPart, EndsAt, Leaves}
+use Rattle.glob_pattern.specs.Private.Ends.{HasLiterals, IsEnds, HasEnds, SameBytes}
+use Rattle.glob_pattern.specs.Private.Parts.{SplitsPart, Leaves}
 use Rattle.glob_pattern.specs.Private.Prefixes.{PrefixSplits}
 use Rattle.glob_pattern.specs.Private.TextTable.{opens_within}
 use Rattle.glob_pattern.specs.declared.matcher.Shape.TheVariants.{One}
@@ -26,7 +26,7 @@ use Rattle.glob_pattern.proofs.Counts.{length-chars}
 use Rattle.glob_pattern.proofs.GrammarLemmas.Written.{text-begins, text-ends}
 use Rattle.glob_pattern.proofs.MatchingLemmas.EndBytes.{SameTexts-from_bytes, boundary-first, boundary-last, chars-cut, HasEnds-from_texts}
 use Rattle.glob_pattern.proofs.MatchingLemmas.Ends.{length-literals, TakesFirst-literals, first-from_SplitsPart, TakesLast-literals, last-from_SplitsPart}
-use Rattle.glob_pattern.proofs.MatchingLemmas.Parts.{TokensMatch-iff_part, SplitsPart-cut}
+use Rattle.glob_pattern.proofs.MatchingLemmas.Parts.{TokensMatch-iff_part}
 
 -- the rest of a list from a place on
 pub range-end : {X : Type 0} (xs : List X) (i : ℕ) → take (length xs - i) (drop i xs) ≡ drop i xs
@@ -229,44 +229,6 @@ module _ (tokens : List Token) (ends : Ends) (is : IsEnds tokens ends) where
   one-last k low lt =
       let place : length (map shape_of tokens) - 1 - (length tokens - 1 - k) ≡ k = omega (arith, lt, length-map tokens shape_of) in
       one-token k lt (rw place at (is.ones.last (length tokens - 1 - k) (omega (arith, low, lt, fits))))
-
-  -- the tokens between the ends
-  long-middle : length (middle_of tokens ends) ≡ length tokens - (ends.trail - 1) - ends.lead
-  long-middle = length-range tokens ends.lead (length tokens - (ends.trail - 1)) (omega (arith, fits)) (omega arith)
-
-  pub few-middle : length (middle_of tokens ends) ≤ length tokens
-  few-middle = omega (arith, long-middle)
-
-  pub EndsAt-middle : EndsAt (middle_of tokens ends) (length tokens - ends.lead - ends.trail)
-  EndsAt-middle = record {
-    within = omega (arith, long-middle, fits);
-    one = ⊎_elim
-        (λ none. get_or_past (map shape_of (middle_of tokens ends)) n One (omega (arith, none, long-middle, fits, length-map (middle_of tokens ends) shape_of)))
-        (λ some.
-        let place : length (map shape_of tokens) - 1 - (ends.trail - 1) ≡ ends.lead + n = omega (arith, some, fits, length-map tokens shape_of) in
-        ap (λ ss. get_or ss n One) mapped ∙ get_or-take m (drop ends.lead (map shape_of tokens)) n One (omega (arith, some, fits)) ∙ get_or-drop ends.lead (map shape_of tokens) n One
-        ∙ rw place at (is.ones.last (ends.trail - 1) (omega (arith, some))))
-        (cases_eq ends.trail 0);
-  }
-    where
-      n : ℕ
-      n = length tokens - ends.lead - ends.trail
-
-      m : ℕ
-      m = length tokens - (ends.trail - 1) - ends.lead
-
-      mapped : map shape_of (middle_of tokens ends) ≡ take m (drop ends.lead (map shape_of tokens))
-      mapped = sym (ap (take m) (drop-map shape_of ends.lead tokens) ∙ take-map shape_of m (drop ends.lead tokens))
-
-  -- so a part that is left to these matches where they split it
-  pub match-iff_middle : (o : MatchOptions) (text part : List ℕ) (opening : Bool) → Leaves o tokens text ends.lead (length tokens - ends.trail) part opening
-      → TokensMatch o tokens (chars text) ↔ SplitsPart o opening (middle_of tokens ends) (length tokens - ends.lead - ends.trail) (chars part)
-  match-iff_middle o text part opening left =
-      let count : length tokens - ends.trail - ends.lead ≡ length tokens - ends.lead - ends.trail = omega arith in
-      let all = subst (λ n. TokensMatch o tokens (chars text) ↔ SplitsPart o opening (drop ends.lead tokens) n (chars part)) count left.match in
-      let middle = SplitsPart-cut o opening (drop ends.lead tokens) (length tokens - ends.lead - ends.trail) (length tokens - (ends.trail - 1) - ends.lead) (chars part)
-      (⊎_elim (λ none. inr (omega (arith, none, length-drop ends.lead tokens))) (λ some. inl (omega (arith, some, fits))) (cases_eq ends.trail 0)) in
-      (λ m. middle.0 (all.0 m), λ splits. all.1 (middle.1 splits))
 
 -- one more literal at the end of some, or at the start
 pub HasLiterals-next : (tokens : List Token) (n c bytes : ℕ) (t : Token) → n < length tokens → t ≡ get_or tokens n t → t ≡ Literal c → HasLiterals (take n tokens) bytes → HasLiterals (take (n + 1) tokens) (bytes + len_utf8 c)

@@ -1,10 +1,9 @@
 -- Which numbers of leading shapes are alive at a place, from what was alive at the place before.
 use Rattle.std.proofs.Common.{◌≡◌, ℕ, zero, suc, ◌+◌, ◌<◌, ◌≤◌, ◌≢◌, ◌⊎◌, ◌↔◌, List, [], length, get_or, drop, IsTrue, sym, refl, ap, subst, inl, inr, ⊎_elim, arith, add-one, length-drop}
 use Rattle.std.proofs.lemmas.Bool.{cases_eq}
-use Rattle.std.proofs.lemmas.List.{drop_all, get_or_past}
-use Rattle.glob_pattern.specs.Matching.Splits.{Table, TakesAll, MayReach, Splits}
-use Rattle.glob_pattern.specs.Private.Prefixes.{PrefixSplits, IsAlive, HasTaken}
-use Rattle.glob_pattern.proofs.PositionLemmas.Prefixes.{Splits-iff_prefix}
+use Rattle.std.proofs.lemmas.List.{drop_all}
+use Rattle.glob_pattern.specs.Matching.Splits.{Table, TakesAll, MayReach}
+use Rattle.glob_pattern.specs.Private.Prefixes.{PrefixSplits, IsAlive, HasTaken, IsAnyAlive}
 use Rattle.glob_pattern.specs.declared.matcher.Shape.{Shape}
 use Rattle.glob_pattern.specs.declared.matcher.Shape.TheVariants.{One, Run, Deep}
 
@@ -134,45 +133,31 @@ module _ (table : Table) (shapes : List Shape) (n : ℕ) where
   )
 
 module _ (table : Table) (shapes : List Shape) where
-  -- past the last shape there is no piece to begin
-  pub IsAlive-all : (k : ℕ) → IsAlive table shapes (length shapes) k ↔ PrefixSplits table shapes (length shapes) k
-  IsAlive-all k =
-      let step : IsAlive table shapes (length shapes) k ↔ ComesAlive table shapes (get_or shapes (length shapes) One) (length shapes) k =
-      IsAlive-step table shapes (length shapes) k in
-      let none : get_or shapes (length shapes) One ≡ One = get_or_past shapes (length shapes) One (omega arith) in
-      (λ alive. ⊎_elim (λ prefix. prefix) (λ (taken, grows). absurd (grows none)) (step.0 alive), λ prefix. step.1 (inl prefix))
-
-  -- all characters split where all shapes are alive after the last
-  pub Splits-iff_alive : Splits table shapes ↔ IsAlive table shapes (length shapes) table.characters
-  Splits-iff_alive =
-      let all : IsAlive table shapes (length shapes) table.characters ↔ PrefixSplits table shapes (length shapes) table.characters =
-      IsAlive-all table.characters in
-      let split : Splits table shapes ↔ PrefixSplits table shapes (length shapes) table.characters = Splits-iff_prefix table shapes in
-      (λ h. all.1 (split.0 h), λ h. split.1 (all.0 h))
-
   -- what is whole at a place comes from what was alive at the place before
-  PrefixSplits-before : (n k : ℕ) → n ≤ length shapes → PrefixSplits table shapes n (suc k) → (m : ℕ) × (m ≤ length shapes) × IsAlive table shapes m k
+  PrefixSplits-before : (n k : ℕ) → n ≤ length shapes → PrefixSplits table shapes n (suc k) → (m : ℕ) × (m < n) × IsAlive table shapes m k
   unfolding PrefixSplits HasTaken
   PrefixSplits-before zero k le end = absurd (omega arith)
   PrefixSplits-before (suc n) k le prefix =
       ⊎_elim
-      (λ (fewer, grows). PrefixSplits-before n k (omega arith) fewer)
+      (λ (fewer, grows). let (m, lt, was) = PrefixSplits-before n k (omega arith) fewer in (m, omega (arith, lt), was))
       (λ (taken, ends). (n, omega arith, taken.0))
       ((PrefixSplits-step table shapes n (omega arith) (suc k)).0 prefix)
 
-  -- what is alive at a place comes from what was alive at the place before
-  pub IsAlive-before : (n k : ℕ) → n ≤ length shapes → IsAlive table shapes n (suc k) → (m : ℕ) × (m ≤ length shapes) × IsAlive table shapes m k
+  -- where something is alive, something was at the place before
+  pub IsAnyAlive-before : (end k : ℕ) → end ≤ length shapes → IsAnyAlive table shapes end (suc k) → IsAnyAlive table shapes end k
   unfolding HasTaken
-  IsAlive-before n k le alive =
-      ⊎_elim (PrefixSplits-before n k le) (λ (taken, grows). (n, le, taken.0)) ((IsAlive-step table shapes n (suc k)).0 alive)
+  IsAnyAlive-before end k within (inl (n, lt, alive)) = inl (⊎_elim
+      (λ whole. let (m, before, was) = PrefixSplits-before n k (omega (arith, lt, within)) whole in (m, omega (arith, before, lt), was))
+      (λ (taken, grows). (n, lt, taken.0))
+      ((IsAlive-step table shapes n (suc k)).0 alive))
+  IsAnyAlive-before end k within (inr whole) = inl (PrefixSplits-before end k within whole)
 
   -- As long as something is alive, each character is asked about: that before place k + 1 raised the count from `old` to
   -- `new`.
-  pub asked_more : (first k next old new : ℕ) → next ≡ k + 1 → ((n : ℕ) → n ≤ length shapes → IsAlive table shapes n next → old < new)
-      → ((n : ℕ) → n ≤ length shapes → IsAlive table shapes n k → first + k ≤ old) → (n : ℕ) → n ≤ length shapes → IsAlive table shapes n next → first + next ≤ new
-  asked_more first k next old new at more before n le alive =
-      let (m, within, was) = IsAlive-before n k le (rw (at, add-one) at alive) in
-      omega (arith, more n le alive, before m within was)
+  pub asked_more : (end first k next old new : ℕ) → end ≤ length shapes → next ≡ k + 1 → (IsAnyAlive table shapes end next → old < new)
+      → (IsAnyAlive table shapes end k → first + k ≤ old) → IsAnyAlive table shapes end next → first + next ≤ new
+  asked_more end first k next old new within at more before any =
+      omega (arith, more any, before (IsAnyAlive-before end k within (rw (at, add-one) at any)))
 
   -- no shapes split no characters, and no others
   pub PrefixSplits-none : (k : ℕ) → 0 < k → ¬ (PrefixSplits table shapes 0 k)

@@ -1,7 +1,6 @@
 -- The ends of a pattern: tokens of one character each, and literals among them, which are compared as bytes.
 use Rattle.std.specs.Prelude.{◌≡◌, ℕ, ◌+◌, ◌-◌, ◌<◌, ◌≤◌, Bool, true, false, List, length, map, take, drop, encode_utf8_all, slice_index_or}
 use Rattle.std.specs.Char.{to_ascii_lowercase}
-use Rattle.std.specs.List.{slice_range}
 use Rattle.glob_text.specs.Text.{Text}
 use Rattle.glob_pattern.specs.Grammar.Tokens.{Token, shape_of}
 use Rattle.glob_pattern.specs.declared.matcher.Shape.{Shape}
@@ -28,10 +27,6 @@ pub record IsEnds (tokens : List Token) (ends : Ends) : Type 0 where
   pub few_last : ends.suffix.count ≤ ends.trail
   pub first : HasLiterals (take ends.prefix.count tokens) ends.prefix.bytes
   pub last : HasLiterals (drop (length tokens - ends.suffix.count) tokens) ends.suffix.bytes
-
--- the tokens between the ends, and the first of those after them, if there are any
-abbrev pub middle_of : List Token → Ends → List Token
-middle_of tokens ends = slice_range tokens ends.lead (length tokens - (ends.trail - 1))
 
 -- the bytes are the same, or case-insensitively they are once letters are in lower case
 abbrev pub SameBytes : (case : Bool) → List ℕ → List ℕ → Type 0

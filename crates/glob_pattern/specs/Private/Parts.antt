@@ -1,22 +1,16 @@
 -- Parts of a text that the first of some tokens split.
-use Rattle.std.specs.Prelude.{◌≡◌, ℕ, ◌+◌, ◌-◌, ◌≤◌, ◌↔◌, Bool, List, ◌++◌, chars, drop, length, map, slice_index_or}
+use Rattle.std.specs.Prelude.{◌≡◌, ℕ, ◌+◌, ◌-◌, ◌≤◌, ◌↔◌, Bool, List, ◌++◌, chars, drop, length, map}
 use Rattle.std.specs.Str.{IsUtf8}
 use Rattle.glob_text.specs.Text.{Text}
 use Rattle.glob_pattern.specs.Grammar.Tokens.{Token, shape_of}
 use Rattle.glob_pattern.specs.Matching.Texts.{TokensMatch}
 use Rattle.glob_pattern.specs.Private.Prefixes.{PrefixSplits}
 use Rattle.glob_pattern.specs.Private.TextTable.{table_within}
-use Rattle.glob_pattern.specs.declared.matcher.Shape.TheVariants.{One}
 use Rattle.glob_pattern.specs.declared.options.MatchOptions.{MatchOptions}
 
 -- the first n of the tokens split the part; `opening`: a component begins at its start
 unfoldable pub SplitsPart : MatchOptions → (opening : Bool) → List Token → (n : ℕ) → (part : Text) → Type 0
 SplitsPart o opening tokens n part = PrefixSplits (table_within opening o tokens part) (map shape_of tokens) n (length part)
-
--- the tokens before number `end` are followed by one of one character, or by none
-pub record EndsAt (tokens : List Token) (end : ℕ) : Type 0 where
-  pub within : end ≤ length tokens
-  pub one : slice_index_or (map shape_of tokens) end One ≡ One
 
 -- tokens take the start of the part, and leave the rest, at whose start a component begins or not (`left`), to those
 -- after them

@@ -1,17 +1,17 @@
--- Position sets as words of bits: each has 63 shapes, and its last bit is the position after them, the first one of the
--- next word.
+-- Position sets as words of bits, over the shapes before an end, which others may follow: each word has 63 shapes, and
+-- its last bit is the position after them, the first one of the next word.
 use Rattle.std.specs.Prelude.{◌≡◌, ℕ, suc, ◌+◌, ◌-◌, ◌*◌, ◌/◌, ◌^◌, ◌<◌, ◌≤◌, ◌≢◌, ◌⊎◌, ◌↔◌, Bool, List, length, min, slice_index, slice_index_or, IsTrue}
 use Rattle.std.specs.Int.{IsBitSet}
 use Rattle.glob_pattern.specs.Matching.Splits.{Table, TakesAll}
-use Rattle.glob_pattern.specs.Private.Prefixes.{PrefixSplits, IsAlive, HasTaken, AreAllAsked}
+use Rattle.glob_pattern.specs.Private.Prefixes.{PrefixSplits, IsAlive, HasTaken, IsAnyAlive}
 use Rattle.glob_pattern.specs.declared.matcher.Shape.{Shape}
 use Rattle.glob_pattern.specs.declared.matcher.Shape.TheVariants.{One, Deep}
 use Rattle.glob_pattern.specs.declared.matcher.positions.Span.{Span}
 use Rattle.glob_pattern.specs.declared.matcher.shape_word.ShapeWord.{ShapeWord}
 
--- the end of the word that begins at a number: 63 shapes on, or after the last
-abbrev pub word_end : List Shape → (start : ℕ) → ℕ
-word_end shapes start = min (start + 63) (length shapes)
+-- the end of the word that begins at a number: 63 shapes on, or where all end
+abbrev pub word_end : (end start : ℕ) → ℕ
+word_end end start = min (start + 63) end
 
 -- the number of the word that has the last shape before an end, if there is one
 abbrev pub word_before : (end : ℕ) → ℕ
@@ -29,29 +29,30 @@ pub record HasShapes (shapes : List Shape) (start end : ℕ) (word : ShapeWord) 
       × (start + j + 1 < length shapes))
 
 -- the bits are of the 63 shapes from number `start` on
-abbrev pub IsShapeWord : List Shape → (start : ℕ) → ShapeWord → Type 0
-IsShapeWord shapes start word = HasShapes shapes start (word_end shapes start) word
+abbrev pub IsShapeWord : List Shape → (end start : ℕ) → ShapeWord → Type 0
+IsShapeWord shapes end start word = HasShapes shapes start (word_end end start) word
 
--- the words are of all shapes, 63 in each
-pub record AreShapeWords (shapes : List Shape) (words : List ShapeWord) : Type 0 where
+-- the words are of all shapes before `end`, 63 in each
+pub record AreShapeWords (shapes : List Shape) (end : ℕ) (words : List ShapeWord) : Type 0 where
+  pub within : end ≤ length shapes
   pub some : 0 < length words
-  pub all : length shapes ≤ 63 * length words
-  pub few : 63 * (length words - 1) ≤ length shapes
-  pub word : (i : ℕ) (d : ShapeWord) → i < length words → IsShapeWord shapes (63 * i) (slice_index_or words i d)
+  pub all : end ≤ 63 * length words
+  pub few : 63 * (length words - 1) ≤ end
+  pub word : (i : ℕ) (d : ShapeWord) → i < length words → IsShapeWord shapes end (63 * i) (slice_index_or words i d)
 
 -- the word says of the positions from `start` on whether they are alive at place k, and of its end whether it is whole
-pub record IsAliveWord (table : Table) (shapes : List Shape) (start k word : ℕ) : Type 0 where
-  pub alive : (j : ℕ) → start + j < word_end shapes start → IsBitSet word j ↔ IsAlive table shapes (start + j) k
-  pub whole : (j : ℕ) → start + j ≡ word_end shapes start
-      → IsBitSet word j ↔ PrefixSplits table shapes (word_end shapes start) k
+pub record IsAliveWord (table : Table) (shapes : List Shape) (end start k word : ℕ) : Type 0 where
+  pub alive : (j : ℕ) → start + j < word_end end start → IsBitSet word j ↔ IsAlive table shapes (start + j) k
+  pub whole : (j : ℕ) → start + j ≡ word_end end start
+      → IsBitSet word j ↔ PrefixSplits table shapes (word_end end start) k
 
 -- the word says of the tokens from `start` on whether they have taken the character before place k
-pub record IsTakenWord (table : Table) (shapes : List Shape) (start k word : ℕ) : Type 0 where
-  pub taken : (j : ℕ) → start + j < word_end shapes start → IsBitSet word j ↔ HasTaken table shapes (start + j) k
+pub record IsTakenWord (table : Table) (shapes : List Shape) (end start k word : ℕ) : Type 0 where
+  pub taken : (j : ℕ) → start + j < word_end end start → IsBitSet word j ↔ HasTaken table shapes (start + j) k
 
 -- the words from number `low` up to `high` say what is alive at place k
-pub record AreAlive (table : Table) (shapes : List Shape) (k low high : ℕ) (alive : List ℕ) : Type 0 where
-  pub word : (i : ℕ) → low ≤ i → i < high → IsAliveWord table shapes (63 * i) k (slice_index alive i)
+pub record AreAlive (table : Table) (shapes : List Shape) (end k low high : ℕ) (alive : List ℕ) : Type 0 where
+  pub word : (i : ℕ) → low ≤ i → i < high → IsAliveWord table shapes end (63 * i) k (slice_index alive i)
 
 -- pieces end anywhere, and no two wildcards are neighbours
 pub record IsFlat (word : ShapeWord) : Type 0 where
@@ -62,10 +63,10 @@ pub record IsFlat (word : ShapeWord) : Type 0 where
 -- says whether place k opens, and `whole` whether the shapes before `start` split the characters up to it.
 abbrev pub LeadsTo : ShapeWord → (took : ℕ) → (opens whole : Bool) → (next : ℕ) → Type 0
 LeadsTo word took opens whole next =
-    (table : Table) (shapes : List Shape) (start k : ℕ)
-    → start ≤ length shapes → IsShapeWord shapes start word
-    → IsTakenWord table shapes start k took → opens ≡ table.opens k
-    → IsTrue whole ↔ PrefixSplits table shapes start k → IsAliveWord table shapes start k next
+    (table : Table) (shapes : List Shape) (end start k : ℕ)
+    → start ≤ end → end ≤ length shapes → IsShapeWord shapes end start word
+    → IsTakenWord table shapes end start k took → opens ≡ table.opens k
+    → IsTrue whole ↔ PrefixSplits table shapes start k → IsAliveWord table shapes end start k next
 
 -- the shape is the last before `end`, and its pieces may have any length and end anywhere
 pub record EndsFreely (shapes : List Shape) (end n : ℕ) : Type 0 where
@@ -80,22 +81,20 @@ pub record TakesRest (table : Table) (shapes : List Shape) (end n : ℕ) : Type 
 
 -- what a run over a span begins with, by a judge at place k that was asked `count` questions
 pub record CanRun (table : Table) (shapes : List Shape) (words : List ShapeWord) (span : Span) (k count : ℕ) : Type 0 where
-  pub shaped : AreShapeWords shapes words
-  pub fits : length shapes < 2 ^ 64
-  pub tokens : length shapes ≤ table.tokens
+  pub shaped : AreShapeWords shapes span.end words
+  pub fits : span.end < 2 ^ 64
+  pub tokens : span.end ≤ table.tokens
   pub place : k ≡ 0
-  pub end : span.end ≤ length shapes
-  pub one : slice_index_or shapes span.end One ≡ One
   pub accepting : (j : ℕ) → IsBitSet span.accepting j → TakesRest table shapes span.end (63 * word_before span.end + j)
-  pub room : count + length shapes * table.characters < 2 ^ 128
+  pub room : count + span.end * table.characters < 2 ^ 128
 
 -- A run that began when `first` questions were asked is at place k after `count` questions, where the words say what is
 -- alive.
-pub record HasRun (table : Table) (shapes : List Shape) (first k count : ℕ) (words : List ℕ) : Type 0 where
-  pub alive : AreAlive table shapes k 0 (length words) words
+pub record HasRun (table : Table) (shapes : List Shape) (end first k count : ℕ) (words : List ℕ) : Type 0 where
+  pub alive : AreAlive table shapes end k 0 (length words) words
   pub within : k ≤ table.characters
-  pub most : count + length shapes * (table.characters - k) ≤ first + length shapes * table.characters
-  pub least : AreAllAsked table shapes first k count
+  pub most : count + end * (table.characters - k) ≤ first + end * table.characters
+  pub least : IsAnyAlive table shapes end k → first + k ≤ count
   pub monotone : first ≤ count
 
 -- Tokens were asked about the character before place k, those from number `start` up to `end`, after `before` questions:
@@ -107,14 +106,15 @@ pub record WereAsked (table : Table) (shapes : List Shape) (start end k before c
 
 -- The tokens of word i can be asked about the character before place k, after `count` questions: `alive` says which of
 -- them were alive at the place before it.
-pub record CanAsk (table : Table) (shapes : List Shape) (word : ShapeWord) (i alive k count : ℕ) : Type 0 where
+pub record CanAsk (table : Table) (shapes : List Shape) (end : ℕ) (word : ShapeWord) (i alive k count : ℕ) : Type 0 where
   pub stepped : 0 < k
-  pub from : 63 * i ≤ length shapes
-  pub shaped : IsShapeWord shapes (63 * i) word
-  pub fits : length shapes < 2 ^ 64
-  pub tokens : length shapes ≤ table.tokens
-  pub before : IsAliveWord table shapes (63 * i) (k - 1) alive
-  pub room : count + (word_end shapes (63 * i) - 63 * i) < 2 ^ 128
+  pub from : 63 * i ≤ end
+  pub within : end ≤ length shapes
+  pub shaped : IsShapeWord shapes end (63 * i) word
+  pub fits : end < 2 ^ 64
+  pub tokens : end ≤ table.tokens
+  pub before : IsAliveWord table shapes end (63 * i) (k - 1) alive
+  pub room : count + (word_end end (63 * i) - 63 * i) < 2 ^ 128
 
 -- of the words before number `end` only those from number `low` up to `high` may not be 0
 pub record IsLive (words : List ℕ) (end low high : ℕ) : Type 0 where
@@ -122,26 +122,27 @@ pub record IsLive (words : List ℕ) (end low high : ℕ) : Type 0 where
   pub none : (i : ℕ) → i < end → ((i < low) ⊎ (high ≤ i)) → slice_index words i ≡ 0
 
 -- the words, of which those from number `low` up to `high` are live, can be stepped to place k, after `count` questions
-pub record CanStep (table : Table) (shapes : List Shape) (words : List ShapeWord) (alive : List ℕ) (low high k count : ℕ) : Type 0 where
-  pub shaped : AreShapeWords shapes words
+pub record CanStep (table : Table) (shapes : List Shape) (end : ℕ) (words : List ShapeWord) (alive : List ℕ)
+    (low high k count : ℕ) : Type 0 where
+  pub shaped : AreShapeWords shapes end words
   pub many : length alive ≡ length words
   pub stepped : 0 < k
-  pub fits : length shapes < 2 ^ 64
-  pub tokens : length shapes ≤ table.tokens
-  pub room : count + length shapes < 2 ^ 128
+  pub fits : end < 2 ^ 64
+  pub tokens : end ≤ table.tokens
+  pub room : count + end < 2 ^ 128
   pub live : IsLive alive (length alive) low high
-  pub before : AreAlive table shapes (k - 1) 0 (length alive) alive
+  pub before : AreAlive table shapes end (k - 1) 0 (length alive) alive
 
 -- they are: all words say what is alive at place k
-pub record HasStepped (table : Table) (shapes : List Shape) (before after : List ℕ) (k old new : ℕ) : Type 0 where
+pub record HasStepped (table : Table) (shapes : List Shape) (end : ℕ) (before after : List ℕ) (k old new : ℕ) : Type 0 where
   pub many : length after ≡ length before
-  pub alive : AreAlive table shapes k 0 (length after) after
-  pub asked : WereAsked table shapes 0 (length shapes) k old new
+  pub alive : AreAlive table shapes end k 0 (length after) after
+  pub asked : WereAsked table shapes 0 end k old new
 
 -- A run over a span, which began when `first` questions were asked, has its answer after `count`: whether the shapes
 -- before the span's end split all characters.
 pub record HasDecided (table : Table) (shapes : List Shape) (span : Span) (first count : ℕ) (yes : Bool) : Type 0 where
-  pub answer : IsTrue yes ↔ IsAlive table shapes span.end table.characters
-  pub most : count ≤ first + length shapes * table.characters
+  pub answer : IsTrue yes ↔ PrefixSplits table shapes span.end table.characters
+  pub most : count ≤ first + span.end * table.characters
   pub least : IsTrue yes → span.accepting ≡ 0 → first + table.characters ≤ count
   pub monotone : first ≤ count

@@ -1,5 +1,5 @@
 -- How far prefixes of the shapes reach: what the position sets of a match say.
-use Rattle.std.specs.Prelude.{◌≡◌, ℕ, zero, suc, ◌+◌, ◌≤◌, ◌≢◌, ◌⊎◌, List, length, drop, slice_index_or, IsTrue}
+use Rattle.std.specs.Prelude.{◌≡◌, ℕ, zero, suc, ◌<◌, ◌≤◌, ◌≢◌, ◌⊎◌, List, drop, slice_index_or, IsTrue}
 use Rattle.glob_pattern.specs.Matching.Splits.{Table, TakesAll, MayReach}
 use Rattle.glob_pattern.specs.declared.matcher.Shape.{Shape}
 use Rattle.glob_pattern.specs.declared.matcher.Shape.TheVariants.{One}
@@ -24,7 +24,6 @@ unfoldable pub HasTaken : Table → List Shape → (n k : ℕ) → Type 0
 HasTaken table shapes n zero = ⊥
 HasTaken table shapes n (suc k) = IsAlive table shapes n k × IsTrue (table.takes n k)
 
--- where something is alive at place k, each character before it was asked about since the count was `first`
-abbrev pub AreAllAsked : Table → List Shape → (first k count : ℕ) → Type 0
-AreAllAsked table shapes first k count =
-    (n : ℕ) → n ≤ length shapes → IsAlive table shapes n k → first + k ≤ count
+-- at place k something is alive of the shapes before `end`, or all of them split the characters before it
+abbrev pub IsAnyAlive : Table → List Shape → (end k : ℕ) → Type 0
+IsAnyAlive table shapes end k = ((n : ℕ) × (n < end) × IsAlive table shapes n k) ⊎ PrefixSplits table shapes end k

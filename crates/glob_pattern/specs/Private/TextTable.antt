@@ -1,5 +1,5 @@
 -- The table of a pattern's tokens and a text: which token takes which character.
-use Rattle.std.specs.Prelude.{ℕ, zero, suc, ◌==◌, ◌&&◌, nat_lt, Bool, List, length, slice_index, slice_index_or}
+use Rattle.std.specs.Prelude.{ℕ, zero, suc, ◌==◌, Bool, List, length, slice_index, slice_index_or}
 use Rattle.glob_text.specs.Characters.{slash}
 use Rattle.glob_text.specs.Text.{Text, opens}
 use Rattle.glob_pattern.specs.Grammar.Tokens.{Token}
@@ -32,7 +32,3 @@ table_within opening o tokens part = record {
   takes = λ token place.
       takes o (opens_within opening part place) (slice_index part place) (slice_index_or tokens token AnyChar);
 }
-
--- the table where tokens from number `end` on take nothing
-abbrev pub table_before : Table → (end : ℕ) → Table
-table_before table end = record table { takes = λ token place. nat_lt token end && table.takes token place }

@@ -3,7 +3,7 @@
 //! may go on. A character moves all positions at once.
 ghost use Rattle.std.specs.Prelude.{◌≡◌, ℕ, ◌+◌, ◌*◌, ◌^◌, ◌<◌, ◌≤◌, ◌↔◌, List, [], ◌∷◌, length, slice_index, slice_index_or, IsTrue, IsOk, IfOk, map};
 ghost use Rattle.glob_pattern.specs.Matching.Splits.{Table};
-ghost use Rattle.glob_pattern.specs.Private.Prefixes.{PrefixSplits, IsAlive};
+ghost use Rattle.glob_pattern.specs.Private.Prefixes.{PrefixSplits};
 ghost use Rattle.glob_pattern.specs.Private.Positions.{word_end, word_before, AreShapeWords, IsAliveWord, IsTakenWord, AreAlive, IsFlat, IsLive, CanRun, HasDecided, CanAsk, WereAsked, CanStep, HasStepped};
 
 use super::shape_word::ShapeWord;
@@ -13,7 +13,7 @@ use std::alloc::{AllocError, Allocator};
 /// Which part of the shapes a run goes over.
 #[derive(Clone, Copy)]
 pub struct Span {
-    /// How many leading shapes have to split all characters.
+    /// How many leading shapes have to split all characters. Others may follow, which decide where a last `Deep` ends.
     pub end: usize,
     /// Positions of the word that has the last shape before `end`. Once one is alive, this shape takes all further
     /// characters.
@@ -53,11 +53,10 @@ pub fn decide<A: Allocator + Copy, T: Shaped, J: Judge>(
     requires { CanRun (J.table judge.old) (map T.shape tokens.now) words.now span
         (J.place judge.old) (J.count judge.old) }
     ensures answer { IfOk result (λ yes. IsTrue yes
-        ↔ IsAlive (J.table judge.old) (map T.shape tokens.now)
+        ↔ PrefixSplits (J.table judge.old) (map T.shape tokens.now)
         span.end (J.table judge.old).characters) }
     ensures most { J.count judge.new
-        ≤ J.count judge.old
-        + length (map T.shape tokens.now) * (J.table judge.old).characters }
+        ≤ J.count judge.old + span.end * (J.table judge.old).characters }
     ensures least { IfOk result (λ yes. IsTrue yes → span.accepting ≡ 0
         → J.count judge.old + (J.table judge.old).characters ≤ J.count judge.new) }
     ensures monotone { J.count judge.old ≤ J.count judge.new }
@@ -110,9 +109,9 @@ fn run<T: Shaped, J: Judge>(
             return true;
         }
         if !judge.step() {
-            return is_alive(tokens, &[alive], span.end);
+            return is_whole(tokens, span.end, &[alive]);
         }
-        let took = ask(tokens, word, 0, alive, judge);
+        let took = ask(tokens, span.end, word, 0, alive, judge);
         alive = word.step_by(flat, took, judge.opens());
     }
     false
@@ -136,15 +135,15 @@ fn run_words<T: Shaped, J: Judge>(
     ensures same { J.table judge.new ≡ J.table judge.old }
 {
     let last = word_before(span.end);
-    let mut live = set_start(tokens, words, judge.opens(), alive);
+    let mut live = set_start(tokens, span.end, words, judge.opens(), alive);
     while live.high != 0 {
         if alive[last] & span.accepting != 0 {
             return true;
         }
         if !judge.step() {
-            return is_alive(tokens, alive, span.end);
+            return is_whole(tokens, span.end, alive);
         }
-        live = step_words(tokens, words, alive, live, judge);
+        live = step_words(tokens, span.end, words, alive, live, judge);
     }
     false
 }
@@ -153,18 +152,18 @@ fn run_words<T: Shaped, J: Judge>(
 #[inline(always)]
 fn ask<T: Shaped, J: Judge>(
     tokens: &[T],
+    end: usize,
     word: ShapeWord,
     n: usize,
     alive: u64,
     judge: &mut J,
 ) -> u64
-    requires { CanAsk (J.table judge.old) (map T.shape tokens.now) word n alive
+    requires { CanAsk (J.table judge.old) (map T.shape tokens.now) end word n alive
         (J.place judge.old) (J.count judge.old) }
-    ensures taken { IsTakenWord (J.table judge.old) (map T.shape tokens.now) (63 * n)
+    ensures taken { IsTakenWord (J.table judge.old) (map T.shape tokens.now) end (63 * n)
         (J.place judge.old) result }
     ensures asked { WereAsked (J.table judge.old) (map T.shape tokens.now) (63 * n)
-        (word_end (map T.shape tokens.now) (63 * n)) (J.place judge.old) (J.count judge.old)
-        (J.count judge.new) }
+        (word_end end (63 * n)) (J.place judge.old) (J.count judge.old) (J.count judge.new) }
     ensures place { J.place judge.new ≡ J.place judge.old }
     ensures same { J.table judge.new ≡ J.table judge.old }
 {
@@ -173,14 +172,20 @@ fn ask<T: Shaped, J: Judge>(
 
 /// Sets the words, which must be 0, to the position set before the first character.
 #[inline(always)]
-fn set_start<T: Shaped>(tokens: &[T], words: &[ShapeWord], opens: bool, alive: &mut [u64]) -> Live
-    requires words { AreShapeWords (map T.shape tokens.now) words.now }
+fn set_start<T: Shaped>(
+    tokens: &[T],
+    end: usize,
+    words: &[ShapeWord],
+    opens: bool,
+    alive: &mut [u64],
+) -> Live
+    requires words { AreShapeWords (map T.shape tokens.now) end words.now }
     requires length { length alive.old ≡ length words.now }
     requires none { IsLive alive.old (length alive.old) 0 0 }
     ensures length { length alive.new ≡ length alive.old }
     ensures live { IsLive alive.new (length alive.new) result.low result.high }
     ensures alive { (table : Table) → opens ≡ table.opens 0
-        → AreAlive table (map T.shape tokens.now) 0 0 (length alive.new) alive.new }
+        → AreAlive table (map T.shape tokens.now) end 0 0 (length alive.new) alive.new }
 {
     let mut whole = true;
     for n in 0..alive.len() {
@@ -205,20 +210,18 @@ fn word_before(end: usize) -> usize
     end.saturating_sub(1) / WORD
 }
 
-/// Whether the position is in the set.
+/// Whether the shapes before number `end` split the characters: whether the position after the last is in the set.
 #[inline(always)]
-fn is_alive<T: Shaped>(tokens: &[T], alive: &[u64], position: usize) -> bool
+fn is_whole<T: Shaped>(tokens: &[T], end: usize, alive: &[u64]) -> bool
     requires some { 0 < length alive.now }
-    requires all { length (map T.shape tokens.now) ≤ 63 * length alive.now }
-    requires within { position ≤ length (map T.shape tokens.now) }
-    requires one { slice_index_or (map T.shape tokens.now) position Shape.One ≡ Shape.One }
+    requires all { end ≤ 63 * length alive.now }
     ensures { (table : Table) (k : ℕ)
-        → AreAlive table (map T.shape tokens.now) k 0 (length alive.now) alive.now
-        → IsTrue result ↔ IsAlive table (map T.shape tokens.now) position k }
+        → AreAlive table (map T.shape tokens.now) end k 0 (length alive.now) alive.now
+        → IsTrue result ↔ PrefixSplits table (map T.shape tokens.now) end k }
 {
-    // A position on a border of two words is read as the last bit of the first of them.
-    let word = word_before(position);
-    (alive[word] >> (position - WORD * word)) & 1 != 0
+    // Where the last word is full this is its last bit.
+    let word = word_before(end);
+    (alive[word] >> (end - WORD * word)) & 1 != 0
 }
 
 /// Steps the words to the judge's place, and returns those that are live there. Words in which nothing is alive are
@@ -226,15 +229,16 @@ fn is_alive<T: Shaped>(tokens: &[T], alive: &[u64], position: usize) -> bool
 #[inline(always)]
 fn step_words<T: Shaped, J: Judge>(
     tokens: &[T],
+    end: usize,
     words: &[ShapeWord],
     alive: &mut [u64],
     live: Live,
     judge: &mut J,
 ) -> Live
-    requires { CanStep (J.table judge.old) (map T.shape tokens.now) words.now alive.old
+    requires { CanStep (J.table judge.old) (map T.shape tokens.now) end words.now alive.old
         live.low live.high (J.place judge.old) (J.count judge.old) }
-    ensures stepped { HasStepped (J.table judge.old) (map T.shape tokens.now) alive.old alive.new
-        (J.place judge.old) (J.count judge.old) (J.count judge.new) }
+    ensures stepped { HasStepped (J.table judge.old) (map T.shape tokens.now) end alive.old
+        alive.new (J.place judge.old) (J.count judge.old) (J.count judge.new) }
     ensures live { IsLive alive.new (length alive.new) result.low result.high }
     ensures place { J.place judge.new ≡ J.place judge.old }
     ensures same { J.table judge.new ≡ J.table judge.old }
@@ -249,7 +253,7 @@ fn step_words<T: Shaped, J: Judge>(
         if !whole && live.high <= n {
             return next;
         }
-        let word = step_word(tokens, words[n], n, alive[n], opens, whole, judge);
+        let word = step_word(tokens, end, words[n], n, alive[n], opens, whole, judge);
         alive[n] = word;
         next = next.with(n, word);
         whole = word >> WORD != 0;
@@ -261,6 +265,7 @@ fn step_words<T: Shaped, J: Judge>(
 #[inline(always)]
 fn step_word<T: Shaped, J: Judge>(
     tokens: &[T],
+    end: usize,
     word: ShapeWord,
     n: usize,
     alive: u64,
@@ -268,23 +273,22 @@ fn step_word<T: Shaped, J: Judge>(
     whole: bool,
     judge: &mut J,
 ) -> u64
-    requires ready { CanAsk (J.table judge.old) (map T.shape tokens.now) word n alive
+    requires ready { CanAsk (J.table judge.old) (map T.shape tokens.now) end word n alive
         (J.place judge.old) (J.count judge.old) }
     requires opens { opens ≡ (J.table judge.old).opens (J.place judge.old) }
     requires whole { IsTrue whole
         ↔ PrefixSplits (J.table judge.old) (map T.shape tokens.now) (63 * n) (J.place judge.old) }
-    ensures alive { IsAliveWord (J.table judge.old) (map T.shape tokens.now) (63 * n)
+    ensures alive { IsAliveWord (J.table judge.old) (map T.shape tokens.now) end (63 * n)
         (J.place judge.old) result }
     ensures asked { WereAsked (J.table judge.old) (map T.shape tokens.now) (63 * n)
-        (word_end (map T.shape tokens.now) (63 * n)) (J.place judge.old) (J.count judge.old)
-        (J.count judge.new) }
+        (word_end end (63 * n)) (J.place judge.old) (J.count judge.old) (J.count judge.new) }
     ensures place { J.place judge.new ≡ J.place judge.old }
     ensures same { J.table judge.new ≡ J.table judge.old }
 {
     if alive == 0 && !whole {
         return 0;
     }
-    let took = ask(tokens, word, n, alive, judge);
+    let took = ask(tokens, end, word, n, alive, judge);
     word.step(took, opens, whole)
 }
 

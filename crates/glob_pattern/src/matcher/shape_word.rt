@@ -17,17 +17,19 @@ pub struct ShapeWord {
     pub recursive: u64,
 }
 
-/// The words of all tokens, at least one. Fails only if allocation fails.
+/// The words of the tokens before number `end`, at least one. Fails only if allocation fails.
 pub fn shape_words<A: Allocator + Copy, T: Shaped>(
     alloc: A,
     tokens: &[T],
+    end: usize,
 ) -> Result<Vec<ShapeWord, A>, AllocError>
-    ensures { IfOk result (λ words. AreShapeWords (map T.shape tokens.now) words.items) }
+    requires { end ≤ length tokens.now }
+    ensures { IfOk result (λ words. AreShapeWords (map T.shape tokens.now) end words.items) }
 {
-    let count = tokens.len().div_ceil(WORD).max(1);
+    let count = end.div_ceil(WORD).max(1);
     let mut words = Vec::with_capacity(alloc, count)?;
     for n in 0..count {
-        words.push(ShapeWord::new(tokens, WORD * n))?;
+        words.push(ShapeWord::new(tokens, end, WORD * n))?;
     }
     Ok(words)
 }
@@ -40,13 +42,14 @@ impl ShapeWord {
         recursive: 0,
     };
 
-    /// The shapes of the tokens from number `start` on.
-    pub fn new<T: Shaped>(tokens: &[T], start: usize) -> Self
-        requires { start ≤ length tokens.now }
-        ensures { IsShapeWord (map T.shape tokens.now) start result }
+    /// The shapes of the tokens from number `start` up to `end`, or of the first 63 of them.
+    pub fn new<T: Shaped>(tokens: &[T], end: usize, start: usize) -> Self
+        requires start { start ≤ end }
+        requires end { end ≤ length tokens.now }
+        ensures { IsShapeWord (map T.shape tokens.now) end start result }
     {
         let mut word = ShapeWord::NONE;
-        for n in start..tokens.len().min(start.saturating_add(WORD)) {
+        for n in start..end.min(start.saturating_add(WORD)) {
             word = word.with(n - start, tokens[n].shape(), n + 1 < tokens.len());
         }
         word

@@ -1,12 +1,12 @@
 //! The automaton of a pattern's tokens between the ends: their shapes as words of bits, and which of them take which
 //! characters.
-ghost use Rattle.std.specs.Prelude.{◌≡◌, ℕ, ◌+◌, ◌*◌, ◌<◌, ◌≤◌, ◌↔◌, Bool, List, [], length, map, IsTrue, IsOk, IfOk, chars};
+ghost use Rattle.std.specs.Prelude.{◌≡◌, ℕ, ◌+◌, ◌*◌, ◌<◌, ◌≤◌, ◌↔◌, Bool, List, [], length, map, take, IsTrue, IsOk, IfOk, chars};
 ghost use Rattle.std.specs.Int.{IsBitSet};
 ghost use Rattle.glob_text.specs.Text.{Text};
 ghost use Rattle.glob_pattern.specs.Grammar.Tokens.{Token as TokenOf, shape_of};
 ghost use Rattle.glob_pattern.specs.Private.Automata.{IsAutomaton};
-ghost use Rattle.glob_pattern.specs.Private.Parts.{SplitsPart, EndsAt};
-ghost use Rattle.glob_pattern.specs.Private.Positions.{IsShapeWord, AreShapeWords, EndsFreely, TakesRest, word_before};
+ghost use Rattle.glob_pattern.specs.Private.Parts.{SplitsPart};
+ghost use Rattle.glob_pattern.specs.Private.Positions.{AreShapeWords, EndsFreely, TakesRest, word_before};
 ghost use Rattle.glob_pattern.specs.Private.TextTable.{table_within};
 
 use crate::matcher::{Judge, Shape, ShapeWord, Shaped, Span, WORD, decide, shape_words};
@@ -22,30 +22,29 @@ use std::slice;
 /// What a run over tokens reads of them besides.
 #[derive(Drop)]
 pub struct Automaton<A: Allocator> {
-    // the shapes as bits: those of the first 63 tokens, and if there are more tokens, those of all
+    // the shapes as bits: those of the first 63 tokens, and if there are more, those of all
     first: ShapeWord,
     words: Vec<ShapeWord, A>,
-    // the bit of the last token to split a text, in its word, if it is a wildcard whose pieces end anywhere
+    // the bit of the last token, in its word, if it is a wildcard whose pieces end anywhere
     accepting: u64,
     masks: CharMasks<A>,
 }
 
 impl<A: Allocator + Copy> Automaton<A> {
-    /// That of the tokens, where those before number `end`, all or all but one, are to split a text. Fails only if
-    /// allocation fails.
+    /// That of the tokens before number `end`. Of those after them it matters whether there are any: a last `**` ends
+    /// anywhere if there are none. Fails only if allocation fails.
     pub fn new(alloc: A, tokens: &[Token<Bracket<A>>], end: usize) -> Result<Self, AllocError>
-        requires end { end ≤ length tokens.now }
-        requires last { length tokens.now ≤ end + 1 }
+        requires { end ≤ length tokens.now }
         ensures { IfOk result (IsAutomaton tokens.now end) }
     {
-        let words = if tokens.len() <= WORD {
+        let words = if end <= WORD {
             Vec::new(alloc)
         } else {
-            shape_words(alloc, tokens)?
+            shape_words(alloc, tokens, end)?
         };
-        let masks = CharMasks::new(alloc, &tokens[..end], words_of(tokens))?;
+        let masks = CharMasks::new(alloc, &tokens[..end], end.div_ceil(WORD))?;
         Ok(Automaton {
-            first: ShapeWord::new(tokens, 0),
+            first: ShapeWord::new(tokens, end, 0),
             words,
             accepting: free_end(tokens, end),
             masks,
@@ -88,13 +87,11 @@ impl<A: Allocator + Copy> Automaton<A> {
         opening: bool,
         options: MatchOptions,
     ) -> Result<(bool, u128), AllocError>
-        requires automaton { IsAutomaton tokens.now end self.now }
-        requires end { EndsAt tokens.now end }
+        requires { IsAutomaton tokens.now end self.now }
         ensures answer { IfOk result (λ counted. IsTrue counted.0
             ↔ SplitsPart options opening tokens.now end (chars text.now)) }
-        ensures most { IfOk result
-            (λ counted. counted.1 ≤ length tokens.now * length (chars text.now)) }
-        ensures short { length tokens.now < 64 → IsOk result }
+        ensures most { IfOk result (λ counted. counted.1 ≤ end * length (chars text.now)) }
+        ensures short { end < 64 → IsOk result }
     {
         let accepting = self.accepting(options);
         // The only token takes all that there may be.
@@ -102,23 +99,21 @@ impl<A: Allocator + Copy> Automaton<A> {
             return Ok((true, 0));
         }
         let span = Span { end, accepting };
-        let one_by_one = TextJudge::new(tokens, text, opening, options);
-        let mut judge = MaskJudge::new(one_by_one, &self.masks, end, words_of(tokens));
+        let one_by_one = TextJudge::new(&tokens[..end], text, opening, options);
+        let mut judge = MaskJudge::new(one_by_one, &self.masks, end.div_ceil(WORD));
         let alloc = *self.words.allocator();
-        let answer = decide(alloc, tokens, self.words(tokens), span, &mut judge)?;
+        let answer = decide(alloc, tokens, self.words(tokens, end), span, &mut judge)?;
         Ok((answer, judge.asked()))
     }
 
     /// The shapes as bits.
     #[inline(always)]
-    fn words(&self, tokens: &[Token<Bracket<A>>]) -> &[ShapeWord]
-        requires first { IsShapeWord (map shape_of tokens.now) 0 self.now.first }
-        requires all { 63 < length tokens.now
-            → AreShapeWords (map shape_of tokens.now) self.now.words.items }
-        ensures words { AreShapeWords (map shape_of tokens.now) result.now }
-        ensures short { length tokens.now < 64 → length result.now ≡ 1 }
+    fn words(&self, tokens: &[Token<Bracket<A>>], end: usize) -> &[ShapeWord]
+        requires { IsAutomaton tokens.now end self.now }
+        ensures words { AreShapeWords (map shape_of tokens.now) end result.now }
+        ensures short { end < 64 → length result.now ≡ 1 }
     {
-        if tokens.len() <= WORD {
+        if end <= WORD {
             slice::from_ref(&self.first)
         } else {
             self.words.as_slice()
@@ -129,9 +124,9 @@ impl<A: Allocator + Copy> Automaton<A> {
     #[inline(always)]
     fn accepting(&self, options: MatchOptions) -> u64
         ensures { (tokens : List TokenOf) (end : ℕ) → IsAutomaton tokens end self.now
-            → end ≤ length tokens → (opening : Bool) (text : Text) (j : ℕ) → IsBitSet result j
-            → TakesRest (table_within opening options tokens text) (map shape_of tokens) end
-            (63 * word_before end + j) }
+            → (opening : Bool) (text : Text) (j : ℕ) → IsBitSet result j
+            → TakesRest (table_within opening options (take end tokens) text) (map shape_of tokens)
+            end (63 * word_before end + j) }
     {
         if has_rules(options) {
             0
@@ -156,13 +151,4 @@ fn free_end<A: Allocator>(tokens: &[Token<Bracket<A>>], end: usize) -> u64
         Shape::Deep if end == tokens.len() => last,
         Shape::One | Shape::Deep => 0,
     }
-}
-
-/// How many words of 63 the tokens fill.
-#[inline(always)]
-fn words_of<A: Allocator>(tokens: &[Token<Bracket<A>>]) -> usize
-    ensures enough { length tokens.now ≤ 63 * result }
-    ensures few { 63 * result < length tokens.now + 63 }
-{
-    tokens.len().div_ceil(WORD)
 }

@@ -85,16 +85,16 @@ impl<A: Allocator + Copy> Compiled<A> {
     {
         let list = tokens.as_slice();
         let ends = Ends::of(list);
-        let middle = ends.middle(list);
-        let between = list.len() - ends.lead - ends.trail;
+        let rest = &list[ends.lead..];
+        let between = list.len() - ends.trail - ends.lead;
         // Of fewer than three tokens none is a literal between others.
         let needle = if between < 3 {
             Needle::NONE
         } else {
-            Needle::of(&middle[..between.min(SEARCHED)])
+            Needle::of(&rest[..between.min(SEARCHED)])
         };
         Ok(Compiled {
-            automaton: Automaton::new(alloc, middle, between)?,
+            automaton: Automaton::new(alloc, rest, between)?,
             tokens,
             ends,
             needle,
@@ -187,17 +187,17 @@ impl<A: Allocator + Copy> Compiled<A> {
         let Some(part) = ends.strip(tokens, pattern, text, options) else {
             return Ok((false, asked));
         };
-        let between = tokens.len() - ends.lead - ends.trail;
+        let between = tokens.len() - ends.trail - ends.lead;
         if between == 0 {
             return Ok((part.text.is_empty(), asked));
         }
         if !self.needle.may_be_in(part.text.as_bytes()) {
             return Ok((false, asked));
         }
-        let middle = ends.middle(tokens);
+        let rest = &tokens[ends.lead..];
         let (answer, count) = self
             .automaton
-            .matches(middle, between, part.text, part.opening, options)?;
+            .matches(rest, between, part.text, part.opening, options)?;
         Ok((answer, asked + count))
     }
 
@@ -220,9 +220,15 @@ impl<A: Allocator + Copy> Compiled<A> {
         let tokens = self.tokens.as_slice();
         let alloc = *self.tokens.allocator();
         if tokens.len() <= WORD {
-            ask_all(alloc, tokens, &[ShapeWord::new(tokens, 0)], text, options)
+            ask_all(
+                alloc,
+                tokens,
+                &[ShapeWord::new(tokens, tokens.len(), 0)],
+                text,
+                options,
+            )
         } else {
-            let words = shape_words(alloc, tokens)?;
+            let words = shape_words(alloc, tokens, tokens.len())?;
             ask_all(alloc, tokens, words.as_slice(), text, options)
         }
     }
@@ -238,7 +244,7 @@ fn ask_all<A: Allocator + Copy>(
     text: &str,
     options: MatchOptions,
 ) -> Result<(bool, u128), AllocError>
-    requires { AreShapeWords (map shape_of tokens.now) words.now }
+    requires { AreShapeWords (map shape_of tokens.now) (length tokens.now) words.now }
     ensures answer { IfOk result
         (λ counted. IsTrue counted.0 ↔ TokensMatch options tokens.now (chars text.now)) }
     ensures most { IfOk result

@@ -6,7 +6,7 @@ ghost use Rattle.std.specs.Str.{IsUtf8};
 ghost use Rattle.glob_pattern.specs.Grammar.Tokens.{shape_of};
 ghost use Rattle.glob_pattern.specs.Grammar.Units.{HasTokens};
 ghost use Rattle.glob_pattern.specs.Matching.Texts.{TokensMatch};
-ghost use Rattle.glob_pattern.specs.Private.Ends.{HasOnes, HasLiterals, IsEnds, SameBytes, HasEnds, middle_of};
+ghost use Rattle.glob_pattern.specs.Private.Ends.{HasOnes, HasLiterals, IsEnds, SameBytes, HasEnds};
 ghost use Rattle.glob_pattern.specs.Private.Parts.{Leaves};
 ghost use Rattle.glob_pattern.specs.Private.TextTable.{opens_within};
 
@@ -85,18 +85,6 @@ impl Ends {
             prefix: leading_literals(&tokens[..lead]),
             suffix: trailing_literals(&tokens[tokens.len() - trail..]),
         }
-    }
-
-    /// The tokens between the ends, and the first of those after them, if there are any.
-    #[inline(always)]
-    pub fn middle<'a, A: Allocator>(
-        &self,
-        tokens: &'a [Token<Bracket<A>>],
-    ) -> &'a [Token<Bracket<A>>]
-        requires { IsEnds tokens.now self.now }
-        ensures { result.now ≡ middle_of tokens.now self.now }
-    {
-        &tokens[self.lead..tokens.len() - self.trail.saturating_sub(1)]
     }
 
     /// Whether the bytes begin and end with the pattern's literals. They need not be UTF-8.

@@ -1,30 +1,46 @@
 -- All shapes, in one word or in several.
-use Rattle.std.proofs.Common.{◌≡◌, ◌<◌, ◌↔◌, ℕ, List, Bool, Result, IfOk, IsTrue, length, arith}
+use Rattle.std.proofs.Common.{◌≡◌, ◌+◌, ◌*◌, ◌^◌, ◌<◌, ◌≤◌, ◌↔◌, ℕ, List, Bool, Result, IfOk, IsTrue, length, arith}
 use Rattle.std.proofs.lemmas.List.{map-id}
 use Rattle.std.proofs.lemmas.Result.{IfOk-weaker}
 use Rattle.glob_pattern.specs.Matching.Splits.{Table, Splits}
-use Rattle.glob_pattern.specs.Private.Prefixes.{IsAlive}
+use Rattle.glob_pattern.specs.Private.Positions.{AreShapeWords, CanRun}
+use Rattle.glob_pattern.specs.Private.Prefixes.{PrefixSplits}
 use Rattle.glob_pattern.specs.declared.matcher.Shape.{Shape}
-use Rattle.glob_pattern.proofs.PositionLemmas.Alive.{Splits-iff_alive}
-use Rattle.glob_pattern.proofs.PositionLemmas.Running.{one-word, CanRun-all}
+use Rattle.glob_pattern.specs.declared.matcher.positions.Span.{Span}
+use Rattle.glob_pattern.specs.declared.matcher.shape_word.ShapeWord.{ShapeWord}
+use Rattle.glob_pattern.proofs.BitLemmas.SetBits.{IsBitSet-zero}
+use Rattle.glob_pattern.proofs.PositionLemmas.Prefixes.{Splits-iff_prefix}
+use Rattle.glob_pattern.proofs.PositionLemmas.Running.{one-word}
 use Rattle.glob_pattern.proofs.matcher.run_positions.Goals as goal
 
--- whether all shapes are alive at the end is whether they split the characters
+-- whether all shapes are whole at the end is whether they split the characters
 Splits-answer : {E : Type 0} (table : Table) (shapes : List Shape) (end : ℕ) (r : Result Bool E) → end ≡ length shapes
-    → IfOk r (λ yes. IsTrue yes ↔ IsAlive table shapes end table.characters)
+    → IfOk r (λ yes. IsTrue yes ↔ PrefixSplits table shapes end table.characters)
     → IfOk r (λ yes. IsTrue yes ↔ Splits table shapes)
 Splits-answer table shapes end r all answer =
-    let split = Splits-iff_alive table shapes in
+    let split = Splits-iff_prefix table shapes in
     IfOk-weaker r _ _ (λ yes h. (λ t. split.1 (h.0 t), λ s. h.1 (split.0 s))) (rw all at answer)
+
+-- a run over all shapes
+CanRun-all : (table : Table) (shapes : List Shape) (words : List ShapeWord) (span : Span) (k count : ℕ) → AreShapeWords shapes span.end words
+    → span.end ≡ length shapes → span.accepting ≡ 0 → span.end < 2 ^ 64 → length shapes ≤ table.tokens → k ≡ 0 → count + length shapes * table.characters < 2 ^ 128
+    → CanRun table shapes words span k count
+CanRun-all table shapes words span k count shaped end accepting fits tokens place room = record {
+  shaped = shaped;
+  fits = fits;
+  tokens = omega (arith, end, tokens);
+  place = place;
+  accepting = λ j set. absurd (IsBitSet-zero j (rw accepting at set));
+  room = rw end room;
+}
 
 pub decide-requires : goal.decide-requires
 decide-requires g c =
     let span = c.all-span.ensures in
     let shapes = c.args.shapes.now in
     let same = map-id shapes in
-    let few : length shapes < 64 = omega (arith, c.if-shapes-le-WORD.true) in
     rw same (CanRun-all (g.J.Judge.table c.args.judge.now) shapes _ c.all-span.result _ _
-    (one-word shapes c.new.result few (rw same at c.new.ensures))
+    (one-word shapes c.all-span.result.end c.new.result (omega (arith, c.if-shapes-le-WORD.true, span.end)) (omega (arith, span.end)) (rw same at c.new.ensures))
     span.end span.accepting (omega arith) c.requires.tokens c.requires.start c.requires.room)
 
 pub decide-requires-else-shapes-le-WORD : goal.decide-requires-else-shapes-le-WORD
@@ -50,10 +66,10 @@ returns-in_ok-words-clause-answer g c =
     (rw (map-id shapes) at run.ensures.answer)
 
 pub returns-then-shapes-le-WORD-clause-most : goal.returns-then-shapes-le-WORD-clause-most
-returns-then-shapes-le-WORD-clause-most g c = rw (map-id c.args.shapes.now) at c.decide.ensures.most
+returns-then-shapes-le-WORD-clause-most g c = rw c.all-span.ensures.end at c.decide.ensures.most
 
 pub returns-in_ok-words-clause-most : goal.returns-in_ok-words-clause-most
-returns-in_ok-words-clause-most g c = rw (map-id c.args.shapes.now) at c.decide-else-shapes-le-WORD.ensures.most
+returns-in_ok-words-clause-most g c = rw c.all-span.ensures.end at c.decide-else-shapes-le-WORD.ensures.most
 
 pub returns-then-shapes-le-WORD-clause-least : goal.returns-then-shapes-le-WORD-clause-least
 returns-then-shapes-le-WORD-clause-least g c = IfOk-weaker c.decide.result _ _ (λ yes asks t. asks t c.all-span.ensures.accepting) c.decide.ensures.least

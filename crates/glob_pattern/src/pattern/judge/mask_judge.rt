@@ -1,50 +1,46 @@
 //! A judge that asks all tokens of a word at once.
 ghost use Rattle.glob_text.specs.Characters.{slash};
 ghost use Rattle.glob_pattern.specs.Private.Classes.{partition_of};
-ghost use Rattle.std.specs.Prelude.{◌≡◌, ◌*◌, ◌<◌, ◌≤◌, ◌==◌, length, take, chars};
+ghost use Rattle.std.specs.Prelude.{◌≡◌, ◌*◌, ◌<◌, ◌≤◌, ◌==◌, length, chars};
 ghost use Rattle.std.specs.Str.Iter.{chars_rest};
 ghost use Rattle.glob_pattern.specs.Private.CharMasks.{AreCharMasks, AreRowsOf, class_of};
 ghost use Rattle.glob_pattern.specs.Private.Stepping.{place_before};
-ghost use Rattle.glob_pattern.specs.Private.TextTable.{table_within, table_before};
+ghost use Rattle.glob_pattern.specs.Private.TextTable.{table_within};
 
 use super::TextJudge;
 use crate::matcher::Judge;
 use crate::pattern::char_masks::{CharMasks, Rows};
 use std::alloc::Allocator;
 
-/// A judge that reads from masks which tokens take a character. Those from number `end` on take nothing: it is not asked
-/// what follows the tokens that have to split a text.
+/// A judge that reads from masks which tokens take a character.
 #[derive(Drop)]
 pub struct MaskJudge<'a, A: Allocator> {
     judge: TextJudge<'a, A>,
     rows: Rows<'a>,
-    end: usize,
     // how many words the masks have
     words: usize,
     // the class of the character last stepped over
     class: usize,
     ghost enough: { length judge.tokens.now ≤ 63 * words },
-    ghost masked: { AreRowsOf (take end judge.tokens.now) words judge.options.case_sensitive rows },
+    ghost masked: { AreRowsOf judge.tokens.now words judge.options.case_sensitive rows },
     ghost classed: { 0 < place_before (chars judge.text.now) (chars (chars_rest judge.rest))
         → class ≡ class_of (partition_of rows.classes) judge.options (judge.before == slash)
         judge.current },
 }
 
 impl<'a, A: Allocator> MaskJudge<'a, A> {
-    /// The judge, which has not stepped, with the masks of its tokens before number `end`, of so many words.
+    /// The judge, which has not stepped, with the masks of its tokens, of so many words.
     #[inline(always)]
-    pub fn new(judge: TextJudge<'a, A>, masks: &'a CharMasks<A>, end: usize, words: usize) -> Self
+    pub fn new(judge: TextJudge<'a, A>, masks: &'a CharMasks<A>, words: usize) -> Self
         requires enough { length judge.tokens.now ≤ 63 * words }
-        requires masks { AreCharMasks (take end judge.tokens.now) words masks.now }
+        requires masks { AreCharMasks judge.tokens.now words masks.now }
         requires start { place_before (chars judge.text.now) (chars (chars_rest judge.rest)) ≡ 0 }
-        ensures judge { result.judge ≡ judge.entry }
-        ensures end { result.end ≡ end }
+        ensures { result.judge ≡ judge.entry }
     {
         let rows = masks.rows(judge.options.case_sensitive);
         MaskJudge {
             judge,
             rows,
-            end,
             words,
             class: 0,
         }
@@ -53,8 +49,8 @@ impl<'a, A: Allocator> MaskJudge<'a, A> {
 
 #[tactic(auto, unfolding(crate::specs::Private::TextTable::table_within))]
 impl<A: Allocator> Judge for MaskJudge<'_, A> {
-    ghost table = { λ j. table_before (table_within j.judge.opening j.judge.options
-        j.judge.tokens.now (chars j.judge.text.now)) j.end };
+    ghost table = { λ j. table_within j.judge.opening j.judge.options j.judge.tokens.now
+        (chars j.judge.text.now) };
 
     ghost place = { λ j. place_before (chars j.judge.text.now) (chars (chars_rest j.judge.rest)) };
 
@@ -80,7 +76,7 @@ impl<A: Allocator> Judge for MaskJudge<'_, A> {
     #[inline(always)]
     fn takes(&mut self, token: usize) -> bool {
         self.judge.count += 1;
-        token < self.end && self.judge.is_taken(token)
+        self.judge.is_taken(token)
     }
 
     #[inline(always)]

@@ -11,7 +11,7 @@ loop-live-init g c =
     let start = c.set_start-live.ensures in
     record {
       count = start.length;
-      run = HasRun-start (g.J.Judge.table c.args.judge.now) (map g.T.Shaped.shape c.args.tokens.now) _ _ _ ready.place (start.alive (g.J.Judge.table c.args.judge.now) (rw ready.place at c.opens.ensures));
+      run = HasRun-start (g.J.Judge.table c.args.judge.now) (map g.T.Shaped.shape c.args.tokens.now) c.args.span.end _ _ _ ready.place (start.alive (g.J.Judge.table c.args.judge.now) (rw ready.place at c.opens.ensures));
       live = start.live;
       same = refl;
     }
@@ -24,7 +24,7 @@ step_words-live-requires g c =
     let same = c.step.ensures.same ∙ i.same in
     let (next, within) = rw same at (c.step.ensures.stepped c.if-not-step.false) in
     let back : g.J.Judge.place c.step.new.self - 1 ≡ g.J.Judge.place c.loop-live.judge = omega (arith, next) in
-    let room = HasRun-room (g.J.Judge.table c.args.judge.now) shapes _ _ _ _ i.run (omega (arith, next, within)) ready.room in
+    let room = HasRun-room (g.J.Judge.table c.args.judge.now) shapes c.args.span.end _ _ _ _ i.run (omega (arith, next, within)) ready.room in
     rw same (record {
       shaped = ready.shaped;
       many = i.count ∙ c.requires.length;
@@ -46,7 +46,7 @@ loop-live-preserved g c =
     let s = rw (same, c.step.ensures.count) at c.step_words-live.ensures in
     record {
       count = s.stepped.many ∙ i.count;
-      run = rw s.place (HasRun-stepped T shapes _ _ _ c.loop-live.alive i.run _ _ c.step_words-live.new.alive next within s.stepped.asked s.stepped.alive);
+      run = rw s.place (HasRun-stepped T shapes c.args.span.end _ _ _ c.loop-live.alive i.run _ _ c.step_words-live.new.alive c.requires.ready.shaped.within next within s.stepped.asked s.stepped.alive);
       live = s.live;
       same = s.same;
     }
@@ -56,17 +56,11 @@ loop-live-smaller g c =
     let (next, within) = rw (c.step.ensures.same ∙ c.loop-live.invariant.same) at (c.step.ensures.stepped c.if-not-step.false) in
     omega (arith, next, within, c.step_words-live.ensures.place)
 
-pub is_alive-requires-clause-some : goal.is_alive-requires-clause-some
-is_alive-requires-clause-some g c = rw (c.loop-live.invariant.count, c.requires.length) c.requires.ready.shaped.some
+pub is_whole-requires-clause-some : goal.is_whole-requires-clause-some
+is_whole-requires-clause-some g c = rw (c.loop-live.invariant.count, c.requires.length) c.requires.ready.shaped.some
 
-pub is_alive-requires-clause-all : goal.is_alive-requires-clause-all
-is_alive-requires-clause-all g c = rw (c.loop-live.invariant.count, c.requires.length) c.requires.ready.shaped.all
-
-pub is_alive-requires-clause-within : goal.is_alive-requires-clause-within
-is_alive-requires-clause-within g c = c.requires.ready.end
-
-pub is_alive-requires-clause-one : goal.is_alive-requires-clause-one
-is_alive-requires-clause-one g c = c.requires.ready.one
+pub is_whole-requires-clause-all : goal.is_whole-requires-clause-all
+is_whole-requires-clause-all g c = rw (c.loop-live.invariant.count, c.requires.length) c.requires.ready.shaped.all
 
 pub returns-then-not-step-clause-decided : goal.returns-then-not-step-clause-decided
 returns-then-not-step-clause-decided g c =
@@ -74,14 +68,14 @@ returns-then-not-step-clause-decided g c =
     let T = g.J.Judge.table c.args.judge.now in
     let (stays, ended) = c.step.ensures.ended c.if-not-step.true in
     rw c.step.ensures.count
-    (HasDecided-ended T (map g.T.Shaped.shape c.args.tokens.now) c.args.span _ _ _ _ i.run c.requires.ready.end c.is_alive.result (sym (rw (c.step.ensures.same, i.same) at ended)) (c.is_alive.ensures T _ i.run.alive))
+    (HasDecided-ended T (map g.T.Shaped.shape c.args.tokens.now) c.args.span _ _ _ _ i.run c.requires.ready.shaped.within c.is_whole.result (sym (rw (c.step.ensures.same, i.same) at ended)) (c.is_whole.ensures T _ i.run.alive))
 
 pub returns-clause-decided : goal.returns-clause-decided
 returns-clause-decided g c =
     let i = c.loop-live.invariant in
     let ready = c.requires.ready in
     let long : length c.loop-live.alive ≡ length c.args.words.now = i.count ∙ c.requires.length in
-    HasDecided-dead (g.J.Judge.table c.args.judge.now) (map g.T.Shaped.shape c.args.tokens.now) c.args.span _ _ _ _ i.run ready.end
+    HasDecided-dead (g.J.Judge.table c.args.judge.now) (map g.T.Shaped.shape c.args.tokens.now) c.args.span _ _ _ _ i.run ready.shaped.within
     (rw long ready.shaped.all) (rw long ready.shaped.some) (λ m lt. i.live.none m lt (inr (omega (arith, c.loop-live-test.false))))
 
 pub returns-then-alive-last-ne0-clause-decided : goal.returns-then-alive-last-ne0-clause-decided
@@ -91,5 +85,5 @@ returns-then-alive-last-ne0-clause-decided g c =
     let long : length c.loop-live.alive ≡ length c.args.words.now = i.count ∙ c.requires.length in
     let fits : get_or c.loop-live.alive c.word_before-last.result 0 < 2 ^ 64 = omega arith in
     let meets : 0 < bit_and (get_or c.loop-live.alive c.word_before-last.result 0) c.args.span.accepting = omega (arith, c.if-alive-last-ne0.true) in
-    HasDecided-accepting (g.J.Judge.table c.args.judge.now) (map g.T.Shaped.shape c.args.tokens.now) c.args.span _ _ _ c.loop-live.alive i.run ready.end
-    (omega (arith, long, ready.shaped.all, ready.shaped.some, ready.end)) (rw c.word_before-last.ensures at fits) (rw c.word_before-last.ensures at meets) ready.one ready.accepting
+    HasDecided-accepting (g.J.Judge.table c.args.judge.now) (map g.T.Shaped.shape c.args.tokens.now) c.args.span _ _ _ c.loop-live.alive i.run ready.shaped.within
+    (omega (arith, long, ready.shaped.all, ready.shaped.some)) (rw c.word_before-last.ensures at fits) (rw c.word_before-last.ensures at meets) ready.accepting

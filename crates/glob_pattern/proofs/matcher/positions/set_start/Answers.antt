@@ -24,10 +24,10 @@ loop-n-preserved g c =
     let word = c.step-word.result in
     let long : length (set list n word) ≡ length list = length-set list n word in
     let lt : n < length list = omega (arith, i.count) in
-    let from : 63 * n ≤ length shapes = omega (arith, i.count, c.requires.words.few, c.requires.length) in
+    let from : 63 * n ≤ c.args.end = omega (arith, i.count, c.requires.words.few, c.requires.length) in
     let are = c.requires.words.word n (record { tokens = 0; wildcards = 0; recursive = 0 }) (omega (arith, i.count, c.requires.length)) in
-    let next : (table : Table) → c.args.opens ≡ table.opens 0 → AreAlive table shapes 0 0 (n + 1) (set list n word) = λ table opens.
-    AreAlive-set table shapes 0 n list word (i.done table opens) lt (c.step-word.ensures table shapes (63 * n) 0 from are (IsTakenWord-none table shapes (63 * n)) opens (i.whole table opens from)) in
+    let next : (table : Table) → c.args.opens ≡ table.opens 0 → AreAlive table shapes c.args.end 0 0 (n + 1) (set list n word) = λ table opens.
+    AreAlive-set table shapes c.args.end 0 n list word (i.done table opens) lt (c.step-word.ensures table shapes c.args.end (63 * n) 0 from c.requires.words.within are (IsTakenWord-none table shapes c.args.end (63 * n)) opens (i.whole table opens from)) in
     record {
       count = long ∙ i.count;
       zeros = λ m low below.
@@ -36,7 +36,7 @@ loop-n-preserved g c =
       done = next;
       whole = λ table opens le.
           let at : n + 1 - 1 ≡ n = omega arith in
-          carry-whole table shapes 0 (n + 1) _ (next table opens) (omega arith) le word (omega arith) (rw (at, get_or-set_same list n word 0 lt) cc);
+          carry-whole table shapes c.args.end 0 (n + 1) _ (next table opens) (omega arith) le word (omega arith) (rw (at, get_or-set_same list n word 0 lt) cc);
     }
 
 pub returns-clause-live : goal.returns-clause-live
@@ -58,9 +58,9 @@ returns-then-not-whole-clause-alive g c = λ table opens.
     let i = c.loop-n.invariant in
     let shapes = map g.T.Shaped.shape c.args.tokens.now in
     let n = c.loop-n.n in
-    let few : 63 * (length c.loop-n.alive - 1) ≤ length shapes = omega (arith, i.count, c.requires.length, c.requires.words.few) in
-    let from : 63 * n ≤ length shapes = omega (arith, i.count, few) in
-    AreAlive-zeros table shapes c.loop-n.alive n (length c.loop-n.alive) 0 (i.done table opens) few
+    let few : 63 * (length c.loop-n.alive - 1) ≤ c.args.end = omega (arith, i.count, c.requires.length, c.requires.words.few) in
+    let from : 63 * n ≤ c.args.end = omega (arith, i.count, few) in
+    AreAlive-zeros table shapes c.args.end c.loop-n.alive n (length c.loop-n.alive) 0 (i.done table opens) c.requires.words.within few
     (λ lt whole. false≢true (sym c.if-not-whole.true ∙ (i.whole table opens from).1 whole))
     (λ t low below within taken. HasTaken-none table shapes t taken)
     i.zeros

@@ -15,7 +15,7 @@ loop-n-preserved g c =
       count = omega (arith, length-append words (c.new.result ∷ []), i.count);
       word = λ m d lt.
           ⊎_elim
-          (λ e. let at : get_or (words ++ c.new.result ∷ []) m d ≡ c.new.result = get_or_push words c.new.result d m (omega (arith, e, i.count)) in rw at (subst (λ n. IsShapeWord (map g.T.Shaped.shape c.args.tokens.now) (63 * n) c.new.result) (sym e) c.new.ensures))
+          (λ e. let at : get_or (words ++ c.new.result ∷ []) m d ≡ c.new.result = get_or_push words c.new.result d m (omega (arith, e, i.count)) in rw at (subst (λ n. IsShapeWord (map g.T.Shaped.shape c.args.tokens.now) c.args.end (63 * n) c.new.result) (sym e) c.new.ensures))
           (λ ne. let at : get_or (words ++ c.new.result ∷ []) m d ≡ get_or words m d = get_or_append_left words (c.new.result ∷ []) d m (omega (arith, ne, lt, i.count)) in rw at (i.word m d (omega arith)))
           (cases_eq m c.loop-n.n);
     })
@@ -26,16 +26,16 @@ loop-n-smaller g c = omega arith
 pub overflow_mul-n : goal.overflow_mul-n
 overflow_mul-n g c = omega (arith, c.div_ceil.ensures, c.max-count.ensures)
 
-pub new-requires : goal.new-requires
-new-requires g c = omega (arith, c.div_ceil.ensures, c.max-count.ensures)
+pub new-requires-clause-start : goal.new-requires-clause-start
+new-requires-clause-start g c = omega (arith, c.div_ceil.ensures, c.max-count.ensures)
 
 pub returns : goal.returns
 returns g c =
     let i = c.loop-n.invariant in
-    let long = length-map c.args.tokens.now g.T.Shaped.shape in
     record {
+      within = omega (arith, length-map c.args.tokens.now g.T.Shaped.shape, c.requires);
       some = omega (arith, i.count, c.max-count.ensures);
-      all = omega (arith, i.count, long, c.div_ceil.ensures, c.max-count.ensures);
-      few = omega (arith, i.count, long, c.div_ceil.ensures, c.max-count.ensures);
+      all = omega (arith, i.count, c.div_ceil.ensures, c.max-count.ensures);
+      few = omega (arith, i.count, c.div_ceil.ensures, c.max-count.ensures);
       word = λ k d lt. i.word k d (omega (arith, lt, i.count));
     }

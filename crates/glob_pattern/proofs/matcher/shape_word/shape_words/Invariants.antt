@@ -6,5 +6,5 @@ use Rattle.glob_pattern.proofs.matcher.shape_word.shape_words.Given as goal
 abbrev pub invariant-loop-n : goal.invariant-loop-n
 invariant-loop-n g l = record {
   count : length l.words.items ≡ l.n;
-  word : (i : ℕ) (d : ShapeWord) → i < l.n → IsShapeWord (map g.T.Shaped.shape l.tokens) (63 * i) (slice_index_or l.words.items i d);
+  word : (i : ℕ) (d : ShapeWord) → i < l.n → IsShapeWord (map g.T.Shaped.shape l.tokens) l.end (63 * i) (slice_index_or l.words.items i d);
 }

@@ -27,6 +27,5 @@ loop-n-init g c = record {
 
 pub returns : goal.returns
 returns g c =
-    let shapes = map g.T.Shaped.shape c.args.tokens.now in
-    let end : c.loop-n.n ≡ word_end shapes c.args.start = omega (arith, length-map c.args.tokens.now g.T.Shaped.shape) in
-    subst (λ e. HasShapes shapes c.args.start e c.loop-n.word) end c.loop-n.invariant
+    let border : c.loop-n.n ≡ word_end c.args.end c.args.start = omega arith in
+    subst (λ e. HasShapes (map g.T.Shaped.shape c.args.tokens.now) c.args.start e c.loop-n.word) border c.loop-n.invariant

@@ -4,8 +4,8 @@ use Rattle.glob_pattern.proofs.MatchingLemmas.Freely.{TakesRest-freely}
 use Rattle.glob_pattern.proofs.pattern.automaton.Automaton.accepting.Goals as goal
 
 pub returns-then-has_rules : goal.returns-then-has_rules
-returns-then-has_rules g c = λ tokens end is within opening text j set. absurd (IsBitSet-zero j set)
+returns-then-has_rules g c = λ tokens end is opening text j set. absurd (IsBitSet-zero j set)
 
 pub returns-else-has_rules : goal.returns-else-has_rules
-returns-else-has_rules g c = λ tokens end is within opening text j set.
-    TakesRest-freely opening c.args.options tokens text end _ (sym c.has_rules.ensures ∙ c.if-has_rules.false) within (is.accepting j set)
+returns-else-has_rules g c = λ tokens end is opening text j set.
+    TakesRest-freely opening c.args.options tokens text end _ (sym c.has_rules.ensures ∙ c.if-has_rules.false) is.within (is.accepting j set)

@@ -5,6 +5,7 @@ use Rattle.glob_pattern.proofs.pattern.automaton.Automaton.empty.Goals as goal
 
 pub returns : goal.returns
 returns g c = record {
+  within = omega arith;
   first_word = record {
     tokens = λ j lt. (λ set. absurd (IsBitSet-zero j set), λ below. absurd (omega arith));
     wildcards = λ j lt. (λ set. absurd (IsBitSet-zero j set), λ here. absurd (omega (arith, here.0)));

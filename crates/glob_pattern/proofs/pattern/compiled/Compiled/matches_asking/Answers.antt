@@ -1,16 +1,16 @@
-use Rattle.std.proofs.Common.{◌≡◌, ℕ, ◌+◌, ◌-◌, ◌*◌, ◌≤◌, ◌∙◌, List, length, chars, sym, ap, subst, suc, ⊎_elim, arith}
+use Rattle.std.proofs.Common.{◌≡◌, ℕ, ◌+◌, ◌-◌, ◌*◌, ◌≤◌, ◌∙◌, List, length, drop, chars, sym, ap, subst, suc, ⊎_elim, arith}
 use Rattle.std.proofs.Math.Nat.{mul-suc, mul-le-mul_left, mul-le-mul_right}
 use Rattle.std.proofs.lemmas.Bool.{cases_eq, eqb-true, eq-eqb, false≢true}
-use Rattle.std.proofs.lemmas.List.{length-map, nil_from_length}
+use Rattle.std.proofs.lemmas.List.{length-drop, length-map, nil_from_length}
 use Rattle.std.proofs.lemmas.Str.{encodes-chars}
 use Rattle.std.specs.Str.{IsUtf8, encode_utf8_all}
 use Rattle.glob_pattern.specs.Grammar.Tokens.{Token, shape_of}
 use Rattle.glob_pattern.specs.Matching.Texts.{TokensMatch}
-use Rattle.glob_pattern.specs.Private.Ends.{IsEnds, middle_of}
+use Rattle.glob_pattern.specs.Private.Ends.{IsEnds}
 use Rattle.glob_pattern.specs.declared.pattern.ends.Ends.{Ends}
 use Rattle.glob_pattern.proofs.Counts.{length-chars, product_fits}
 use Rattle.glob_pattern.proofs.MatchingLemmas.Needles.{ContainsFolded-from_part}
-use Rattle.glob_pattern.proofs.MatchingLemmas.Stripped.{SplitsPart-none, EndsAt-middle, few-middle, match-iff_middle}
+use Rattle.glob_pattern.proofs.MatchingLemmas.Stripped.{SplitsPart-none, range-end}
 use Rattle.glob_pattern.proofs.pattern.compiled.Compiled.matches_asking.Goals as goal
 
 -- the questions of the ends, where a token is asked twice if there is one and a text
@@ -45,52 +45,45 @@ returns-then-not-may_be_in-clause-most g c =
 pub returns-then-between-eq0-clause-answer : goal.returns-then-between-eq0-clause-answer
 returns-then-between-eq0-clause-answer g c =
     let read = c.as_slice-tokens.ensures.value ∙ c.self.view_is in
-    let is = subst (λ ts. IsEnds ts c.self.inside.ends) (sym c.as_slice-tokens.ensures.value) c.self.invariant.at_ends in
-    let found = match-iff_middle c.as_slice-tokens.result.now c.self.inside.ends is c.args.options c.args.text.now c.in-Some.part.text.now c.in-Some.part.opening c.in-Some.ensures in
+    let left = rw c.if-between-eq0.true at c.in-Some.ensures.match in
     let none = SplitsPart-none c.args.options c.in-Some.part.opening _ c.in-Some.part.text.now c.in-Some.ensures.utf8 in
     rw (← read) (
-      λ t. found.1 (rw c.if-between-eq0.true (none.1 (eqb-true _ _ (sym c.is_empty.ensures ∙ t)))),
-      λ m. c.is_empty.ensures ∙ eq-eqb _ _ (none.0 (rw c.if-between-eq0.true at (found.0 m))),
+      λ t. left.1 (none.1 (eqb-true _ _ (sym c.is_empty.ensures ∙ t))),
+      λ m. c.is_empty.ensures ∙ eq-eqb _ _ (none.0 (left.0 m)),
     )
 
 pub returns-then-not-may_be_in-clause-answer : goal.returns-then-not-may_be_in-clause-answer
 returns-then-not-may_be_in-clause-answer g c =
+    let tokens = c.self.inside.tokens.items in
     let ends = c.self.inside.ends in
-    let left = rw c.as_slice-tokens.ensures.value at c.in-Some.ensures in
-    let found = match-iff_middle c.self.inside.tokens.items ends c.self.invariant.at_ends c.args.options c.args.text.now c.in-Some.part.text.now c.in-Some.part.opening left in
-    let is = EndsAt-middle c.self.inside.tokens.items ends c.self.invariant.at_ends in (
+    let left = rw c.as_slice-tokens.ensures.value at c.in-Some.ensures in (
       λ t. absurd (false≢true t),
       λ m. absurd (false≢true (sym c.if-not-may_be_in.true ∙ (rw c.as_bytes.ensures.value at c.may_be_in.ensures)
-          (ContainsFolded-from_part c.args.options c.in-Some.part.opening (middle_of c.self.inside.tokens.items ends) (length c.self.inside.tokens.items - ends.lead - ends.trail)
-          c.self.inside.needle c.in-Some.part.text.now is.within c.self.invariant.inside left.utf8
-          (found.0 (subst (λ ts. TokensMatch c.args.options ts (chars c.args.text.now)) (sym c.self.view_is) m))))),
+          (ContainsFolded-from_part c.args.options c.in-Some.part.opening (drop ends.lead tokens) (length tokens - ends.trail - ends.lead)
+          c.self.inside.needle c.in-Some.part.text.now (omega (arith, length-drop ends.lead tokens)) c.self.invariant.inside left.utf8
+          (left.match.0 (subst (λ ts. TokensMatch c.args.options ts (chars c.args.text.now)) (sym c.self.view_is) m))))),
     )
 
-pub matches-requires-clause-end : goal.matches-requires-clause-end
-matches-requires-clause-end g c =
-    let is = subst (λ ts. IsEnds ts c.self.inside.ends) (sym c.as_slice-tokens.ensures.value) c.self.invariant.at_ends in
-    rw c.middle-middle.ensures (EndsAt-middle c.as_slice-tokens.result.now c.self.inside.ends is)
+pub matches-requires : goal.matches-requires
+matches-requires g c = rw (range-end c.as_slice-tokens.result.now c.self.inside.ends.lead, c.as_slice-tokens.ensures.value) c.self.invariant.between
 
 pub returns-clause-answer : goal.returns-clause-answer
 returns-clause-answer g c =
     let read = c.as_slice-tokens.ensures.value ∙ c.self.view_is in
-    let is = subst (λ ts. IsEnds ts c.self.inside.ends) (sym c.as_slice-tokens.ensures.value) c.self.invariant.at_ends in
-    let found = match-iff_middle c.as_slice-tokens.result.now c.self.inside.ends is c.args.options c.args.text.now c.in-Some.part.text.now c.in-Some.part.opening c.in-Some.ensures in
-    let answer = rw c.middle-middle.ensures at c.in_ok-answer.ensures.answer in
-    rw (← read) (λ t. found.1 (answer.0 t), λ m. answer.1 (found.0 m))
+    let answer = rw (range-end c.as_slice-tokens.result.now c.self.inside.ends.lead) at c.in_ok-answer.ensures.answer in
+    let left = c.in-Some.ensures.match in
+    rw (← read) (λ t. left.1 (answer.0 t), λ m. answer.1 (left.0 m))
 
 pub returns-in_err-answer-clause-short : goal.returns-in_err-answer-clause-short
 returns-in_err-answer-clause-short g c = λ lt.
-    let is = subst (λ ts. IsEnds ts c.self.inside.ends) (sym c.as_slice-tokens.ensures.value) c.self.invariant.at_ends in
-    let few = few-middle c.as_slice-tokens.result.now c.self.inside.ends is in
-    absurd (false≢true (c.in_err-answer.ensures.short (omega (arith, lt, few, ap length c.middle-middle.ensures, ap length (c.as_slice-tokens.ensures.value ∙ c.self.view_is)))))
+    absurd (false≢true (c.in_err-answer.ensures.short (omega (arith, lt, ap length (c.as_slice-tokens.ensures.value ∙ c.self.view_is)))))
 
 pub returns-clause-most : goal.returns-clause-most
 returns-clause-most g c =
     let tokens = c.as_slice-tokens.result.now in
     let is = subst (λ ts. IsEnds ts c.self.inside.ends) (sym c.as_slice-tokens.ensures.value) c.self.invariant.at_ends in
     let read : length tokens ≡ length c.args.self.now = ap length (c.as_slice-tokens.ensures.value ∙ c.self.view_is) in
-    let few : length c.middle-middle.result.now ≤ length c.args.self.now = omega (arith, few-middle tokens c.self.inside.ends is, ap length c.middle-middle.ensures, read) in
+    let few : length tokens - c.self.inside.ends.trail - c.self.inside.ends.lead ≤ length c.args.self.now = omega (arith, read) in
     let all = mul-le-mul_right (length (chars c.in-Some.part.text.now)) few in
     let whole = mul-le-mul_left (length c.args.self.now) c.in-Some.ensures.fewer in
     omega (arith, all, whole, c.in_ok-answer.ensures.most, is.ones.within, length-map tokens shape_of, read, c.if-between-eq0.false, c.min-again.ensures)
@@ -99,7 +92,7 @@ pub overflow_add-result : goal.overflow_add-result
 overflow_add-result g c =
     let tokens = c.as_slice-tokens.result.now in
     let is = subst (λ ts. IsEnds ts c.self.inside.ends) (sym c.as_slice-tokens.ensures.value) c.self.invariant.at_ends in
-    let few : length c.middle-middle.result.now ≤ length tokens = omega (arith, few-middle tokens c.self.inside.ends is, ap length c.middle-middle.ensures) in
+    let few : length tokens - c.self.inside.ends.trail - c.self.inside.ends.lead ≤ length tokens = omega arith in
     let all = mul-le-mul_right (length (chars c.in-Some.part.text.now)) few in
     let one = mul-suc (length tokens) (length (chars c.in-Some.part.text.now)) in
     let fits = product_fits (length tokens) (suc (length (chars c.in-Some.part.text.now))) (omega arith) (omega (arith, c.in-Some.ensures.fewer, length-chars c.args.text.now)) in

@@ -1,11 +1,8 @@
-use Rattle.std.proofs.Common.{◌-◌, ◌∙◌, length, drop, sym, subst, chars, arith}
+use Rattle.std.proofs.Common.{◌∙◌, sym, subst, chars}
 use Rattle.std.proofs.lemmas.Bool.{false≢true}
-use Rattle.std.proofs.lemmas.List.{length-map, take-take}
 use Rattle.std.proofs.lemmas.Str.{IsUtf8-from_is_utf8}
-use Rattle.glob_pattern.specs.Grammar.Tokens.{shape_of}
 use Rattle.glob_pattern.specs.Grammar.Units.{HasTokens}
 use Rattle.glob_pattern.specs.Matching.Texts.{TokensMatch}
-use Rattle.glob_pattern.specs.Private.Needles.{IsNeedle}
 use Rattle.glob_pattern.proofs.MatchingLemmas.Needles.{IsNeedle-within, ContainsFolded-from_needle}
 use Rattle.glob_pattern.proofs.MatchingLemmas.Stripped.{match-needs_ends}
 use Rattle.glob_pattern.proofs.pattern.compiled.Compiled.may_match.Goals as goal
@@ -14,9 +11,7 @@ pub returns-then-have_literals : goal.returns-then-have_literals
 returns-then-have_literals g c = λ utf8 match.
     let tokens = c.self.inside.tokens.items in
     let ends = c.self.inside.ends in
-    let n = length tokens - ends.lead - ends.trail in
-    let middle = take-take n (length tokens - (ends.trail - 1) - ends.lead) (drop ends.lead tokens) (omega (arith, c.self.invariant.at_ends.ones.within, length-map tokens shape_of)) in
-    let inside = IsNeedle-within tokens c.self.inside.needle ends.lead n (subst (λ ts. IsNeedle ts c.self.inside.needle) middle c.self.invariant.inside) in
+    let inside = IsNeedle-within tokens c.self.inside.needle ends.lead _ c.self.invariant.inside in
     c.may_be_in.ensures (ContainsFolded-from_needle c.args.options tokens c.self.inside.needle c.args.bytes.now inside (IsUtf8-from_is_utf8 c.args.bytes.now utf8)
     (subst (λ ts. TokensMatch c.args.options ts (chars c.args.bytes.now)) (sym c.self.view_is) match))
 

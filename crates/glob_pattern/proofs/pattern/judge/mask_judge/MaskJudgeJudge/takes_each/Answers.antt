@@ -1,9 +1,6 @@
-use Rattle.std.proofs.Common.{◌+◌, ◌*◌, ◌<◌, ◌==◌, refl, arith}
-use Rattle.std.proofs.lemmas.Bool.{and_parts, and_from, lt-ltb, ltb-true}
-use Rattle.std.proofs.lemmas.List.{length-take, get_or-take}
+use Rattle.std.proofs.Common.{◌<◌, ◌==◌, refl, arith}
 use Rattle.glob_text.specs.Characters.{slash}
 use Rattle.glob_pattern.specs.Private.TextTable.{table_within}
-use Rattle.glob_pattern.specs.declared.token.Token.TheVariants.{AnyChar}
 use Rattle.glob_pattern.specs.Private.Classes.{partition_of}
 use Rattle.glob_pattern.proofs.MaskLemmas.Classes.{class-below}
 use Rattle.glob_pattern.proofs.BitLemmas.LowestBits.{lowest_set}
@@ -31,22 +28,16 @@ unfolding table_within
 returns-clause-took g c = λ j lt.
     let mask = c.args.self.now in
     let judge = mask.judge in
-    let tokens = judge.tokens.now in
     let stepped = judge.stepped in
     let both = IsBitSet-and c.args.asked c.taking.result j in
-    let short = length-take mask.end tokens in
     rw (← (stepped.last c.requires.stepped), ← (stepped.before c.requires.stepped)) (
       λ s.
           let (a, m) = both.0 s in
           let at = c.requires.tokens j a in
           let row = mask.masked.are.row c.args.word (omega (arith, at.2, mask.enough)) in
-          let (below, taken) = (row.takes judge.options (judge.before == slash) judge.current j refl at.0).0 (rw (c.taking.ensures, mask.classed c.requires.stepped, mask.masked.columns) at m) in
-          let before : 63 * c.args.word + j < mask.end = omega (arith, below, short) in
-          (a, and_from _ _ (lt-ltb _ _ before) (rw (get_or-take mask.end tokens (63 * c.args.word + j) AnyChar before) at taken)),
+          (a, ((row.takes judge.options (judge.before == slash) judge.current j refl at.0).0 (rw (c.taking.ensures, mask.classed c.requires.stepped, mask.masked.columns) at m)).1),
       λ (a, t).
           let at = c.requires.tokens j a in
           let row = mask.masked.are.row c.args.word (omega (arith, at.2, mask.enough)) in
-          let (is, taken) = and_parts _ _ t in
-          let before : 63 * c.args.word + j < mask.end = ltb-true _ _ is in
-          both.1 (a, rw (c.taking.ensures, mask.classed c.requires.stepped, mask.masked.columns) ((row.takes judge.options (judge.before == slash) judge.current j refl at.0).1 (omega (arith, before, short, at.2), rw (get_or-take mask.end tokens (63 * c.args.word + j) AnyChar before) taken))),
+          both.1 (a, rw (c.taking.ensures, mask.classed c.requires.stepped, mask.masked.columns) ((row.takes judge.options (judge.before == slash) judge.current j refl at.0).1 (at.2, t))),
     )
