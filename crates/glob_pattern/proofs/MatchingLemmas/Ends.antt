@@ -58,7 +58,7 @@ module _ (o : MatchOptions) (tokens : List Token) (text : List ℕ) (k end : ℕ
       let step = SplitsPart-first o opening (get_or tokens k AnyChar) (drop (k + 1) tokens) c (chars rest) one (end - (k + 1)) in
       record {
         utf8 = u;
-        fewer = omega (arith, left.fewer, ap length e);
+        count = omega (arith, left.count, ap length e);
         match = (λ m. (step.0 (all.0 m)).1, λ splits. all.1 (step.1 (took, splits)));
       }
 
@@ -99,7 +99,7 @@ module _ (o : MatchOptions) (tokens : List Token) (text : List ℕ) (from k end 
       let taken = subst (λ t. takes o (opens_within opening (chars rest) (length (chars rest))) c t ≡ true) (sym token-last) took in
       record {
         utf8 = u;
-        fewer = omega (arith, left.fewer, ap length e, length-append (chars rest) (c ∷ []));
+        count = omega (arith, left.count, next, within, ap length e, length-append (chars rest) (c ∷ []));
         match = (λ m. (step.0 (all.0 m)).1, λ splits. all.1 (step.1 (taken, splits)));
       }
 

@@ -135,12 +135,6 @@ module _ (tokens : List Token) (ends : Ends) (is : IsEnds tokens ends) where
         let at = IsCharBoundary-from_drop (drop start bytes) (end - start) (omega (arith, in_order, length-drop start bytes, end-boundary.0)) (subst IsUtf8 (sym back) (IsUtf8-drop bytes end u end-boundary)) in
         ap chars (drop_split bytes start end in_order) ∙ chars-append (slice_range bytes start end) (drop end bytes) (IsUtf8-take (drop start bytes) (end - start) later at)
 
-    pub inside-fewer : length (chars (slice_range bytes start end)) ≤ length (chars bytes)
-    inside-fewer =
-        let front = chars (take start bytes) in
-        let inside = chars (slice_range bytes start end) in
-        omega (arith, ap length (chars-cut bytes start u start-boundary), length-append front (chars (drop start bytes)), ap length rest-split, length-append inside (chars (drop end bytes)))
-
     same-first : SameTexts o.case_sensitive (chars (take start bytes)) is.first.plain
     same-first =
         subst (SameTexts o.case_sensitive (chars (take start bytes))) (chars-encodes is.first.plain a)
@@ -152,6 +146,24 @@ module _ (tokens : List Token) (ends : Ends) (is : IsEnds tokens ends) where
         subst (SameTexts o.case_sensitive (chars (drop end bytes))) (chars-encodes is.last.plain z)
         (SameTexts-from_bytes o.case_sensitive (drop end bytes) (encode_utf8_all is.last.plain) (IsUtf8-drop bytes end u end-boundary) (is.last.plain, (z, refl))
         (subst (λ n. SameBytes o.case_sensitive (drop n bytes) (encode_utf8_all is.last.plain)) (sym e) has.last))
+
+    pub inside-count : length (chars bytes) ≡ length (chars (slice_range bytes start end)) + (ends.prefix.count + (length tokens - (length tokens - ends.suffix.count)))
+    inside-count =
+        let inside = chars (slice_range bytes start end) in
+        let here = chars (take start bytes) in
+        omega (
+          arith,
+          ap length (chars-cut bytes start u start-boundary),
+          length-append here (chars (drop start bytes)),
+          ap length rest-split,
+          length-append inside (chars (drop end bytes)),
+          same-first.0,
+          same-last.0,
+          count-first,
+          count-last,
+          fits,
+          is.few_last,
+        )
 
     pub match-iff_inside : TokensMatch o tokens (chars bytes)
         ↔ SplitsPart o (opens_within true (chars (take start bytes)) (length (chars (take start bytes)))) (drop ends.prefix.count tokens) (length tokens - ends.suffix.count - ends.prefix.count) (chars (slice_range bytes start end))
@@ -198,8 +210,8 @@ module _ (tokens : List Token) (ends : Ends) (is : IsEnds tokens ends) where
       cut-end = end-boundary o bytes u ends.prefix.bytes (length bytes - ends.suffix.bytes) is.first.count_is (ap (λ n. length bytes - n) is.last.count_is)
           (pattern-first pattern v read).2 (pattern-last pattern v read).2 literal-ends
 
-      pub cut-fewer : length (chars (slice_range bytes ends.prefix.bytes (length bytes - ends.suffix.bytes))) ≤ length (chars bytes)
-      cut-fewer = inside-fewer o bytes u ends.prefix.bytes (length bytes - ends.suffix.bytes) is.first.count_is (ap (λ n. length bytes - n) is.last.count_is)
+      pub cut-count : length (chars bytes) ≡ length (chars (slice_range bytes ends.prefix.bytes (length bytes - ends.suffix.bytes))) + (ends.prefix.count + (length tokens - (length tokens - ends.suffix.count)))
+      cut-count = inside-count o bytes u ends.prefix.bytes (length bytes - ends.suffix.bytes) is.first.count_is (ap (λ n. length bytes - n) is.last.count_is)
           (pattern-first pattern v read).2 (pattern-last pattern v read).2 literal-ends
 
       pub cut-match : TokensMatch o tokens (chars bytes)
@@ -214,7 +226,7 @@ module _ (tokens : List Token) (ends : Ends) (is : IsEnds tokens ends) where
       let all : length tokens ≡ length tokens - ends.suffix.count - ends.prefix.count = omega (arith, first, last) in
       record {
         utf8 = u;
-        fewer = omega arith;
+        count = omega (arith, first, last);
         match = subst₂ (λ k n. TokensMatch o tokens (chars text) ↔ SplitsPart o true (drop k tokens) n (chars text)) (sym first) all (TokensMatch-iff_part o tokens (chars text));
       }
 

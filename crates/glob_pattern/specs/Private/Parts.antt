@@ -1,5 +1,5 @@
 -- Parts of a text that the first of some tokens split.
-use Rattle.std.specs.Prelude.{◌≡◌, ℕ, ◌+◌, ◌-◌, ◌≤◌, ◌↔◌, Bool, List, ◌++◌, chars, drop, length, map}
+use Rattle.std.specs.Prelude.{◌≡◌, ℕ, ◌+◌, ◌-◌, ◌↔◌, Bool, List, ◌++◌, chars, drop, length, map}
 use Rattle.std.specs.Str.{IsUtf8}
 use Rattle.glob_text.specs.Text.{Text}
 use Rattle.glob_pattern.specs.Grammar.Tokens.{Token, shape_of}
@@ -25,8 +25,9 @@ TakesLast o tokens opening part rest =
     (front more : List Token) (n m : ℕ) → n ≡ length front → m ≡ n + length tokens
     → SplitsPart o opening (front ++ (tokens ++ more)) m part ↔ SplitsPart o opening (front ++ (tokens ++ more)) n rest
 
--- of a text, of bytes, a part is left to the tokens from number `from` to `end`: these match the text where they split it
+-- of a text, of bytes, a part is left to the tokens from number `from` to `end`: these match the text where they split
+-- it, and the others take a character each
 pub record Leaves (o : MatchOptions) (tokens : List Token) (text : List ℕ) (from end : ℕ) (part : List ℕ) (opening : Bool) : Type 0 where
   pub utf8 : IsUtf8 part
-  pub fewer : length (chars part) ≤ length (chars text)
+  pub count : length (chars text) ≡ length (chars part) + (from + (length tokens - end))
   pub match : TokensMatch o tokens (chars text) ↔ SplitsPart o opening (drop from tokens) (end - from) (chars part)

@@ -4,6 +4,7 @@ ghost use Rattle.std.specs.Prelude.{◌≡◌, ℕ, ◌+◌, ◌*◌, ◌<◌, �
 ghost use Rattle.std.specs.Int.{IsBitSet};
 ghost use Rattle.glob_text.specs.Text.{Text};
 ghost use Rattle.glob_pattern.specs.Grammar.Tokens.{Token as TokenOf, shape_of};
+ghost use Rattle.glob_pattern.specs.Matching.Taking.{has_rules};
 ghost use Rattle.glob_pattern.specs.Private.Automata.{IsAutomaton};
 ghost use Rattle.glob_pattern.specs.Private.Parts.{SplitsPart};
 ghost use Rattle.glob_pattern.specs.Private.Positions.{AreShapeWords, EndsFreely, TakesRest, word_before};
@@ -91,6 +92,8 @@ impl<A: Allocator + Copy> Automaton<A> {
         ensures answer { IfOk result (λ counted. IsTrue counted.0
             ↔ SplitsPart options opening tokens.now end (chars text.now)) }
         ensures most { IfOk result (λ counted. counted.1 ≤ end * length (chars text.now)) }
+        ensures least { IfOk result (λ counted. IsTrue counted.0 → IsTrue (has_rules options)
+            → length (chars text.now) ≤ counted.1) }
         ensures short { end < 64 → IsOk result }
     {
         let accepting = self.accepting(options);
@@ -123,7 +126,8 @@ impl<A: Allocator + Copy> Automaton<A> {
     /// The bit of the last token, in its word, if it takes all that is left of any text: once it is alive, they match.
     #[inline(always)]
     fn accepting(&self, options: MatchOptions) -> u64
-        ensures { (tokens : List TokenOf) (end : ℕ) → IsAutomaton tokens end self.now
+        ensures ruled { IsTrue (has_rules options) → result ≡ 0 }
+        ensures rest { (tokens : List TokenOf) (end : ℕ) → IsAutomaton tokens end self.now
             → (opening : Bool) (text : Text) (j : ℕ) → IsBitSet result j
             → TakesRest (table_within opening options (take end tokens) text) (map shape_of tokens)
             end (63 * word_before end + j) }

@@ -4,6 +4,7 @@ ghost use Rattle.std.specs.Prelude.{◌≡◌, ℕ, ◌+◌, ◌*◌, ◌<◌, �
 ghost use Rattle.std.specs.Str.{is_utf8};
 ghost use Rattle.glob_pattern.specs.Grammar.Tokens.{shape_of};
 ghost use Rattle.glob_pattern.specs.Grammar.Units.{HasTokens};
+ghost use Rattle.glob_pattern.specs.Matching.Taking.{has_rules};
 ghost use Rattle.glob_pattern.specs.Matching.Texts.{TokensMatch};
 ghost use Rattle.glob_pattern.specs.Private.Positions.{AreShapeWords};
 ghost use Rattle.glob_pattern.specs.declared.token.Token.TheVariants.{Literal, AnyChar};
@@ -178,6 +179,10 @@ impl<A: Allocator + Copy> Compiled<A> {
             (λ counted. IsTrue counted.0 ↔ TokensMatch options self.now (chars text.now)) }
         ensures most { IfOk result (λ counted. counted.1
             ≤ length self.now + length self.now * length (chars text.now)) }
+
+        // Under a rule each character of a match is asked about: no last wildcard takes the rest.
+        ensures least { IfOk result (λ counted. IsTrue counted.0 → IsTrue (has_rules options)
+            → length (chars text.now) ≤ counted.1) }
         ensures short { length self.now < 64 → IsOk result }
     {
         let tokens = self.tokens.as_slice();

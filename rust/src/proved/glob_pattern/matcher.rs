@@ -86,9 +86,9 @@ pub trait Judge {
 pub fn run_positions<J: Judge>(shapes: &[Shape], judge: &mut J) -> bool {
     let span = Span::all(shapes.len());
     if shapes.len() <= WORD {
-        decide(shapes, &[ShapeWord::new(shapes, 0)], span, judge)
+        decide(shapes, &[ShapeWord::new(shapes, span.end, 0)], span, judge)
     } else {
-        let words = shape_words(shapes);
+        let words = shape_words(shapes, span.end);
         decide(shapes, words.as_slice(), span, judge)
     }
 }

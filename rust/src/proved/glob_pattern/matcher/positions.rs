@@ -11,7 +11,7 @@ use super::{Judge, Shaped, WORD};
 /// Which part of the shapes a run goes over.
 #[derive(Clone, Copy)]
 pub struct Span {
-    /// How many leading shapes have to split all characters.
+    /// How many leading shapes have to split all characters. Others may follow, which decide where a last `Deep` ends.
     pub end: usize,
     /// Positions of the word that has the last shape before `end`. Once one is alive, this shape takes all further
     /// characters.
@@ -64,9 +64,9 @@ fn run<T: Shaped, J: Judge>(tokens: &[T], word: ShapeWord, flat: bool, span: Spa
             return true;
         }
         if !judge.step() {
-            return is_alive(tokens, &[alive], span.end);
+            return is_whole(tokens, span.end, &[alive]);
         }
-        let took = ask(tokens, word, 0, alive, judge);
+        let took = ask(tokens, span.end, word, 0, alive, judge);
         alive = word.step_by(flat, took, judge.opens());
     }
     false
@@ -82,28 +82,28 @@ fn run_words<T: Shaped, J: Judge>(
     judge: &mut J,
 ) -> bool {
     let last = word_before(span.end);
-    let mut live = set_start(tokens, words, judge.opens(), alive);
+    let mut live = set_start(tokens, span.end, words, judge.opens(), alive);
     while live.high != 0 {
         if alive[last] & span.accepting != 0 {
             return true;
         }
         if !judge.step() {
-            return is_alive(tokens, alive, span.end);
+            return is_whole(tokens, span.end, alive);
         }
-        live = step_words(tokens, words, alive, live, judge);
+        live = step_words(tokens, span.end, words, alive, live, judge);
     }
     false
 }
 
 /// Asks the tokens of word `n` that are alive about the character last stepped over. Returns those that take it.
 #[inline(always)]
-fn ask<T: Shaped, J: Judge>(tokens: &[T], word: ShapeWord, n: usize, alive: u64, judge: &mut J) -> u64 {
+fn ask<T: Shaped, J: Judge>(tokens: &[T], end: usize, word: ShapeWord, n: usize, alive: u64, judge: &mut J) -> u64 {
     judge.takes_each(n, alive & word.tokens)
 }
 
 /// Sets the words, which must be 0, to the position set before the first character.
 #[inline(always)]
-fn set_start<T: Shaped>(tokens: &[T], words: &[ShapeWord], opens: bool, alive: &mut [u64]) -> Live {
+fn set_start<T: Shaped>(tokens: &[T], end: usize, words: &[ShapeWord], opens: bool, alive: &mut [u64]) -> Live {
     let mut whole = true;
     for n in 0..alive.len() {
         if !whole {
@@ -122,12 +122,12 @@ fn word_before(end: usize) -> usize {
     end.saturating_sub(1) / WORD
 }
 
-/// Whether the position is in the set.
+/// Whether the shapes before number `end` split the characters: whether the position after the last is in the set.
 #[inline(always)]
-fn is_alive<T: Shaped>(tokens: &[T], alive: &[u64], position: usize) -> bool {
-    // A position on a border of two words is read as the last bit of the first of them.
-    let word = word_before(position);
-    (alive[word] >> (position - WORD * word)) & 1 != 0
+fn is_whole<T: Shaped>(tokens: &[T], end: usize, alive: &[u64]) -> bool {
+    // Where the last word is full this is its last bit.
+    let word = word_before(end);
+    (alive[word] >> (end - WORD * word)) & 1 != 0
 }
 
 /// Steps the words to the judge's place, and returns those that are live there. Words in which nothing is alive are
@@ -135,6 +135,7 @@ fn is_alive<T: Shaped>(tokens: &[T], alive: &[u64], position: usize) -> bool {
 #[inline(always)]
 fn step_words<T: Shaped, J: Judge>(
     tokens: &[T],
+    end: usize,
     words: &[ShapeWord],
     alive: &mut [u64],
     live: Live,
@@ -147,7 +148,7 @@ fn step_words<T: Shaped, J: Judge>(
         if !whole && live.high <= n {
             return next;
         }
-        let word = step_word(tokens, words[n], n, alive[n], opens, whole, judge);
+        let word = step_word(tokens, end, words[n], n, alive[n], opens, whole, judge);
         alive[n] = word;
         next = next.with(n, word);
         whole = word >> WORD != 0;
@@ -159,6 +160,7 @@ fn step_words<T: Shaped, J: Judge>(
 #[inline(always)]
 fn step_word<T: Shaped, J: Judge>(
     tokens: &[T],
+    end: usize,
     word: ShapeWord,
     n: usize,
     alive: u64,
@@ -169,7 +171,7 @@ fn step_word<T: Shaped, J: Judge>(
     if alive == 0 && !whole {
         return 0;
     }
-    let took = ask(tokens, word, n, alive, judge);
+    let took = ask(tokens, end, word, n, alive, judge);
     word.step(took, opens, whole)
 }
 

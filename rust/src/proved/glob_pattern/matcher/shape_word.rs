@@ -16,12 +16,12 @@ pub struct ShapeWord {
     pub recursive: u64,
 }
 
-/// The words of all tokens, at least one.
-pub fn shape_words<T: Shaped>(tokens: &[T]) -> Vec<ShapeWord> {
-    let count = tokens.len().div_ceil(WORD).max(1);
+/// The words of the tokens before number `end`, at least one.
+pub fn shape_words<T: Shaped>(tokens: &[T], end: usize) -> Vec<ShapeWord> {
+    let count = end.div_ceil(WORD).max(1);
     let mut words = Vec::with_capacity(count);
     for n in 0..count {
-        words.push(ShapeWord::new(tokens, WORD * n));
+        words.push(ShapeWord::new(tokens, end, WORD * n));
     }
     words
 }
@@ -30,10 +30,10 @@ impl ShapeWord {
     /// The shapes of no tokens.
     pub const NONE: ShapeWord = ShapeWord { tokens: 0, wildcards: 0, recursive: 0 };
 
-    /// The shapes of the tokens from number `start` on.
-    pub fn new<T: Shaped>(tokens: &[T], start: usize) -> Self {
+    /// The shapes of the tokens from number `start` up to `end`, or of the first 63 of them.
+    pub fn new<T: Shaped>(tokens: &[T], end: usize, start: usize) -> Self {
         let mut word = ShapeWord::NONE;
-        for n in start..tokens.len().min(start.saturating_add(WORD)) {
+        for n in start..end.min(start.saturating_add(WORD)) {
             word = word.with(n - start, tokens[n].shape(), n + 1 < tokens.len());
         }
         word

@@ -15,20 +15,21 @@ use std::slice;
 
 /// What a run over tokens reads of them besides.
 pub struct Automaton {
-    // the shapes as bits: those of the first 63 tokens, and if there are more tokens, those of all
+    // the shapes as bits: those of the first 63 tokens, and if there are more, those of all
     first: ShapeWord,
     words: Vec<ShapeWord>,
-    // the bit of the last token to split a text, in its word, if it is a wildcard whose pieces end anywhere
+    // the bit of the last token, in its word, if it is a wildcard whose pieces end anywhere
     accepting: u64,
     masks: CharMasks,
 }
 
 impl Automaton {
-    /// That of the tokens, where those before number `end`, all or all but one, are to split a text.
+    /// That of the tokens before number `end`. Of those after them it matters whether there are any: a last `**` ends
+    /// anywhere if there are none.
     pub fn new(tokens: &[Token<Bracket>], end: usize) -> Self {
-        let words = if tokens.len() <= WORD { Vec::new() } else { shape_words(tokens) };
-        let masks = CharMasks::new(&tokens[..end], words_of(tokens));
-        Automaton { first: ShapeWord::new(tokens, 0), words, accepting: free_end(tokens, end), masks }
+        let words = if end <= WORD { Vec::new() } else { shape_words(tokens, end) };
+        let masks = CharMasks::new(&tokens[..end], end.div_ceil(WORD));
+        Automaton { first: ShapeWord::new(tokens, end, 0), words, accepting: free_end(tokens, end), masks }
     }
 
     /// That of no tokens.
@@ -61,16 +62,16 @@ impl Automaton {
             return (true, 0);
         }
         let span = Span { end, accepting };
-        let one_by_one = TextJudge::new(tokens, text, opening, options);
-        let mut judge = MaskJudge::new(one_by_one, &self.masks, end, words_of(tokens));
-        let answer = decide(tokens, self.words(tokens), span, &mut judge);
+        let one_by_one = TextJudge::new(&tokens[..end], text, opening, options);
+        let mut judge = MaskJudge::new(one_by_one, &self.masks, end.div_ceil(WORD));
+        let answer = decide(tokens, self.words(tokens, end), span, &mut judge);
         (answer, judge.asked())
     }
 
     /// The shapes as bits.
     #[inline(always)]
-    fn words(&self, tokens: &[Token<Bracket>]) -> &[ShapeWord] {
-        if tokens.len() <= WORD {
+    fn words(&self, tokens: &[Token<Bracket>], end: usize) -> &[ShapeWord] {
+        if end <= WORD {
             slice::from_ref(&self.first)
         } else {
             self.words.as_slice()
@@ -99,10 +100,4 @@ fn free_end(tokens: &[Token<Bracket>], end: usize) -> u64 {
         Shape::Deep if end == tokens.len() => last,
         Shape::One | Shape::Deep => 0,
     }
-}
-
-/// How many words of 63 the tokens fill.
-#[inline(always)]
-fn words_of(tokens: &[Token<Bracket>]) -> usize {
-    tokens.len().div_ceil(WORD)
 }

@@ -54,11 +54,11 @@ impl Compiled {
     pub fn new(tokens: Vec<Token<Bracket>>) -> Self {
         let list = tokens.as_slice();
         let ends = Ends::of(list);
-        let middle = ends.middle(list);
-        let between = list.len() - ends.lead - ends.trail;
+        let rest = &list[ends.lead..];
+        let between = list.len() - ends.trail - ends.lead;
         // Of fewer than three tokens none is a literal between others.
-        let needle = if between < 3 { Needle::NONE } else { Needle::of(&middle[..between.min(SEARCHED)]) };
-        Compiled { automaton: Automaton::new(middle, between), tokens, ends, needle }
+        let needle = if between < 3 { Needle::NONE } else { Needle::of(&rest[..between.min(SEARCHED)]) };
+        Compiled { automaton: Automaton::new(rest, between), tokens, ends, needle }
     }
 
     /// No tokens.
@@ -109,15 +109,15 @@ impl Compiled {
         let Some(part) = ends.strip(tokens, pattern, text, options) else {
             return (false, asked);
         };
-        let between = tokens.len() - ends.lead - ends.trail;
+        let between = tokens.len() - ends.trail - ends.lead;
         if between == 0 {
             return (part.text.is_empty(), asked);
         }
         if !self.needle.may_be_in(part.text.as_bytes()) {
             return (false, asked);
         }
-        let middle = ends.middle(tokens);
-        let (answer, count) = self.automaton.matches(middle, between, part.text, part.opening, options);
+        let rest = &tokens[ends.lead..];
+        let (answer, count) = self.automaton.matches(rest, between, part.text, part.opening, options);
         (answer, asked + count)
     }
 
@@ -126,9 +126,9 @@ impl Compiled {
     pub fn matches_counted(&self, text: &str, options: MatchOptions) -> (bool, u128) {
         let tokens = self.tokens.as_slice();
         if tokens.len() <= WORD {
-            ask_all(tokens, &[ShapeWord::new(tokens, 0)], text, options)
+            ask_all(tokens, &[ShapeWord::new(tokens, tokens.len(), 0)], text, options)
         } else {
-            let words = shape_words(tokens);
+            let words = shape_words(tokens, tokens.len());
             ask_all(tokens, words.as_slice(), text, options)
         }
     }

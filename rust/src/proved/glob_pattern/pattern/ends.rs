@@ -67,12 +67,6 @@ impl Ends {
         }
     }
 
-    /// The tokens between the ends, and the first of those after them, if there are any.
-    #[inline(always)]
-    pub fn middle<'a>(&self, tokens: &'a [Token<Bracket>]) -> &'a [Token<Bracket>] {
-        &tokens[self.lead..tokens.len() - self.trail.saturating_sub(1)]
-    }
-
     /// Whether the bytes begin and end with the pattern's literals. They need not be UTF-8.
     #[inline(always)]
     pub fn have_literals(&self, tokens: &[Token<Bracket>], pattern: &str, bytes: &[u8], options: MatchOptions) -> bool {

@@ -7,12 +7,10 @@ use super::TextJudge;
 use crate::proved::glob_pattern::matcher::Judge;
 use crate::proved::glob_pattern::pattern::char_masks::{CharMasks, Rows};
 
-/// A judge that reads from masks which tokens take a character. Those from number `end` on take nothing: it is not
-/// asked what follows the tokens that have to split a text.
+/// A judge that reads from masks which tokens take a character.
 pub struct MaskJudge<'a> {
     judge: TextJudge<'a>,
     rows: Rows<'a>,
-    end: usize,
     // how many words the masks have
     words: usize,
     // the class of the character last stepped over
@@ -20,11 +18,11 @@ pub struct MaskJudge<'a> {
 }
 
 impl<'a> MaskJudge<'a> {
-    /// The judge, which has not stepped, with the masks of its tokens before number `end`, of so many words.
+    /// The judge, which has not stepped, with the masks of its tokens, of so many words.
     #[inline(always)]
-    pub fn new(judge: TextJudge<'a>, masks: &'a CharMasks, end: usize, words: usize) -> Self {
+    pub fn new(judge: TextJudge<'a>, masks: &'a CharMasks, words: usize) -> Self {
         let rows = masks.rows(judge.options.case_sensitive);
-        MaskJudge { judge, rows, end, words, class: 0 }
+        MaskJudge { judge, rows, words, class: 0 }
     }
 }
 
@@ -47,7 +45,7 @@ impl Judge for MaskJudge<'_> {
     #[inline(always)]
     fn takes(&mut self, token: usize) -> bool {
         self.judge.count += 1;
-        token < self.end && self.judge.is_taken(token)
+        self.judge.is_taken(token)
     }
 
     #[inline(always)]

@@ -85,7 +85,8 @@ returns-clause-most g c =
     let read : length tokens ≡ length c.args.self.now = ap length (c.as_slice-tokens.ensures.value ∙ c.self.view_is) in
     let few : length tokens - c.self.inside.ends.trail - c.self.inside.ends.lead ≤ length c.args.self.now = omega (arith, read) in
     let all = mul-le-mul_right (length (chars c.in-Some.part.text.now)) few in
-    let whole = mul-le-mul_left (length c.args.self.now) c.in-Some.ensures.fewer in
+    let fewer : length (chars c.in-Some.part.text.now) ≤ length (chars c.args.text.now) = omega (arith, c.in-Some.ensures.count) in
+    let whole = mul-le-mul_left (length c.args.self.now) fewer in
     omega (arith, all, whole, c.in_ok-answer.ensures.most, is.ones.within, length-map tokens shape_of, read, c.if-between-eq0.false, c.min-again.ensures)
 
 pub overflow_add-result : goal.overflow_add-result
@@ -95,5 +96,13 @@ overflow_add-result g c =
     let few : length tokens - c.self.inside.ends.trail - c.self.inside.ends.lead ≤ length tokens = omega arith in
     let all = mul-le-mul_right (length (chars c.in-Some.part.text.now)) few in
     let one = mul-suc (length tokens) (length (chars c.in-Some.part.text.now)) in
-    let fits = product_fits (length tokens) (suc (length (chars c.in-Some.part.text.now))) (omega arith) (omega (arith, c.in-Some.ensures.fewer, length-chars c.args.text.now)) in
+    let fits = product_fits (length tokens) (suc (length (chars c.in-Some.part.text.now))) (omega arith) (omega (arith, c.in-Some.ensures.count, length-chars c.args.text.now)) in
     omega (arith, all, one, fits, c.in_ok-answer.ensures.most, is.ones.within, length-map tokens shape_of, c.if-between-eq0.false, c.min-again.ensures)
+
+pub returns-then-between-eq0-clause-least : goal.returns-then-between-eq0-clause-least
+returns-then-between-eq0-clause-least g c = λ yes ruled.
+    let none = eqb-true _ _ (sym c.is_empty.ensures ∙ yes) in
+    omega (arith, none, length-chars c.in-Some.part.text.now, c.in-Some.ensures.count)
+
+pub returns-clause-least : goal.returns-clause-least
+returns-clause-least g c = λ yes ruled. omega (arith, c.in_ok-answer.ensures.least yes ruled, c.in-Some.ensures.count)

@@ -1,6 +1,6 @@
 use Rattle.std.proofs.Common.{◌≡◌, ◌-◌, ◌∙◌, take, ap, sym, arith}
 use Rattle.std.proofs.lemmas.Bool.{false≢true}
-use Rattle.glob_pattern.proofs.MatchingLemmas.Stripped.{match-needs_ends, cut-within, cut-start, cut-end, cut-fewer, cut-match, leaves-whole}
+use Rattle.glob_pattern.proofs.MatchingLemmas.Stripped.{match-needs_ends, cut-within, cut-start, cut-end, cut-count, cut-match, leaves-whole}
 use Rattle.glob_pattern.proofs.pattern.ends.Ends.strip_literals.Goals as goal
 
 pub returns-then-self-eq0-2 : goal.returns-then-self-eq0-2
@@ -44,10 +44,10 @@ returns g c =
     ((rw c.as_bytes.ensures.value at c.have_literals.ensures).0 c.if-not-have_literals.false) in
     let none : c.args.self.now.prefix.bytes - 0 ≡ c.args.self.now.prefix.bytes = omega arith in
     let before : c.range-before.result.now ≡ take c.args.self.now.prefix.bytes c.args.text.now = c.range-before.ensures.value ∙ ap (λ n. take n c.args.text.now) none in
-    let fewer = cut-fewer c.args.tokens.now c.args.self.now c.requires.ends c.args.pattern.now c.utf8.pattern c.requires.pattern c.args.options c.args.text.now c.utf8.text
+    let count = cut-count c.args.tokens.now c.args.self.now c.requires.ends c.args.pattern.now c.utf8.pattern c.requires.pattern c.args.options c.args.text.now c.utf8.text
     ((rw c.as_bytes.ensures.value at c.have_literals.ensures).0 c.if-not-have_literals.false) in
     record {
       utf8 = c.range-left.utf8;
-      fewer = rw c.range-left.ensures.value fewer;
+      count = rw c.range-left.ensures.value count;
       match = rw (c.opens_after.ensures, before, c.range-left.ensures.value) found;
     }
