@@ -1,5 +1,5 @@
 -- Intervals whose boundaries are known.
-use Rattle.std.proofs.Common.{◌≤◌, ℕ, List, arith}
+use Rattle.std.proofs.Common.{◌≤◌, ℕ, List}
 use Rattle.std.specs.List.{All}
 use Rattle.glob_pattern.specs.Grammar.Tokens.{Token}
 use Rattle.glob_pattern.specs.Private.Classes.{HasInterval, Grows, EachCase, EntryIntervals, TokenIntervals, EachInterval}
@@ -34,7 +34,7 @@ module _ (P Q : ℕ → ℕ → Type 0) (from : (x y : ℕ) → x ≤ y → P x 
   Entries-map entries all k d lt = EachCase-map _ _ (all k d lt)
 
   pub TokenIntervals-map : (t : Token) → TokenIntervals P t → TokenIntervals Q t
-  TokenIntervals-map (Literal x) h = record { lower = from _ _ (omega arith) h.lower; upper = from _ _ (omega arith) h.upper }
+  TokenIntervals-map (Literal x) h = EachCase-map x x h
   TokenIntervals-map AnyChar h = h
   TokenIntervals-map AnySequence h = h
   TokenIntervals-map Recursive h = h

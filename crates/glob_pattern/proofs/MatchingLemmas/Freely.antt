@@ -29,5 +29,6 @@ TakesRest-freely opening o tokens text end n unruled within free =
     let shape : get_or (map shape_of tokens) n One ≡ shape_of (get_or tokens n AnyChar) = get_or-map shape_of tokens n AnyChar One (omega (arith, free.last, within)) in
     record {
       free = free;
-      takes = λ k from below. rw asked (takes-freely o (opens_within opening text k) (get_or text k 0) (get_or tokens n AnyChar) unruled (λ one. free.grows (rw shape one)));
+      takes = λ k from below. rw asked (takes-freely o (opens_within opening text k) (get_or text k 0) (get_or tokens n AnyChar) unruled
+          (λ one. free.grows (rw shape one)));
     }

@@ -114,7 +114,8 @@ module _ (o : MatchOptions) (opening : Bool) (tokens : List Token) (n : ℕ) (wi
     same-front : SameBefore (table_within opening o tokens (cs ++ c ∷ [])) (table_within opening o tokens cs) n (length cs)
     unfolding table_within
     same-front = record {
-      takes = λ m j few lt. ap₂ (λ b d. takes o b d (get_or tokens m AnyChar)) (opens-front j (omega arith)) (get_or_append_left cs (c ∷ []) 0 j lt);
+      takes = λ m j few lt. ap₂ (λ b d. takes o b d (get_or tokens m AnyChar)) (opens-front j (omega arith))
+          (get_or_append_left cs (c ∷ []) 0 j lt);
       opens = opens-front;
     }
 
@@ -133,7 +134,8 @@ module _ (o : MatchOptions) (opening : Bool) (tokens : List Token) (n : ℕ) (wi
         ↔ (IsTrue (takes o (opens_within opening cs (length cs)) c (get_or tokens n AnyChar)) × PrefixSplits (table_within opening o tokens cs) shapes n (length cs))) (sym long) (
           λ splits. let (took, rest) = one-from_PrefixSplits (table_within opening o tokens (cs ++ c ∷ [])) shapes n (length cs) one-at splits in
               (sym takes-last ∙ took, fewer.0 rest),
-          λ (took, rest). PrefixSplits-one (table_within opening o tokens (cs ++ c ∷ [])) shapes n (length cs) one-at (takes-last ∙ took) (fewer.1 rest),
+          λ (took, rest). PrefixSplits-one (table_within opening o tokens (cs ++ c ∷ [])) shapes n (length cs) one-at (takes-last ∙ took)
+              (fewer.1 rest),
         )
 
   -- but there has to be one
@@ -146,7 +148,8 @@ opens-whole : (text : Text) (k : ℕ) → opens text k ≡ opens_within true tex
 opens-whole text zero = refl
 opens-whole text (suc k) = opens-suc text k
 
-same-whole_text : (o : MatchOptions) (tokens : List Token) (text : Text) (m k : ℕ) → SameBefore (table_of o tokens text) (table_within true o tokens text) m k
+same-whole_text : (o : MatchOptions) (tokens : List Token) (text : Text) (m k : ℕ)
+    → SameBefore (table_of o tokens text) (table_within true o tokens text) m k
 unfolding table_of table_within
 same-whole_text o tokens text m k = record {
   takes = λ n j few lt. ap (λ b. takes o b (get_or text j 0) (get_or tokens n AnyChar)) (opens-whole text j);
@@ -161,7 +164,8 @@ TokensMatch-iff_part o tokens text =
     let n : ℕ = length text in
     let whole : Splits (table_of o tokens text) shapes ↔ PrefixSplits (table_of o tokens text) shapes (length tokens) n =
     subst (λ m. Splits (table_of o tokens text) shapes ↔ PrefixSplits (table_of o tokens text) shapes m n) (length-map tokens shape_of) (Splits-iff_prefix (table_of o tokens text) shapes) in
-    let within = PrefixSplits-same (table_of o tokens text) (table_within true o tokens text) shapes (length tokens) n (same-whole_text o tokens text (length tokens) n) in (
+    let within = PrefixSplits-same (table_of o tokens text) (table_within true o tokens text) shapes (length tokens) n
+        (same-whole_text o tokens text (length tokens) n) in (
       λ match. within.0 (whole.0 (Splits-from_TokensMatch o tokens text match)),
       λ splits. TokensMatch-from_Splits o tokens text (whole.1 (within.1 splits)),
     )
@@ -171,7 +175,8 @@ pub SplitsPart-asked : (o : MatchOptions) (opening : Bool) (tokens : List Token)
     → PrefixSplits (table_within opening o (take n tokens) part) (map shape_of tokens) n (length part) ↔ SplitsPart o opening tokens n part
 unfolding SplitsPart table_within
 SplitsPart-asked o opening tokens n part =
-    PrefixSplits-same (table_within opening o (take n tokens) part) (table_within opening o tokens part) (map shape_of tokens) n (length part) (record {
+    PrefixSplits-same (table_within opening o (take n tokens) part) (table_within opening o tokens part) (map shape_of tokens) n
+        (length part) (record {
       takes = λ m j few lt. ap (takes o (opens_within opening part j) (get_or part j 0)) (get_or-take n tokens m AnyChar few);
       opens = λ j le. refl;
     })
@@ -195,10 +200,12 @@ opens-take : (opening : Bool) (text : Text) (j k : ℕ) → k ≤ j → opens_wi
 opens-take opening text j zero le = refl
 opens-take opening text j (suc k) le = ap (λ d. d == slash) (sym (get_or-take j text k 0 (omega arith)))
 
-same-take : (o : MatchOptions) (opening : Bool) (tokens : List Token) (text : Text) (m j : ℕ) → SameBefore (table_within opening o tokens text) (table_within opening o tokens (take j text)) m j
+same-take : (o : MatchOptions) (opening : Bool) (tokens : List Token) (text : Text) (m j : ℕ)
+    → SameBefore (table_within opening o tokens text) (table_within opening o tokens (take j text)) m j
 unfolding table_within
 same-take o opening tokens text m j = record {
-  takes = λ n k few lt. ap₂ (λ b d. takes o b d (get_or tokens n AnyChar)) (opens-take opening text j k (omega arith)) (sym (get_or-take j text k 0 lt));
+  takes = λ n k few lt. ap₂ (λ b d. takes o b d (get_or tokens n AnyChar)) (opens-take opening text j k (omega arith))
+      (sym (get_or-take j text k 0 lt));
   opens = λ k le. opens-take opening text j k le;
 }
 
@@ -208,4 +215,5 @@ unfolding SplitsPart
 SplitsPart-fewer o opening tokens n m text within splits =
     let (j, le, fewer) = PrefixSplits-fewer (table_within opening o tokens text) (map shape_of tokens) n m (length text) within splits in
     let long : j ≡ length (take j text) = sym (length-take-le j text le) in
-    (j, subst (PrefixSplits (table_within opening o tokens (take j text)) (map shape_of tokens) m) long ((PrefixSplits-same _ _ (map shape_of tokens) m j (same-take o opening tokens text m j)).0 fewer))
+    (j, subst (PrefixSplits (table_within opening o tokens (take j text)) (map shape_of tokens) m) long
+        ((PrefixSplits-same _ _ (map shape_of tokens) m j (same-take o opening tokens text m j)).0 fewer))

@@ -147,7 +147,8 @@ module _ (tokens : List Token) (ends : Ends) (is : IsEnds tokens ends) where
         (SameTexts-from_bytes o.case_sensitive (drop end bytes) (encode_utf8_all is.last.plain) (IsUtf8-drop bytes end u end-boundary) (is.last.plain, (z, refl))
         (subst (λ n. SameBytes o.case_sensitive (drop n bytes) (encode_utf8_all is.last.plain)) (sym e) has.last))
 
-    pub inside-count : length (chars bytes) ≡ length (chars (slice_range bytes start end)) + (ends.prefix.count + (length tokens - (length tokens - ends.suffix.count)))
+    pub inside-count : length (chars bytes) ≡ length (chars (slice_range bytes start end)) +
+        (ends.prefix.count + (length tokens - (length tokens - ends.suffix.count)))
     inside-count =
         let inside = chars (slice_range bytes start end) in
         let here = chars (take start bytes) in
@@ -210,8 +211,10 @@ module _ (tokens : List Token) (ends : Ends) (is : IsEnds tokens ends) where
       cut-end = end-boundary o bytes u ends.prefix.bytes (length bytes - ends.suffix.bytes) is.first.count_is (ap (λ n. length bytes - n) is.last.count_is)
           (pattern-first pattern v read).2 (pattern-last pattern v read).2 literal-ends
 
-      pub cut-count : length (chars bytes) ≡ length (chars (slice_range bytes ends.prefix.bytes (length bytes - ends.suffix.bytes))) + (ends.prefix.count + (length tokens - (length tokens - ends.suffix.count)))
-      cut-count = inside-count o bytes u ends.prefix.bytes (length bytes - ends.suffix.bytes) is.first.count_is (ap (λ n. length bytes - n) is.last.count_is)
+      pub cut-count : length (chars bytes) ≡ length (chars (slice_range bytes ends.prefix.bytes (length bytes - ends.suffix.bytes))) +
+          (ends.prefix.count + (length tokens - (length tokens - ends.suffix.count)))
+      cut-count = inside-count o bytes u ends.prefix.bytes (length bytes - ends.suffix.bytes) is.first.count_is
+          (ap (λ n. length bytes - n) is.last.count_is)
           (pattern-first pattern v read).2 (pattern-last pattern v read).2 literal-ends
 
       pub cut-match : TokensMatch o tokens (chars bytes)

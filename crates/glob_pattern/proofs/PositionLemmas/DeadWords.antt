@@ -11,7 +11,8 @@ use Rattle.glob_pattern.specs.declared.matcher.Shape.TheVariants.{One}
 
 module _ (table : Table) (shapes : List Shape) (end : ℕ) where
   -- the tokens of such a word have taken nothing
-  pub none-taken : (start k : ℕ) → IsAliveWord table shapes end start (k - 1) 0 → (t : ℕ) → start ≤ t → t < word_end end start → ¬ (HasTaken table shapes t k)
+  pub none-taken : (start k : ℕ) → IsAliveWord table shapes end start (k - 1) 0 → (t : ℕ) → start ≤ t → t < word_end end start
+      → ¬ (HasTaken table shapes t k)
   unfolding HasTaken
   none-taken start zero says t from below taken = taken
   none-taken start (suc k) says t from below (alive, takes) =
@@ -21,7 +22,8 @@ module _ (table : Table) (shapes : List Shape) (end : ℕ) where
       IsBitSet-zero (t - start) ((before.alive (t - start) (omega (arith, at, below))).1 (rw at alive))
 
   -- nor have those of several
-  pub none-taken_in_words : (alive : List ℕ) (low high k : ℕ) → AreAlive table shapes end (k - 1) low high alive → ((i : ℕ) → low ≤ i → i < high → get_or alive i 0 ≡ 0)
+  pub none-taken_in_words : (alive : List ℕ) (low high k : ℕ) → AreAlive table shapes end (k - 1) low high alive
+      → ((i : ℕ) → low ≤ i → i < high → get_or alive i 0 ≡ 0)
       → (t : ℕ) → 63 * low ≤ t → t < 63 * high → t < end → ¬ (HasTaken table shapes t k)
   none-taken_in_words alive low high k says zeros t from below within =
       let le : low ≤ t / 63 = omega (arith, from) in
@@ -29,14 +31,16 @@ module _ (table : Table) (shapes : List Shape) (end : ℕ) where
       none-taken (63 * (t / 63)) k (rw (zeros (t / 63) le lt) at (says.word (t / 63) le lt)) t (omega arith) (omega (arith, within))
 
   -- a word whose tokens have taken nothing, and before which nothing is whole
-  pub IsAliveWord-zero : (start k : ℕ) → start ≤ end → end ≤ length shapes → ¬ (PrefixSplits table shapes start k) → ((t : ℕ) → start ≤ t → t < word_end end start → ¬ (HasTaken table shapes t k))
+  pub IsAliveWord-zero : (start k : ℕ) → start ≤ end → end ≤ length shapes → ¬ (PrefixSplits table shapes start k)
+      → ((t : ℕ) → start ≤ t → t < word_end end start → ¬ (HasTaken table shapes t k))
       → IsAliveWord table shapes end start k 0
   IsAliveWord-zero start k from fits none taken = record {
     alive = λ j within.
         let step : IsAlive table shapes (start + j) k ↔ ComesAlive table shapes (get_or shapes (start + j) One) (start + j) k = IsAlive-step table shapes (start + j) k in (
           λ s. absurd (IsBitSet-zero j s),
           λ a. absurd (⊎_elim
-              (λ w. none_whole table shapes k start (start + j) (omega arith) (omega (arith, within, fits)) none (λ t low lt. taken t low (omega (arith, lt, within))) w)
+              (λ w. none_whole table shapes k start (start + j) (omega arith) (omega (arith, within, fits)) none
+                  (λ t low lt. taken t low (omega (arith, lt, within))) w)
               (λ (t, grows). taken (start + j) (omega arith) within t)
               (step.0 a)),
         );
@@ -47,16 +51,21 @@ module _ (table : Table) (shapes : List Shape) (end : ℕ) where
   }
 
   -- the words from number n on, none of which was alive
-  pub AreAlive-zeros : (alive : List ℕ) (n high k : ℕ) → AreAlive table shapes end k 0 n alive → end ≤ length shapes → 63 * (high - 1) ≤ end → (n < high → ¬ (PrefixSplits table shapes (63 * n) k))
-      → ((t : ℕ) → 63 * n ≤ t → t < 63 * high → t < end → ¬ (HasTaken table shapes t k)) → ((i : ℕ) → n ≤ i → i < high → get_or alive i 0 ≡ 0) → AreAlive table shapes end k 0 high alive
+  pub AreAlive-zeros : (alive : List ℕ) (n high k : ℕ) → AreAlive table shapes end k 0 n alive → end ≤ length shapes → 63 * (high - 1) ≤ end
+      → (n < high → ¬ (PrefixSplits table shapes (63 * n) k))
+      → ((t : ℕ) → 63 * n ≤ t → t < 63 * high → t < end → ¬ (HasTaken table shapes t k)) →
+          ((i : ℕ) → n ≤ i → i < high → get_or alive i 0 ≡ 0) → AreAlive table shapes end k 0 high alive
   AreAlive-zeros alive n high k done all few none taken zeros = record {
     word = λ i low lt.
         ⊎_elim
         (λ before. done.word i low before)
         (λ from.
         let fits : 63 * i ≤ end = omega (arith, few, lt) in
-        let start : ¬ (PrefixSplits table shapes (63 * i) k) = none_whole table shapes k (63 * n) (63 * i) (omega (arith, from)) (omega (arith, fits, all)) (none (omega (arith, from, lt))) (λ t a b. taken t a (omega (arith, b, lt)) (omega (arith, b, fits))) in
-        let here : (t : ℕ) → 63 * i ≤ t → t < word_end end (63 * i) → ¬ (HasTaken table shapes t k) = λ t a b. taken t (omega (arith, a, from)) (omega (arith, b, lt)) (omega (arith, b)) in
+        let start : ¬ (PrefixSplits table shapes (63 * i) k) = none_whole table shapes k (63 * n) (63 * i) (omega (arith, from))
+            (omega (arith, fits, all)) (none (omega (arith, from, lt)))
+            (λ t a b. taken t a (omega (arith, b, lt)) (omega (arith, b, fits))) in
+        let here : (t : ℕ) → 63 * i ≤ t → t < word_end end (63 * i) → ¬ (HasTaken table shapes t k) = λ t a b. taken t
+            (omega (arith, a, from)) (omega (arith, b, lt)) (omega (arith, b)) in
         rw (zeros i from lt) (IsAliveWord-zero (63 * i) k fits all start here))
         (cases_lt i n);
   }

@@ -20,7 +20,8 @@ MayReach-same table other Run others i j same reach = reach
 MayReach-same table other Deep others i j same (le, ends) = (le, ⊎_elim inl (λ more. inr (⊎_elim inl (λ opens. inr (sym same ∙ opens)) more)) ends)
 
 -- so these split the same of the characters
-PrefixSplits-other : (table other : Table) (shapes : List Shape) (m until n k : ℕ) → SameBefore table other m until → n ≤ m → k ≤ until → PrefixSplits table shapes n k → PrefixSplits other shapes n k
+PrefixSplits-other : (table other : Table) (shapes : List Shape) (m until n k : ℕ) → SameBefore table other m until → n ≤ m → k ≤ until
+    → PrefixSplits table shapes n k → PrefixSplits other shapes n k
 unfolding PrefixSplits
 PrefixSplits-other table other shapes m until zero k same few le prefix = prefix
 PrefixSplits-other table other shapes m until (suc n) k same few le (i, prefix, reach, all) =
@@ -31,7 +32,8 @@ PrefixSplits-other table other shapes m until (suc n) k same few le (i, prefix, 
       λ j low high. sym (same.takes n j few (omega arith)) ∙ all j low high,
     )
 
-pub PrefixSplits-same : (table other : Table) (shapes : List Shape) (n k : ℕ) → SameBefore table other n k → PrefixSplits table shapes n k ↔ PrefixSplits other shapes n k
+pub PrefixSplits-same : (table other : Table) (shapes : List Shape) (n k : ℕ) → SameBefore table other n k
+    → PrefixSplits table shapes n k ↔ PrefixSplits other shapes n k
 PrefixSplits-same table other shapes n k same = (
   PrefixSplits-other table other shapes n k n k same (omega arith) (omega arith),
   PrefixSplits-other other table shapes n k n k (SameBefore-back table other n k same) (omega arith) (omega arith),

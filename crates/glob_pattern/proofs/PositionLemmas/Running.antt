@@ -20,7 +20,8 @@ use Rattle.glob_pattern.specs.declared.matcher.Shape.{Shape}
 use Rattle.glob_pattern.specs.declared.matcher.Shape.TheVariants.{One, Run, Deep}
 
 -- where something is alive after a character, a token was asked about it
-asked-for_alive : (table : Table) (shapes : List Shape) (end p asked : ℕ) → end ≤ length shapes → 0 < p → (asked ≡ 0 → (n : ℕ) → n < end → ¬ (HasTaken table shapes n p))
+asked-for_alive : (table : Table) (shapes : List Shape) (end p asked : ℕ) → end ≤ length shapes → 0 < p
+    → (asked ≡ 0 → (n : ℕ) → n < end → ¬ (HasTaken table shapes n p))
     → IsAnyAlive table shapes end p → 0 < asked
 asked-for_alive table shapes end zero asked within later none any = absurd (omega arith)
 asked-for_alive table shapes end (suc k) asked within later none any =
@@ -29,12 +30,15 @@ asked-for_alive table shapes end (suc k) asked within later none any =
 module _ (table : Table) (shapes : List Shape) (end : ℕ) where
   module _ (first k count : ℕ) (alive : List ℕ) (run : HasRun table shapes end first k count alive) where
     -- after the questions about a character
-    pub HasRun-stepped : (p after : ℕ) (moved : List ℕ) → end ≤ length shapes → p ≡ k + 1 → p ≤ table.characters → WereAsked table shapes 0 end p count after
+    pub HasRun-stepped : (p after : ℕ) (moved : List ℕ) → end ≤ length shapes → p ≡ k + 1 → p ≤ table.characters
+        → WereAsked table shapes 0 end p count after
         → AreAlive table shapes end p 0 (length moved) moved → HasRun table shapes end first p after moved
     HasRun-stepped p after moved fits next within asked says =
         let back : p - 1 ≡ k = omega (arith, next) in
-        let left = room-after end table.characters p (after - count) count after (omega (arith, next)) within (omega (arith, asked.most)) (omega (arith, asked.monotone)) in
-        let some = asked-for_alive table shapes end p (after - count) fits (omega (arith, next)) (λ none m lt taken. let up = asked.least m (omega arith) lt taken in absurd (omega (arith, up, none))) in
+        let left = room-after end table.characters p (after - count) count after (omega (arith, next)) within (omega (arith, asked.most))
+            (omega (arith, asked.monotone)) in
+        let some = asked-for_alive table shapes end p (after - count) fits (omega (arith, next))
+            (λ none m lt taken. let up = asked.least m (omega arith) lt taken in absurd (omega (arith, up, none))) in
         record {
           alive = says;
           within = within;
@@ -50,7 +54,8 @@ module _ (table : Table) (shapes : List Shape) (end : ℕ) where
         omega (arith, left, run.most, room)
 
   -- where the last shape before the end is a wildcard that takes all characters, and is alive, the shapes split them
-  pub whole-by_rest : (n k : ℕ) → TakesRest table shapes end n → k ≤ table.characters → IsAlive table shapes n k → PrefixSplits table shapes end table.characters
+  pub whole-by_rest : (n k : ℕ) → TakesRest table shapes end n → k ≤ table.characters → IsAlive table shapes n k
+      → PrefixSplits table shapes end table.characters
   unfolding PrefixSplits IsAlive
   whole-by_rest n k rest within (i, le, prefix, before, here) =
       let whole : PrefixSplits table shapes (suc n) table.characters = (i, prefix, reach (get_or shapes n One) refl rest.free.grows, λ j low high. rest.takes j (omega arith) high) in
@@ -61,9 +66,11 @@ module _ (table : Table) (shapes : List Shape) (end : ℕ) where
       reach Run is ne = omega arith
       reach Deep is ne = (omega arith, inl (let all : length shapes ≤ suc n = omega (arith, rest.free.ends is, rest.free.last) in rw drop_all refl))
 
-module _ (table : Table) (shapes : List Shape) (span : Span) (first k count : ℕ) (alive : List ℕ) (run : HasRun table shapes span.end first k count alive) (within : span.end ≤ length shapes) where
+module _ (table : Table) (shapes : List Shape) (span : Span) (first k count : ℕ) (alive : List ℕ)
+    (run : HasRun table shapes span.end first k count alive) (within : span.end ≤ length shapes) where
   -- a run that has stepped over all characters
-  pub HasDecided-ended : (found : Bool) → k ≡ table.characters → IsTrue found ↔ PrefixSplits table shapes span.end k → HasDecided table shapes span first count found
+  pub HasDecided-ended : (found : Bool) → k ≡ table.characters → IsTrue found ↔ PrefixSplits table shapes span.end k
+      → HasDecided table shapes span first count found
   HasDecided-ended found all answer = record {
     answer = subst (λ p. IsTrue found ↔ PrefixSplits table shapes span.end p) all answer;
     most = le_trans (le-add_right _ _) run.most;
@@ -72,9 +79,11 @@ module _ (table : Table) (shapes : List Shape) (span : Span) (first k count : �
   }
 
   -- one in which nothing is alive
-  pub HasDecided-dead : span.end ≤ 63 * length alive → 0 < length alive → ((i : ℕ) → i < length alive → get_or alive i 0 ≡ 0) → HasDecided table shapes span first count false
+  pub HasDecided-dead : span.end ≤ 63 * length alive → 0 < length alive → ((i : ℕ) → i < length alive → get_or alive i 0 ≡ 0)
+      → HasDecided table shapes span first count false
   HasDecided-dead long some none = record {
-    answer = (λ t. absurd (false≢true t), λ here. absurd (none-at_end table shapes span.end k alive run.alive within long some none run.within here));
+    answer = (λ t. absurd (false≢true t), λ here. absurd
+        (none-at_end table shapes span.end k alive run.alive within long some none run.within here));
     most = le_trans (le-add_right _ _) run.most;
     least = λ t. absurd (false≢true t);
     monotone = run.monotone;
@@ -82,7 +91,8 @@ module _ (table : Table) (shapes : List Shape) (span : Span) (first k count : �
 
   -- one in which a position is alive that takes all that is left
   pub HasDecided-accepting : word_before span.end < length alive → get_or alive (word_before span.end) 0 < 2 ^ 64 → 0 < bit_and (get_or alive (word_before span.end) 0) span.accepting
-      → ((j : ℕ) → IsBitSet span.accepting j → TakesRest table shapes span.end (63 * word_before span.end + j)) → HasDecided table shapes span first count true
+      → ((j : ℕ) → IsBitSet span.accepting j → TakesRest table shapes span.end (63 * word_before span.end + j))
+          → HasDecided table shapes span first count true
   HasDecided-accepting some fits meets accepting =
       let w = word_before span.end in
       let j = trailing_zeros w64 (bit_and (get_or alive w 0) span.accepting) in
@@ -104,7 +114,8 @@ words-alone (word ∷ []) d one = refl
 words-alone (word ∷ next ∷ others) d one = absurd (omega (arith, one))
 
 -- the word of all shapes before an end, which is alone
-pub one-word : (shapes : List Shape) (end : ℕ) (word : ShapeWord) → end < 64 → end ≤ length shapes → IsShapeWord shapes end 0 word → AreShapeWords shapes end (word ∷ [])
+pub one-word : (shapes : List Shape) (end : ℕ) (word : ShapeWord) → end < 64 → end ≤ length shapes → IsShapeWord shapes end 0 word
+    → AreShapeWords shapes end (word ∷ [])
 one-word shapes end word few within is = record {
   within = within;
   some = omega arith;
@@ -114,7 +125,8 @@ one-word shapes end word few within is = record {
 }
 
 -- before the first character
-pub HasRun-start : (table : Table) (shapes : List Shape) (end first k : ℕ) (alive : List ℕ) → k ≡ 0 → AreAlive table shapes end 0 0 (length alive) alive → HasRun table shapes end first k first alive
+pub HasRun-start : (table : Table) (shapes : List Shape) (end first k : ℕ) (alive : List ℕ) → k ≡ 0
+    → AreAlive table shapes end 0 0 (length alive) alive → HasRun table shapes end first k first alive
 HasRun-start table shapes end first k alive start says = record {
   alive = rw start says;
   within = omega (arith, start);

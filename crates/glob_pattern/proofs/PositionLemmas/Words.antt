@@ -30,7 +30,8 @@ pub whole-later : (table : Table) (shapes : List Shape) (k : ℕ) → 0 < k → 
 unfolding PrefixSplits
 whole-later table shapes k later = (λ t. absurd (false≢true t), λ h. absurd (omega (arith, h)))
 
-module _ (table : Table) (shapes : List Shape) (end start : ℕ) (word : ShapeWord) (from : start ≤ end) (fits : end ≤ length shapes) (are : IsShapeWord shapes end start word) where
+module _ (table : Table) (shapes : List Shape) (end start : ℕ) (word : ShapeWord) (from : start ≤ end) (fits : end ≤ length shapes)
+    (are : IsShapeWord shapes end start word) where
   -- only tokens of the word are asked
   pub asked-in_word : (alive : ℕ) → alive < 2 ^ 64 → (j : ℕ) → IsBitSet (bit_and alive word.tokens) j → (j < 63) × (start + j < end)
   asked-in_word alive short j set =
@@ -67,7 +68,8 @@ module _ (table : Table) (shapes : List Shape) (end start : ℕ) (word : ShapeWo
         let set = (taken.taken (n - start) (omega arith)).1 (rw at t) in
         IsBitSet-zero (n - start) (rw (zero_from_ones (bit_and alive word.tokens) none) at ((answers (n - start) (omega arith)).0 set).0)
 
-  module _ (k took ending : ℕ) (opens whole : Bool) (taken : IsTakenWord table shapes end start k took) (at : opens ≡ table.opens k) (first : IsTrue whole ↔ PrefixSplits table shapes start k)
+  module _ (k took ending : ℕ) (opens whole : Bool) (taken : IsTakenWord table shapes end start k took) (at : opens ≡ table.opens k)
+      (first : IsTrue whole ↔ PrefixSplits table shapes start k)
       (ends : (j : ℕ) → j < 64 → IsBitSet ending j ↔ (IsBitSet took j × (IsTrue opens ⊎ (IsBitSet word.recursive j → ⊥)))) where
     wildcards-are : (j : ℕ) → start + j < word_end end start → IsBitSet word.wildcards j ↔ (get_or shapes (start + j) One ≢ One)
     wildcards-are j within = let grows = are.wildcards j (omega arith) in (λ h. (grows.0 h).1, λ ne. grows.1 (within, ne))
@@ -86,7 +88,8 @@ module _ (table : Table) (shapes : List Shape) (end start : ℕ) (word : ShapeWo
         last : (start + j + 1 < length shapes → ⊥) → suc (start + j) ≡ length shapes
         last none = ⊎_elim (λ e. e) (λ ne. absurd (none (omega arith))) (cases_eq (suc (start + j)) (length shapes))
 
-    spread-whole : (j : ℕ) → start + j ≤ word_end end start → IsBitSet (spread (begun_of ending whole) word.wildcards 0) j ↔ PrefixSplits table shapes (start + j) k
+    spread-whole : (j : ℕ) → start + j ≤ word_end end start
+        → IsBitSet (spread (begun_of ending whole) word.wildcards 0) j ↔ PrefixSplits table shapes (start + j) k
     spread-whole zero within =
         let s = IsBitSet-spread_low (begun_of ending whole) word.wildcards in
         let low = IsBitSet-moved_low ending whole in
@@ -98,7 +101,8 @@ module _ (table : Table) (shapes : List Shape) (end start : ℕ) (word : ShapeWo
         let ih = spread-whole j (omega arith) in
         let grows = wildcards-are j n_lt in
         let ended = ending-may j n_lt in
-        let step : PrefixSplits table shapes (suc (start + j)) k ↔ ComesWhole table shapes (get_or shapes (start + j) One) (start + j) k = PrefixSplits-step table shapes (start + j) (omega (arith, n_lt, fits)) k in
+        let step : PrefixSplits table shapes (suc (start + j)) k ↔ ComesWhole table shapes (get_or shapes (start + j) One)
+            (start + j) k = PrefixSplits-step table shapes (start + j) (omega (arith, n_lt, fits)) k in
         rw add-suc (
           λ h. step.1 (⊎_elim (λ b. inr (ended.0 (next.0 b))) (λ (g, c). inl (ih.0 c, grows.0 g)) (s.0 h)),
           λ h. s.1 (⊎_elim (λ (w, g). inr (grows.1 g, ih.1 w)) (λ e. inl (next.1 (ended.1 e))) (step.0 h)),
@@ -136,11 +140,13 @@ module _ (table : Table) (shapes : List Shape) (end start : ℕ) (word : ShapeWo
 
 module _ (table : Table) (shapes : List Shape) (end k n : ℕ) (alive : List ℕ) where
   -- a word more
-  pub AreAlive-set : (w : ℕ) → AreAlive table shapes end k 0 n alive → n < length alive → IsAliveWord table shapes end (63 * n) k w → AreAlive table shapes end k 0 (n + 1) (set alive n w)
+  pub AreAlive-set : (w : ℕ) → AreAlive table shapes end k 0 n alive → n < length alive → IsAliveWord table shapes end (63 * n) k w
+      → AreAlive table shapes end k 0 (n + 1) (set alive n w)
   AreAlive-set w part lt here = record {
     word = λ i le below.
         ⊎_elim
-        (λ e. let at : get_or (set alive n w) i 0 ≡ w = rw e (get_or-set_same alive n w 0 lt) in rw at (subst (λ j. IsAliveWord table shapes end (63 * j) k w) (sym e) here))
+        (λ e. let at : get_or (set alive n w) i 0 ≡ w = rw e (get_or-set_same alive n w 0 lt) in rw at
+            (subst (λ j. IsAliveWord table shapes end (63 * j) k w) (sym e) here))
         (λ ne. rw (get_or-set_other alive n i w 0 ne) (part.word i (omega arith) (omega arith)))
         (cases_eq i n);
   }
@@ -154,7 +160,8 @@ module _ (table : Table) (shapes : List Shape) (end k n : ℕ) (alive : List ℕ
   }
 
   -- the last bit of the word before says whether the shapes before this word are whole
-  pub carry-whole : AreAlive table shapes end k 0 n alive → 0 < n → 63 * n ≤ end → (last : ℕ) → last < 2 ^ 64 → last ≡ get_or alive (n - 1) 0 → IsTrue (not (nat_eq (last / 2 ^ 63) 0)) ↔ PrefixSplits table shapes (63 * n) k
+  pub carry-whole : AreAlive table shapes end k 0 n alive → 0 < n → 63 * n ≤ end → (last : ℕ) → last < 2 ^ 64
+      → last ≡ get_or alive (n - 1) 0 → IsTrue (not (nat_eq (last / 2 ^ 63) 0)) ↔ PrefixSplits table shapes (63 * n) k
   carry-whole part some le last fits at =
       let start : 63 * (n - 1) + 63 ≡ 63 * n = omega arith in
       let border : word_end end (63 * (n - 1)) ≡ 63 * n = omega arith in
@@ -167,17 +174,21 @@ module _ (table : Table) (shapes : List Shape) (end k n : ℕ) (alive : List ℕ
 
 -- before the first character no token has taken one
 pub IsTakenWord-none : (table : Table) (shapes : List Shape) (end start : ℕ) → IsTakenWord table shapes end start 0 0
-IsTakenWord-none table shapes end start = record { taken = λ j within. (λ set. absurd (IsBitSet-zero j set), λ taken. absurd (HasTaken-none table shapes (start + j) taken)) }
+IsTakenWord-none table shapes end start = record { taken = λ j within.
+    (λ set. absurd (IsBitSet-zero j set), λ taken. absurd (HasTaken-none table shapes (start + j) taken)) }
 
-module _ (table : Table) (shapes : List Shape) (end k : ℕ) (alive : List ℕ) (says : AreAlive table shapes end k 0 (length alive) alive) where
+module _ (table : Table) (shapes : List Shape) (end k : ℕ) (alive : List ℕ)
+    (says : AreAlive table shapes end k 0 (length alive) alive) where
   -- the bit of the position after the last shape says whether all are whole
-  pub end-in_word : (i j : ℕ) → i < length alive → 63 * i + j ≡ end → j ≤ 63 → IsBitSet (get_or alive i 0) j ↔ PrefixSplits table shapes end k
+  pub end-in_word : (i j : ℕ) → i < length alive → 63 * i + j ≡ end → j ≤ 63
+      → IsBitSet (get_or alive i 0) j ↔ PrefixSplits table shapes end k
   end-in_word i j lt at few =
       let border : word_end end (63 * i) ≡ end = omega (arith, at, few) in
       rw border at ((says.word i (omega arith) lt).whole j (omega (arith, at, border)))
 
   -- where all words are 0, nothing is alive
-  none-in_words : end ≤ 63 * length alive → 0 < length alive → ((i : ℕ) → i < length alive → get_or alive i 0 ≡ 0) → ¬ (IsAnyAlive table shapes end k)
+  none-in_words : end ≤ 63 * length alive → 0 < length alive → ((i : ℕ) → i < length alive → get_or alive i 0 ≡ 0)
+      → ¬ (IsAnyAlive table shapes end k)
   none-in_words all some none (inl (n, lt, here)) =
       let at : 63 * (n / 63) + n % 63 ≡ n = omega arith in
       let word = says.word (n / 63) (omega arith) (omega (arith, lt, all)) in
@@ -189,14 +200,17 @@ module _ (table : Table) (shapes : List Shape) (end k : ℕ) (alive : List ℕ) 
       IsBitSet-zero (end - 63 * i) (rw (none i (omega (arith, all, some))) at bit)
 
   -- so nothing is at the end
-  pub none-at_end : end ≤ length shapes → end ≤ 63 * length alive → 0 < length alive → ((i : ℕ) → i < length alive → get_or alive i 0 ≡ 0) → k ≤ table.characters
+  pub none-at_end : end ≤ length shapes → end ≤ 63 * length alive → 0 < length alive → ((i : ℕ) → i < length alive → get_or alive i 0 ≡ 0)
+      → k ≤ table.characters
       → ¬ (PrefixSplits table shapes end table.characters)
   none-at_end within all some none le whole =
       let later : table.characters - k + k ≡ table.characters = omega (arith, le) in
       dead-later table shapes end within (table.characters - k) k (none-in_words all some none) (inr (rw later whole))
 
 -- a word that is alone
-pub AreAlive-alone : (table : Table) (shapes : List Shape) (end k word : ℕ) → IsAliveWord table shapes end 0 k word → AreAlive table shapes end k 0 1 (word ∷ [])
+pub AreAlive-alone : (table : Table) (shapes : List Shape) (end k word : ℕ) → IsAliveWord table shapes end 0 k word
+    → AreAlive table shapes end k 0 1 (word ∷ [])
 AreAlive-alone table shapes end k word says = record {
-  word = λ i le lt. let e : i ≡ 0 = omega (arith, lt) in subst (λ m. IsAliveWord table shapes end (63 * m) k (get_or (word ∷ []) m 0)) (sym e) says;
+  word = λ i le lt. let e : i ≡ 0 = omega (arith, lt) in subst (λ m. IsAliveWord table shapes end (63 * m) k (get_or (word ∷ []) m 0))
+      (sym e) says;
 }

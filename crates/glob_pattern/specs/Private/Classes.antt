@@ -92,18 +92,13 @@ pub record EachCase (P : ℕ → ℕ → Type 0) (x y : ℕ) : Type 0 where
   pub upper : are_letters x y ≡ true → to_ascii_uppercase x ≤ to_ascii_uppercase y
       → P (to_ascii_uppercase x) (to_ascii_uppercase y)
 
--- P holds of the character in lower and in upper case
-pub record EitherCase (P : ℕ → ℕ → Type 0) (x : ℕ) : Type 0 where
-  pub lower : P (to_ascii_lowercase x) (to_ascii_lowercase x)
-  pub upper : P (to_ascii_uppercase x) (to_ascii_uppercase x)
-
 -- P holds of the characters of an entry
 abbrev pub EntryIntervals : (P : ℕ → ℕ → Type 0) → Entry → Type 0
 EntryIntervals P e = EachCase P (first_of e) (last_of e)
 
 -- P holds of the characters of each interval that the token lists
 abbrev pub TokenIntervals : (P : ℕ → ℕ → Type 0) → Token → Type 0
-TokenIntervals P (Literal x) = EitherCase P x
+TokenIntervals P (Literal x) = EachCase P x x
 TokenIntervals P AnyChar = Unit {0}
 TokenIntervals P AnySequence = Unit {0}
 TokenIntervals P Recursive = Unit {0}

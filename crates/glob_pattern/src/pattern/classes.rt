@@ -6,7 +6,7 @@
 ghost use Rattle.std.specs.Prelude.{◌≡◌, ℕ, ◌+◌, ◌<◌, ◌≤◌, Bool, List, length, slice_index, nat_le, IsTrue, IfOk};
 ghost use Rattle.std.specs.List.{All, Contains, prefix_len};
 ghost use Rattle.std.specs.List.Sorted.{IsNonDecreasing};
-ghost use Rattle.glob_pattern.specs.Private.Classes.{IsPartition, AreAsciiClasses, AreNumbered, AreCounts, HasInterval, Grows, EachInterval, EachCase, EitherCase, EntryIntervals, TokenIntervals, HasCut, partition_of, class_in, columns_of, are_letters};
+ghost use Rattle.glob_pattern.specs.Private.Classes.{IsPartition, AreAsciiClasses, AreNumbered, AreCounts, HasInterval, Grows, EachInterval, EachCase, EntryIntervals, TokenIntervals, HasCut, partition_of, class_in, columns_of, are_letters};
 
 use crate::token::Token;
 use crate::token::bracket::{Bracket, Entry};
@@ -115,25 +115,10 @@ impl<A: Allocator> Boundaries<A> {
         ensures grows { IfOk result (λ _. Grows self.old self.new) }
     {
         match token {
-            Token::Literal(c) => self.mark_literal(*c),
+            Token::Literal(c) => self.mark_cases(*c, *c),
             Token::AnyChar | Token::AnySequence | Token::Recursive => Ok(()),
             Token::OneOf(bracket) | Token::NoneOf(bracket) => self.mark_all(bracket.entries()),
         }
-    }
-
-    /// Adds the character in either case. Fails only if allocation fails.
-    #[inline(always)]
-    fn mark_literal(&mut self, c: char) -> Result<(), AllocError>
-        ensures marked { IfOk result (λ _. EitherCase (HasInterval self.new) c) }
-        ensures grows { IfOk result (λ _. Grows self.old self.new) }
-    {
-        let (lower, upper) = (c.to_ascii_lowercase(), c.to_ascii_uppercase());
-        self.mark(lower, lower)?;
-        if upper == lower {
-            return Ok(());
-        }
-        self.mark(upper, upper)?;
-        Ok(())
     }
 
     /// Adds the intervals of all entries. Fails only if allocation fails.

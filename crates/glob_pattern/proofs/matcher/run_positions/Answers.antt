@@ -22,8 +22,10 @@ Splits-answer table shapes end r all answer =
     IfOk-weaker r _ _ (λ yes h. (λ t. split.1 (h.0 t), λ s. h.1 (split.0 s))) (rw all at answer)
 
 -- a run over all shapes
-CanRun-all : (table : Table) (shapes : List Shape) (words : List ShapeWord) (span : Span) (k count : ℕ) → AreShapeWords shapes span.end words
-    → span.end ≡ length shapes → span.accepting ≡ 0 → span.end < 2 ^ 64 → length shapes ≤ table.tokens → k ≡ 0 → count + length shapes * table.characters < 2 ^ 128
+CanRun-all : (table : Table) (shapes : List Shape) (words : List ShapeWord) (span : Span) (k count : ℕ)
+    → AreShapeWords shapes span.end words
+    → span.end ≡ length shapes → span.accepting ≡ 0 → span.end < 2 ^ 64 → length shapes ≤ table.tokens → k ≡ 0
+        → count + length shapes * table.characters < 2 ^ 128
     → CanRun table shapes words span k count
 CanRun-all table shapes words span k count shaped end accepting fits tokens place room = record {
   shaped = shaped;
@@ -40,7 +42,8 @@ decide-requires g c =
     let shapes = c.args.shapes.now in
     let same = map-id shapes in
     rw same (CanRun-all (g.J.Judge.table c.args.judge.now) shapes _ c.all-span.result _ _
-    (one-word shapes c.all-span.result.end c.new.result (omega (arith, c.if-shapes-le-WORD.true, span.end)) (omega (arith, span.end)) (rw same at c.new.ensures))
+    (one-word shapes c.all-span.result.end c.new.result (omega (arith, c.if-shapes-le-WORD.true, span.end)) (omega (arith, span.end))
+        (rw same at c.new.ensures))
     span.end span.accepting (omega arith) c.requires.tokens c.requires.start c.requires.room)
 
 pub decide-requires-else-shapes-le-WORD : goal.decide-requires-else-shapes-le-WORD

@@ -3,7 +3,7 @@ ghost use Rattle.std.specs.Prelude.{◌≡◌, ℕ, ◌+◌, ◌<◌, ◌≤◌,
 ghost use Rattle.std.specs.List.{All};
 ghost use Rattle.glob_pattern.specs.Grammar.Brackets.{is_same, in_range, holds, entry_holds};
 ghost use Rattle.glob_pattern.specs.Grammar.Tokens.{Token as TokenOf, is_recursive};
-ghost use Rattle.glob_pattern.specs.Private.Classes.{IsPartition, Separates, EachInterval, EachCase, EitherCase, EntryIntervals, TokenIntervals, partition_of, class_in, columns_of, are_letters};
+ghost use Rattle.glob_pattern.specs.Private.Classes.{IsPartition, Separates, EachInterval, EachCase, EntryIntervals, TokenIntervals, partition_of, class_in, columns_of, are_letters};
 ghost use Rattle.glob_pattern.specs.Private.CharMasks.{IsRow, AreListed, IsWith, mask_at, lists, is_bracket, takes_all_but_listed};
 ghost use Rattle.glob_pattern.specs.declared.token.bracket.Entry.TheVariants.{Range};
 
@@ -147,7 +147,7 @@ fn list_literal(row: &mut [u64], classes: Classes<'_>, bit: usize, c: char, case
     requires partition { IsPartition (partition_of classes) }
     requires bit { bit < 63 }
     requires long { length row.old ≡ columns_of (partition_of classes) }
-    requires apart { EitherCase (Separates (partition_of classes)) c }
+    requires apart { EachCase (Separates (partition_of classes)) c c }
     ensures { (d : ℕ) → IsWith (mask_at row.old (class_in (partition_of classes.entry) d))
         (mask_at row.new (class_in (partition_of classes.entry) d)) bit
         (is_same case_sensitive d c) }

@@ -5,7 +5,8 @@ use Rattle.glob_pattern.proofs.matcher.positions.run_words.Given as goal
 abbrev pub invariant-loop-live : goal.invariant-loop-live
 invariant-loop-live g l = record {
   count : length l.alive ≡ length l.fn.alive;
-  run : HasRun (g.J.Judge.table l.fn.judge) (map g.T.Shaped.shape l.fn.tokens) l.fn.span.end (g.J.Judge.count l.fn.judge) (g.J.Judge.place l.judge) (g.J.Judge.count l.judge) l.alive;
+  run : HasRun (g.J.Judge.table l.fn.judge) (map g.T.Shaped.shape l.fn.tokens) l.fn.span.end (g.J.Judge.count l.fn.judge)
+      (g.J.Judge.place l.judge) (g.J.Judge.count l.judge) l.alive;
   live : IsLive l.alive (length l.alive) l.live.low l.live.high;
   same : g.J.Judge.table l.judge ≡ g.J.Judge.table l.fn.judge;
 }

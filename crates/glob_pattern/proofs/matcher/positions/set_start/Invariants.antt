@@ -9,5 +9,6 @@ invariant-loop-n g l = record {
   count : length l.alive ≡ length l.fn.alive;
   zeros : (i : ℕ) → l.n ≤ i → i < length l.alive → slice_index l.alive i ≡ 0;
   done : (table : Table) → l.opens ≡ table.opens 0 → AreAlive table (map g.T.Shaped.shape l.tokens) l.end 0 0 l.n l.alive;
-  whole : (table : Table) → l.opens ≡ table.opens 0 → 63 * l.n ≤ l.end → IsTrue l.whole ↔ PrefixSplits table (map g.T.Shaped.shape l.tokens) (63 * l.n) 0;
+  whole : (table : Table) → l.opens ≡ table.opens 0 → 63 * l.n ≤ l.end
+      → IsTrue l.whole ↔ PrefixSplits table (map g.T.Shaped.shape l.tokens) (63 * l.n) 0;
 }

@@ -23,19 +23,24 @@ loop-n-init g c =
     let within : low ≤ length alive = r.live.within in
     let few : 63 * (low - 1) ≤ c.args.end = omega (arith, within, r.many, r.shaped.few) in
     let zeros : (i : ℕ) → 0 ≤ i → i < low → get_or alive i 0 ≡ 0 = λ i from lt. r.live.none i (omega (arith, lt, within)) (inl lt) in
-    let before : AreAlive T shapes c.args.end (p - 1) 0 low alive = record { word = λ i from lt. r.before.word i from (omega (arith, lt, within)) } in
-    let taken : (t : ℕ) → 63 * 0 ≤ t → t < 63 * low → t < c.args.end → ¬ (HasTaken T shapes t p) = none-taken_in_words T shapes c.args.end alive 0 low p before zeros in
+    let before : AreAlive T shapes c.args.end (p - 1) 0 low alive = record { word = λ i from lt. r.before.word i from
+        (omega (arith, lt, within)) } in
+    let taken : (t : ℕ) → 63 * 0 ≤ t → t < 63 * low → t < c.args.end → ¬
+        (HasTaken T shapes t p) = none-taken_in_words T shapes c.args.end alive 0 low p before zeros in
     record {
       count = refl;
-      done = AreAlive-zeros T shapes c.args.end alive 0 low p (record { word = λ i from lt. absurd (omega (arith, lt)) }) r.shaped.within few (λ lt. PrefixSplits-none T shapes p r.stepped) taken zeros;
+      done = AreAlive-zeros T shapes c.args.end alive 0 low p (record { word = λ i from lt. absurd
+          (omega (arith, lt)) }) r.shaped.within few (λ lt. PrefixSplits-none T shapes p r.stepped) taken zeros;
       rest = record { word = λ i from lt. r.before.word i (omega arith) lt };
       zeros = λ i from lt high. r.live.none i lt (inr high);
       next = record { within = le_refl (length alive); none = λ i lt out. zeros i (omega arith) lt };
       whole = λ fits. (
         λ t. absurd {A = PrefixSplits T shapes (63 * low) p} (false≢true t),
-        λ whole. absurd {A = IsTrue false} (none_whole T shapes p 0 (63 * low) (omega arith) (omega (arith, fits, r.shaped.within)) (PrefixSplits-none T shapes p r.stepped) (λ t a lt. taken t (omega arith) lt (omega (arith, lt, fits))) whole),
+        λ whole. absurd {A = IsTrue false} (none_whole T shapes p 0 (63 * low) (omega arith) (omega (arith, fits, r.shaped.within))
+            (PrefixSplits-none T shapes p r.stepped) (λ t a lt. taken t (omega arith) lt (omega (arith, lt, fits))) whole),
       );
-      asked = WereAsked-none T shapes 0 (min (63 * low) c.args.end) p (g.J.Judge.count c.args.judge.now) (λ t a lt. taken t (omega arith) (omega (arith, lt)) (omega (arith, lt)));
+      asked = WereAsked-none T shapes 0 (min (63 * low) c.args.end) p (g.J.Judge.count c.args.judge.now)
+          (λ t a lt. taken t (omega arith) (omega (arith, lt)) (omega (arith, lt)));
       place = refl;
       same = refl;
     }
@@ -92,7 +97,8 @@ loop-n-preserved g c =
       whole = λ fits.
           let at : n + 1 - 1 ≡ n = omega arith in
           carry-whole T shapes c.args.end p (n + 1) (set list n word) done (omega arith) fits word (omega arith) (rw (at, here) refl);
-      asked = rw end (WereAsked-joined T shapes 0 (63 * n) (word_end c.args.end (63 * n)) p _ _ _ (omega arith) (omega (arith, from)) (rw begin at i.asked) s.asked);
+      asked = rw end (WereAsked-joined T shapes 0 (63 * n) (word_end c.args.end (63 * n)) p _ _ _ (omega arith) (omega (arith, from))
+          (rw begin at i.asked) s.asked);
       place = s.place;
       same = s.same;
     }
@@ -125,10 +131,12 @@ returns-then-live-n-clause-stepped g c =
     let all : c.args.end ≤ 63 * length list = omega (arith, i.count, r.many, r.shaped.all) in
     let begin : min (63 * n) c.args.end ≡ 63 * n = omega (arith, from) in
     let zeros : (m : ℕ) → n ≤ m → m < length list → get_or list m 0 ≡ 0 = λ m low below. i.zeros m low below (omega (arith, low, c.if-live-n.true)) in
-    let taken : (t : ℕ) → 63 * n ≤ t → t < 63 * length list → t < c.args.end → ¬ (HasTaken T shapes t p) = none-taken_in_words T shapes c.args.end list n (length list) p i.rest zeros in
+    let taken : (t : ℕ) → 63 * n ≤ t → t < 63 * length list → t < c.args.end → ¬
+        (HasTaken T shapes t p) = none-taken_in_words T shapes c.args.end list n (length list) p i.rest zeros in
     record {
       many = i.count;
-      alive = AreAlive-zeros T shapes c.args.end list n (length list) p i.done r.shaped.within few (λ lt whole. false≢true (sym c.if-not-whole.true ∙ (i.whole from).1 whole)) taken zeros;
+      alive = AreAlive-zeros T shapes c.args.end list n (length list) p i.done r.shaped.within few
+          (λ lt whole. false≢true (sym c.if-not-whole.true ∙ (i.whole from).1 whole)) taken zeros;
       asked = WereAsked-joined T shapes 0 (63 * n) c.args.end p _ _ _ (omega arith) from (rw begin at i.asked)
           (WereAsked-none T shapes (63 * n) c.args.end p _ (λ t low lt. taken t low (omega (arith, lt, all)) lt));
     }

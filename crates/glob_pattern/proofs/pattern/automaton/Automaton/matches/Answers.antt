@@ -9,7 +9,9 @@ use Rattle.glob_pattern.proofs.pattern.automaton.Automaton.matches.Goals as goal
 pub returns-then-accepting-ne0-clause-answer : goal.returns-then-accepting-ne0-clause-answer
 returns-then-accepting-ne0-clause-answer g c =
     let (lt, set, none) = lowest_set c.accepting-accepting.result (omega (arith, c.if-accepting-ne0.true)) (omega arith) in
-    let splits = SplitsPart-at_once c.args.opening c.args.options c.args.tokens.now c.args.end _ (chars c.args.text.now) (omega (arith, c.if-end-eq1.true)) (c.accepting-accepting.ensures.rest c.args.tokens.now c.args.end c.requires c.args.opening (chars c.args.text.now) _ set) in
+    let splits = SplitsPart-at_once c.args.opening c.args.options c.args.tokens.now c.args.end _ (chars c.args.text.now)
+        (omega (arith, c.if-end-eq1.true)) (c.accepting-accepting.ensures.rest c.args.tokens.now c.args.end c.requires c.args.opening
+        (chars c.args.text.now) _ set) in
     (λ _. splits, λ _. refl)
 
 pub new-judge-requires : goal.new-judge-requires
@@ -27,7 +29,9 @@ decide-requires g c =
     let judge = c.new-one_by_one.ensures in
     let masked = c.new-judge.ensures in
     rw (masked, judge.opening, judge.options, judge.tokens, judge.text, judge.start, judge.count)
-    (CanRun-part c.args.opening c.args.options c.args.tokens.now c.args.text.now c.words.result.now _ 0 0 c.words.ensures.words (c.accepting-accepting.ensures.rest c.args.tokens.now c.args.end c.requires c.args.opening (chars c.args.text.now)) refl refl (omega arith) (omega arith))
+    (CanRun-part c.args.opening c.args.options c.args.tokens.now c.args.text.now c.words.result.now _ 0 0 c.words.ensures.words
+        (c.accepting-accepting.ensures.rest c.args.tokens.now c.args.end c.requires c.args.opening (chars c.args.text.now)) refl refl
+        (omega arith) (omega arith))
 
 pub returns-clause-answer : goal.returns-clause-answer
 unfolding table_within
@@ -44,10 +48,12 @@ returns-clause-most g c =
     omega (arith, most, c.asked.ensures, c.new-one_by_one.ensures.count)
 
 pub returns-then-accepting-ne0-clause-least : goal.returns-then-accepting-ne0-clause-least
-returns-then-accepting-ne0-clause-least g c = λ _ ruled. absurd (omega (arith, c.if-accepting-ne0.true, c.accepting-accepting.ensures.ruled ruled))
+returns-then-accepting-ne0-clause-least g c = λ _ ruled. absurd (omega
+    (arith, c.if-accepting-ne0.true, c.accepting-accepting.ensures.ruled ruled))
 
 pub returns-clause-least : goal.returns-clause-least
 unfolding table_within
 returns-clause-least g c = λ yes ruled.
-    let least = rw (c.new-judge.ensures, c.new-one_by_one.ensures.text) at (c.in_ok-answer.ensures.least yes (c.accepting-accepting.ensures.ruled ruled)) in
+    let least = rw (c.new-judge.ensures, c.new-one_by_one.ensures.text) at
+        (c.in_ok-answer.ensures.least yes (c.accepting-accepting.ensures.ruled ruled)) in
     omega (arith, least, c.asked.ensures)

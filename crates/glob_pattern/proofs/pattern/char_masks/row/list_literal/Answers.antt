@@ -1,21 +1,21 @@
-use Rattle.std.proofs.Common.{ℕ, ◌==◌, ◌∙◌, subst, sym, ⊎_elim}
+use Rattle.std.proofs.Common.{◌==◌, ◌∙◌, sym, arith}
 use Rattle.std.proofs.Math.Bool.{or-false, or_self}
 use Rattle.std.specs.Char.{to_ascii_lowercase}
 use Rattle.glob_pattern.specs.Private.Classes.{Separates, partition_of}
-use Rattle.glob_pattern.proofs.ClassLemmas.Folding.{own-case, either-same}
+use Rattle.glob_pattern.proofs.ClassLemmas.Folding.{EachCase-forms, either-same}
 use Rattle.glob_pattern.proofs.MaskLemmas.Putting.{IsWith-after}
 use Rattle.glob_pattern.proofs.pattern.char_masks.row.list_literal.Goals as goal
 
 pub list_char-requires-clause-apart : goal.list_char-requires-clause-apart
-list_char-requires-clause-apart c =
-    let P : ℕ → Type 0 = λ x. Separates (partition_of c.args.classes) x x in
-    ⊎_elim (λ e. subst P e c.requires.apart.lower) (λ e. subst P e c.requires.apart.upper) (own-case c.args.c)
+list_char-requires-clause-apart c = c.requires.apart.plain (omega arith)
 
 pub list_char-requires-2-clause-apart : goal.list_char-requires-2-clause-apart
-list_char-requires-2-clause-apart c = rw c.to_ascii_lowercase-lower.ensures.value c.requires.apart.lower
+list_char-requires-2-clause-apart c =
+    rw c.to_ascii_lowercase-lower.ensures.value (EachCase-forms (Separates (partition_of c.args.classes)) c.args.c c.requires.apart).0
 
 pub list_char-requires-3-clause-apart : goal.list_char-requires-3-clause-apart
-list_char-requires-3-clause-apart c = rw c.to_ascii_uppercase-upper.ensures.value c.requires.apart.upper
+list_char-requires-3-clause-apart c =
+    rw c.to_ascii_uppercase-upper.ensures.value (EachCase-forms (Separates (partition_of c.args.classes)) c.args.c c.requires.apart).1
 
 pub returns-then-case_sensitive : goal.returns-then-case_sensitive
 returns-then-case_sensitive c = λ d. rw (c.if-case_sensitive.true, or-false (d == c.args.c)) (c.list_char.ensures d)

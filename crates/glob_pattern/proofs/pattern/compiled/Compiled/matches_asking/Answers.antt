@@ -65,7 +65,8 @@ returns-then-not-may_be_in-clause-answer g c =
     )
 
 pub matches-requires : goal.matches-requires
-matches-requires g c = rw (range-end c.as_slice-tokens.result.now c.self.inside.ends.lead, c.as_slice-tokens.ensures.value) c.self.invariant.between
+matches-requires g c = rw
+    (range-end c.as_slice-tokens.result.now c.self.inside.ends.lead, c.as_slice-tokens.ensures.value) c.self.invariant.between
 
 pub returns-clause-answer : goal.returns-clause-answer
 returns-clause-answer g c =
@@ -96,7 +97,8 @@ overflow_add-result g c =
     let few : length tokens - c.self.inside.ends.trail - c.self.inside.ends.lead ≤ length tokens = omega arith in
     let all = mul-le-mul_right (length (chars c.in-Some.part.text.now)) few in
     let one = mul-suc (length tokens) (length (chars c.in-Some.part.text.now)) in
-    let fits = product_fits (length tokens) (suc (length (chars c.in-Some.part.text.now))) (omega arith) (omega (arith, c.in-Some.ensures.count, length-chars c.args.text.now)) in
+    let fits = product_fits (length tokens) (suc (length (chars c.in-Some.part.text.now))) (omega arith)
+        (omega (arith, c.in-Some.ensures.count, length-chars c.args.text.now)) in
     omega (arith, all, one, fits, c.in_ok-answer.ensures.most, is.ones.within, length-map tokens shape_of, c.if-between-eq0.false, c.min-again.ensures)
 
 pub returns-then-between-eq0-clause-least : goal.returns-then-between-eq0-clause-least

@@ -5,4 +5,5 @@ use Rattle.glob_pattern.proofs.PositionLemmas.Running.{one-word}
 use Rattle.glob_pattern.proofs.pattern.compiled.Compiled.matches_counted.Goals as goal
 
 pub ask_all-requires : goal.ask_all-requires
-ask_all-requires g c = one-word _ _ _ (omega (arith, c.if-tokens-le-WORD.true)) (omega (arith, length-map c.as_slice-tokens.result.now shape_of)) c.new.ensures
+ask_all-requires g c = one-word _ _ _ (omega (arith, c.if-tokens-le-WORD.true))
+    (omega (arith, length-map c.as_slice-tokens.result.now shape_of)) c.new.ensures
