@@ -165,7 +165,7 @@ TokensMatch-iff_part o tokens text =
     let whole : Splits (table_of o tokens text) shapes ↔ PrefixSplits (table_of o tokens text) shapes (length tokens) n =
     subst (λ m. Splits (table_of o tokens text) shapes ↔ PrefixSplits (table_of o tokens text) shapes m n) (length-map tokens shape_of) (Splits-iff_prefix (table_of o tokens text) shapes) in
     let within = PrefixSplits-same (table_of o tokens text) (table_within true o tokens text) shapes (length tokens) n
-        (same-whole_text o tokens text (length tokens) n) in (
+    (same-whole_text o tokens text (length tokens) n) in (
       λ match. within.0 (whole.0 (Splits-from_TokensMatch o tokens text match)),
       λ splits. TokensMatch-from_Splits o tokens text (whole.1 (within.1 splits)),
     )
@@ -176,7 +176,7 @@ pub SplitsPart-asked : (o : MatchOptions) (opening : Bool) (tokens : List Token)
 unfolding SplitsPart table_within
 SplitsPart-asked o opening tokens n part =
     PrefixSplits-same (table_within opening o (take n tokens) part) (table_within opening o tokens part) (map shape_of tokens) n
-        (length part) (record {
+    (length part) (record {
       takes = λ m j few lt. ap (takes o (opens_within opening part j) (get_or part j 0)) (get_or-take n tokens m AnyChar few);
       opens = λ j le. refl;
     })
@@ -214,6 +214,8 @@ pub SplitsPart-fewer : (o : MatchOptions) (opening : Bool) (tokens : List Token)
 unfolding SplitsPart
 SplitsPart-fewer o opening tokens n m text within splits =
     let (j, le, fewer) = PrefixSplits-fewer (table_within opening o tokens text) (map shape_of tokens) n m (length text) within splits in
-    let long : j ≡ length (take j text) = sym (length-take-le j text le) in
-    (j, subst (PrefixSplits (table_within opening o tokens (take j text)) (map shape_of tokens) m) long
-        ((PrefixSplits-same _ _ (map shape_of tokens) m j (same-take o opening tokens text m j)).0 fewer))
+    let long : j ≡ length (take j text) = sym (length-take-le j text le) in (
+      j,
+      subst (PrefixSplits (table_within opening o tokens (take j text)) (map shape_of tokens) m) long
+          ((PrefixSplits-same _ _ (map shape_of tokens) m j (same-take o opening tokens text m j)).0 fewer),
+    )

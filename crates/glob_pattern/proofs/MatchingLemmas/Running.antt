@@ -20,7 +20,7 @@ use Rattle.glob_pattern.proofs.PositionLemmas.Running.{whole-by_rest}
 pub CanRun-part : (opening : Bool) (o : MatchOptions) (tokens : List Token) (bytes : List ℕ) (words : List ShapeWord) (span : Span) (k count : ℕ)
     → AreShapeWords (map shape_of tokens) span.end words
     → ((j : ℕ) → IsBitSet span.accepting j → TakesRest (table_within opening o (take span.end tokens) (chars bytes))
-        (map shape_of tokens) span.end (63 * word_before span.end + j))
+    (map shape_of tokens) span.end (63 * word_before span.end + j))
     → k ≡ 0 → count ≡ 0 → span.end < 2 ^ 64 → length bytes < 2 ^ 64
     → CanRun (table_within opening o (take span.end tokens) (chars bytes)) (map shape_of tokens) words span k count
 unfolding table_within
@@ -43,4 +43,4 @@ SplitsPart-at_once opening o tokens end n part one rest =
     let first : n ≡ 0 = omega (arith, one, rest.free.last) in
     let table = table_within opening o (take end tokens) part in
     (SplitsPart-asked o opening tokens end part).0 (whole-by_rest table (map shape_of tokens) end 0 0 (rw first at rest) (omega arith)
-        (0, omega arith, refl, TakesAll-none table 0 0, inl refl))
+    (0, omega arith, refl, TakesAll-none table 0 0, inl refl))

@@ -1,13 +1,13 @@
 -- What the ends of a pattern leave of a text, and of its tokens.
-use Rattle.std.proofs.Common.{◌≡◌, ℕ, ◌+◌, ◌-◌, ◌<◌, ◌≤◌, ◌↔◌, Bool, true, List, [], ◌∷◌, ◌++◌, length, map, take, drop, get_or, refl, sym, ap, ap₂, subst, subst₂, ◌∙◌, arith, chars, append-nil}
+use Rattle.std.proofs.Common.{◌≡◌, ℕ, ◌+◌, ◌-◌, ◌<◌, ◌≤◌, ◌↔◌, Bool, true, false, List, [], ◌∷◌, ◌++◌, length, map, take, drop, get_or, refl, sym, ap, ap₂, subst, subst₂, ◌∙◌, arith, chars, append-nil}
 use Rattle.std.proofs.Math.Seq.{drop-append_seam, take-append_seam}
 use Rattle.std.proofs.lemmas.Bool.{and_from, and_parts}
-use Rattle.std.proofs.lemmas.List.{drop-drop, drop_more, get_or-map, get_or-take, length-append, length-drop, length-map, length-take-le, map-append, nil_from_length, take-append-drop, take_all, take_more}
+use Rattle.std.proofs.lemmas.List.{drop-drop, drop_more, get_or-map, length-append, length-drop, length-map, length-take-le, map-append, nil_from_length, take-append-drop, take-map, take-take, take_all, take_more}
 use Rattle.std.proofs.lemmas.List.Folds.{drop_split}
 use Rattle.std.proofs.lemmas.Str.{IsUtf8-take, IsUtf8-drop, IsCharBoundary-from_drop, chars-append, chars-encodes, encodes-append, encodes-chars, length-encode, scalars-chars}
 use Rattle.std.specs.List.{slice_range}
 use Rattle.std.specs.Str.{IsUtf8, IsCharBoundary, encode_utf8_all}
-use Rattle.std.specs.Char.{len_utf8}
+use Rattle.std.specs.Char.{len_utf8, to_ascii_lowercase}
 use lib.Utf8.{encode, scalar, scalars}
 use Rattle.glob_text.specs.Text.{Text}
 use Rattle.glob_pattern.specs.Grammar.Tokens.{Token, shape_of}
@@ -34,6 +34,11 @@ range-end xs i = take_all (length xs - i) (drop i xs) (omega (arith, length-drop
 
 pub length-range : {X : Type 0} (xs : List X) (i j : ℕ) → i ≤ j → j ≤ length xs → length (slice_range xs i j) ≡ j - i
 length-range xs i j le within = length-take-le (j - i) (drop i xs) (omega (arith, length-drop i xs))
+
+-- bytes that are the same begin with the same bytes
+SameBytes-take : (case : Bool) (n : ℕ) (bytes other : List ℕ) → SameBytes case bytes other → SameBytes case (take n bytes) (take n other)
+SameBytes-take true n bytes other same = ap (take n) same
+SameBytes-take false n bytes other same = sym (take-map to_ascii_lowercase n bytes) ∙ ap (take n) same ∙ take-map to_ascii_lowercase n other
 
 -- each of two parts of characters is of characters
 scalars-parts : (xs ys : Text) → scalars (xs ++ ys) ≡ true → (scalars xs ≡ true) × (scalars ys ≡ true)
@@ -196,12 +201,13 @@ module _ (tokens : List Token) (ends : Ends) (is : IsEnds tokens ends) where
       pub cut-within : ends.prefix.bytes + ends.suffix.bytes ≤ length bytes
       cut-within = omega (arith, literal-ends.within, is.first.count_is, is.last.count_is)
 
-      pub first-byte : o.case_sensitive ≡ true → 0 < ends.prefix.bytes → get_or bytes 0 0 ≡ get_or pattern 0 0
-      first-byte case some =
+      pub first-byte : 0 < ends.prefix.bytes → SameBytes o.case_sensitive (take 1 bytes) (take 1 pattern)
+      first-byte some =
           let prefix = take ends.prefix.bytes pattern in
           let long = length-take-le ends.prefix.bytes pattern (pattern-first pattern v read).1 in
-          let same : take (length prefix) bytes ≡ prefix = subst (λ sensitive. SameBytes sensitive (take (length prefix) bytes) prefix) case found.first in
-          sym (get_or-take (length prefix) bytes 0 0 (omega (arith, some, long))) ∙ ap (λ xs. get_or xs 0 0) same ∙ get_or-take ends.prefix.bytes pattern 0 0 some
+          subst₂ (SameBytes o.case_sensitive) (take-take 1 (length prefix) bytes (omega (arith, some, long)))
+          (take-take 1 ends.prefix.bytes pattern some)
+          (SameBytes-take o.case_sensitive 1 (take (length prefix) bytes) prefix found.first)
 
       pub cut-start : IsCharBoundary bytes ends.prefix.bytes
       cut-start = start-boundary o bytes u ends.prefix.bytes (length bytes - ends.suffix.bytes) is.first.count_is (ap (λ n. length bytes - n) is.last.count_is)

@@ -11,12 +11,12 @@ module _ (table : Table) (shapes : List Shape) (end : ℕ) (within : end ≤ len
   dead-from_none k none (inl (n, lt, alive)) =
       ⊎_elim
       (none_whole table shapes (suc k) 0 n (omega arith) (omega (arith, lt, within)) (PrefixSplits-none table shapes (suc k) (omega arith))
-          (λ t from below. none t (omega (arith, below, lt))))
+      (λ t from below. none t (omega (arith, below, lt))))
       (λ (t, grows). none n lt t)
       ((IsAlive-step table shapes n (suc k)).0 alive)
   dead-from_none k none (inr whole) =
       none_whole table shapes (suc k) 0 end (omega arith) within (PrefixSplits-none table shapes (suc k) (omega arith))
-          (λ t from below. none t below) whole
+      (λ t from below. none t below) whole
 
   -- where nothing is alive, nothing is later
   pub dead-later : (m k : ℕ) → ¬ (IsAnyAlive table shapes end k) → ¬ (IsAnyAlive table shapes end (m + k))

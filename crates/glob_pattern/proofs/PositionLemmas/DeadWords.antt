@@ -40,7 +40,7 @@ module _ (table : Table) (shapes : List Shape) (end : ℕ) where
           λ s. absurd (IsBitSet-zero j s),
           λ a. absurd (⊎_elim
               (λ w. none_whole table shapes k start (start + j) (omega arith) (omega (arith, within, fits)) none
-                  (λ t low lt. taken t low (omega (arith, lt, within))) w)
+              (λ t low lt. taken t low (omega (arith, lt, within))) w)
               (λ (t, grows). taken (start + j) (omega arith) within t)
               (step.0 a)),
         );
@@ -54,7 +54,7 @@ module _ (table : Table) (shapes : List Shape) (end : ℕ) where
   pub AreAlive-zeros : (alive : List ℕ) (n high k : ℕ) → AreAlive table shapes end k 0 n alive → end ≤ length shapes → 63 * (high - 1) ≤ end
       → (n < high → ¬ (PrefixSplits table shapes (63 * n) k))
       → ((t : ℕ) → 63 * n ≤ t → t < 63 * high → t < end → ¬ (HasTaken table shapes t k)) →
-          ((i : ℕ) → n ≤ i → i < high → get_or alive i 0 ≡ 0) → AreAlive table shapes end k 0 high alive
+      ((i : ℕ) → n ≤ i → i < high → get_or alive i 0 ≡ 0) → AreAlive table shapes end k 0 high alive
   AreAlive-zeros alive n high k done all few none taken zeros = record {
     word = λ i low lt.
         ⊎_elim
@@ -62,10 +62,10 @@ module _ (table : Table) (shapes : List Shape) (end : ℕ) where
         (λ from.
         let fits : 63 * i ≤ end = omega (arith, few, lt) in
         let start : ¬ (PrefixSplits table shapes (63 * i) k) = none_whole table shapes k (63 * n) (63 * i) (omega (arith, from))
-            (omega (arith, fits, all)) (none (omega (arith, from, lt)))
-            (λ t a b. taken t a (omega (arith, b, lt)) (omega (arith, b, fits))) in
+        (omega (arith, fits, all)) (none (omega (arith, from, lt)))
+        (λ t a b. taken t a (omega (arith, b, lt)) (omega (arith, b, fits))) in
         let here : (t : ℕ) → 63 * i ≤ t → t < word_end end (63 * i) → ¬ (HasTaken table shapes t k) = λ t a b. taken t
-            (omega (arith, a, from)) (omega (arith, b, lt)) (omega (arith, b)) in
+        (omega (arith, a, from)) (omega (arith, b, lt)) (omega (arith, b)) in
         rw (zeros i from lt) (IsAliveWord-zero (63 * i) k fits all start here))
         (cases_lt i n);
   }

@@ -36,9 +36,9 @@ module _ (table : Table) (shapes : List Shape) (end : ℕ) where
     HasRun-stepped p after moved fits next within asked says =
         let back : p - 1 ≡ k = omega (arith, next) in
         let left = room-after end table.characters p (after - count) count after (omega (arith, next)) within (omega (arith, asked.most))
-            (omega (arith, asked.monotone)) in
+        (omega (arith, asked.monotone)) in
         let some = asked-for_alive table shapes end p (after - count) fits (omega (arith, next))
-            (λ none m lt taken. let up = asked.least m (omega arith) lt taken in absurd (omega (arith, up, none))) in
+        (λ none m lt taken. let up = asked.least m (omega arith) lt taken in absurd (omega (arith, up, none))) in
         record {
           alive = says;
           within = within;
@@ -82,8 +82,11 @@ module _ (table : Table) (shapes : List Shape) (span : Span) (first k count : �
   pub HasDecided-dead : span.end ≤ 63 * length alive → 0 < length alive → ((i : ℕ) → i < length alive → get_or alive i 0 ≡ 0)
       → HasDecided table shapes span first count false
   HasDecided-dead long some none = record {
-    answer = (λ t. absurd (false≢true t), λ here. absurd
-        (none-at_end table shapes span.end k alive run.alive within long some none run.within here));
+    answer = (
+      λ t. absurd (false≢true t),
+      λ here. absurd
+          (none-at_end table shapes span.end k alive run.alive within long some none run.within here),
+    );
     most = le_trans (le-add_right _ _) run.most;
     least = λ t. absurd (false≢true t);
     monotone = run.monotone;
@@ -92,7 +95,7 @@ module _ (table : Table) (shapes : List Shape) (span : Span) (first k count : �
   -- one in which a position is alive that takes all that is left
   pub HasDecided-accepting : word_before span.end < length alive → get_or alive (word_before span.end) 0 < 2 ^ 64 → 0 < bit_and (get_or alive (word_before span.end) 0) span.accepting
       → ((j : ℕ) → IsBitSet span.accepting j → TakesRest table shapes span.end (63 * word_before span.end + j))
-          → HasDecided table shapes span first count true
+      → HasDecided table shapes span first count true
   HasDecided-accepting some fits meets accepting =
       let w = word_before span.end in
       let j = trailing_zeros w64 (bit_and (get_or alive w 0) span.accepting) in

@@ -102,7 +102,7 @@ module _ (table : Table) (shapes : List Shape) (end start : ℕ) (word : ShapeWo
         let grows = wildcards-are j n_lt in
         let ended = ending-may j n_lt in
         let step : PrefixSplits table shapes (suc (start + j)) k ↔ ComesWhole table shapes (get_or shapes (start + j) One)
-            (start + j) k = PrefixSplits-step table shapes (start + j) (omega (arith, n_lt, fits)) k in
+        (start + j) k = PrefixSplits-step table shapes (start + j) (omega (arith, n_lt, fits)) k in
         rw add-suc (
           λ h. step.1 (⊎_elim (λ b. inr (ended.0 (next.0 b))) (λ (g, c). inl (ih.0 c, grows.0 g)) (s.0 h)),
           λ h. s.1 (⊎_elim (λ (w, g). inr (grows.1 g, ih.1 w)) (λ e. inl (next.1 (ended.1 e))) (step.0 h)),
@@ -146,7 +146,7 @@ module _ (table : Table) (shapes : List Shape) (end k n : ℕ) (alive : List ℕ
     word = λ i le below.
         ⊎_elim
         (λ e. let at : get_or (set alive n w) i 0 ≡ w = rw e (get_or-set_same alive n w 0 lt) in rw at
-            (subst (λ j. IsAliveWord table shapes end (63 * j) k w) (sym e) here))
+        (subst (λ j. IsAliveWord table shapes end (63 * j) k w) (sym e) here))
         (λ ne. rw (get_or-set_other alive n i w 0 ne) (part.word i (omega arith) (omega arith)))
         (cases_eq i n);
   }
@@ -174,8 +174,10 @@ module _ (table : Table) (shapes : List Shape) (end k n : ℕ) (alive : List ℕ
 
 -- before the first character no token has taken one
 pub IsTakenWord-none : (table : Table) (shapes : List Shape) (end start : ℕ) → IsTakenWord table shapes end start 0 0
-IsTakenWord-none table shapes end start = record { taken = λ j within.
-    (λ set. absurd (IsBitSet-zero j set), λ taken. absurd (HasTaken-none table shapes (start + j) taken)) }
+IsTakenWord-none table shapes end start = record {
+  taken = λ j within.
+      (λ set. absurd (IsBitSet-zero j set), λ taken. absurd (HasTaken-none table shapes (start + j) taken));
+}
 
 module _ (table : Table) (shapes : List Shape) (end k : ℕ) (alive : List ℕ)
     (says : AreAlive table shapes end k 0 (length alive) alive) where

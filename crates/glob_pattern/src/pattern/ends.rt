@@ -108,8 +108,7 @@ impl Ends {
         has_ends(bytes, prefix, suffix, options)
     }
 
-    /// Whether the text is rejected by its length or, case-sensitively, by its first byte. It is cheap, so that callers
-    /// have it inline.
+    /// Whether the text is rejected by its length or its first byte. It is cheap, so that callers have it inline.
     #[inline(always)]
     pub fn reject<A: Allocator>(
         &self,
@@ -126,10 +125,7 @@ impl Ends {
         if bytes.len() < self.prefix.bytes + self.suffix.bytes {
             return true;
         }
-        if !options.case_sensitive {
-            return false;
-        }
-        self.prefix.bytes > 0 && bytes[0] != literals[0]
+        self.prefix.bytes > 0 && !are_same(&bytes[..1], &literals[..1], options)
     }
 
     /// Takes the ends from a text: so those of `src/*.rs` leave `main` of `src/main.rs`. `None`: the text does not match.

@@ -25,7 +25,7 @@ Splits-answer table shapes end r all answer =
 CanRun-all : (table : Table) (shapes : List Shape) (words : List ShapeWord) (span : Span) (k count : ℕ)
     → AreShapeWords shapes span.end words
     → span.end ≡ length shapes → span.accepting ≡ 0 → span.end < 2 ^ 64 → length shapes ≤ table.tokens → k ≡ 0
-        → count + length shapes * table.characters < 2 ^ 128
+    → count + length shapes * table.characters < 2 ^ 128
     → CanRun table shapes words span k count
 CanRun-all table shapes words span k count shaped end accepting fits tokens place room = record {
   shaped = shaped;
@@ -43,7 +43,7 @@ decide-requires g c =
     let same = map-id shapes in
     rw same (CanRun-all (g.J.Judge.table c.args.judge.now) shapes _ c.all-span.result _ _
     (one-word shapes c.all-span.result.end c.new.result (omega (arith, c.if-shapes-le-WORD.true, span.end)) (omega (arith, span.end))
-        (rw same at c.new.ensures))
+    (rw same at c.new.ensures))
     span.end span.accepting (omega arith) c.requires.tokens c.requires.start c.requires.room)
 
 pub decide-requires-else-shapes-le-WORD : goal.decide-requires-else-shapes-le-WORD

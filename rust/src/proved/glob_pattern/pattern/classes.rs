@@ -90,21 +90,10 @@ impl Boundaries {
     /// Adds the intervals of the token.
     fn mark_token(&mut self, token: &Token<Bracket>) {
         match token {
-            Token::Literal(c) => self.mark_literal(*c),
+            Token::Literal(c) => self.mark_cases(*c, *c),
             Token::AnyChar | Token::AnySequence | Token::Recursive => {}
             Token::OneOf(bracket) | Token::NoneOf(bracket) => self.mark_all(bracket.entries()),
         }
-    }
-
-    /// Adds the character in either case.
-    #[inline(always)]
-    fn mark_literal(&mut self, c: char) {
-        let (lower, upper) = (c.to_ascii_lowercase(), c.to_ascii_uppercase());
-        self.mark(lower, lower);
-        if upper == lower {
-            return;
-        }
-        self.mark(upper, upper);
     }
 
     /// Adds the intervals of all entries.

@@ -76,18 +76,14 @@ impl Ends {
         has_ends(bytes, prefix, suffix, options)
     }
 
-    /// Whether the text is rejected by its length or, case-sensitively, by its first byte. It is cheap, so that callers
-    /// have it inline.
+    /// Whether the text is rejected by its length or its first byte. It is cheap, so that callers have it inline.
     #[inline(always)]
     pub fn reject(&self, tokens: &[Token<Bracket>], pattern: &str, text: &str, options: MatchOptions) -> bool {
         let (bytes, literals) = (text.as_bytes(), pattern.as_bytes());
         if bytes.len() < self.prefix.bytes + self.suffix.bytes {
             return true;
         }
-        if !options.case_sensitive {
-            return false;
-        }
-        self.prefix.bytes > 0 && bytes[0] != literals[0]
+        self.prefix.bytes > 0 && !are_same(&bytes[..1], &literals[..1], options)
     }
 
     /// Takes the ends from a text: so those of `src/*.rs` leave `main` of `src/main.rs`. `None`: the text does not

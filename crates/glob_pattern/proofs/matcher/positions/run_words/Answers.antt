@@ -26,7 +26,7 @@ step_words-live-requires g c =
     let (next, within) = rw same at (c.step.ensures.stepped c.if-not-step.false) in
     let back : g.J.Judge.place c.step.new.self - 1 ≡ g.J.Judge.place c.loop-live.judge = omega (arith, next) in
     let room = HasRun-room (g.J.Judge.table c.args.judge.now) shapes c.args.span.end _ _ _ _ i.run
-        (omega (arith, next, within)) ready.room in
+    (omega (arith, next, within)) ready.room in
     rw same (record {
       shaped = ready.shaped;
       many = i.count ∙ c.requires.length;
@@ -71,7 +71,7 @@ returns-then-not-step-clause-decided g c =
     let (stays, ended) = c.step.ensures.ended c.if-not-step.true in
     rw c.step.ensures.count
     (HasDecided-ended T (map g.T.Shaped.shape c.args.tokens.now) c.args.span _ _ _ _ i.run c.requires.ready.shaped.within c.is_whole.result
-        (sym (rw (c.step.ensures.same, i.same) at ended)) (c.is_whole.ensures T _ i.run.alive))
+    (sym (rw (c.step.ensures.same, i.same) at ended)) (c.is_whole.ensures T _ i.run.alive))
 
 pub returns-clause-decided : goal.returns-clause-decided
 returns-clause-decided g c =
@@ -79,7 +79,7 @@ returns-clause-decided g c =
     let ready = c.requires.ready in
     let long : length c.loop-live.alive ≡ length c.args.words.now = i.count ∙ c.requires.length in
     HasDecided-dead (g.J.Judge.table c.args.judge.now)
-        (map g.T.Shaped.shape c.args.tokens.now) c.args.span _ _ _ _ i.run ready.shaped.within
+    (map g.T.Shaped.shape c.args.tokens.now) c.args.span _ _ _ _ i.run ready.shaped.within
     (rw long ready.shaped.all) (rw long ready.shaped.some) (λ m lt. i.live.none m lt (inr (omega (arith, c.loop-live-test.false))))
 
 pub returns-then-alive-last-ne0-clause-decided : goal.returns-then-alive-last-ne0-clause-decided
@@ -90,6 +90,6 @@ returns-then-alive-last-ne0-clause-decided g c =
     let fits : get_or c.loop-live.alive c.word_before-last.result 0 < 2 ^ 64 = omega arith in
     let meets : 0 < bit_and (get_or c.loop-live.alive c.word_before-last.result 0) c.args.span.accepting = omega (arith, c.if-alive-last-ne0.true) in
     HasDecided-accepting (g.J.Judge.table c.args.judge.now)
-        (map g.T.Shaped.shape c.args.tokens.now) c.args.span _ _ _ c.loop-live.alive i.run ready.shaped.within
+    (map g.T.Shaped.shape c.args.tokens.now) c.args.span _ _ _ c.loop-live.alive i.run ready.shaped.within
     (omega (arith, long, ready.shaped.all, ready.shaped.some)) (rw c.word_before-last.ensures at fits)
-        (rw c.word_before-last.ensures at meets) ready.accepting
+    (rw c.word_before-last.ensures at meets) ready.accepting

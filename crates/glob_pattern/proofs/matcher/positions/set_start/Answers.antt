@@ -27,10 +27,10 @@ loop-n-preserved g c =
     let from : 63 * n ≤ c.args.end = omega (arith, i.count, c.requires.words.few, c.requires.length) in
     let are = c.requires.words.word n (record { tokens = 0; wildcards = 0; recursive = 0 }) (omega (arith, i.count, c.requires.length)) in
     let next : (table : Table) → c.args.opens ≡ table.opens 0 → AreAlive table shapes c.args.end 0 0 (n + 1)
-        (set list n word) = λ table opens.
+    (set list n word) = λ table opens.
     AreAlive-set table shapes c.args.end 0 n list word (i.done table opens) lt
-        (c.step-word.ensures table shapes c.args.end (63 * n) 0 from c.requires.words.within are
-        (IsTakenWord-none table shapes c.args.end (63 * n)) opens (i.whole table opens from)) in
+    (c.step-word.ensures table shapes c.args.end (63 * n) 0 from c.requires.words.within are
+    (IsTakenWord-none table shapes c.args.end (63 * n)) opens (i.whole table opens from)) in
     record {
       count = long ∙ i.count;
       zeros = λ m low below.
@@ -40,7 +40,7 @@ loop-n-preserved g c =
       whole = λ table opens le.
           let at : n + 1 - 1 ≡ n = omega arith in
           carry-whole table shapes c.args.end 0 (n + 1) _ (next table opens) (omega arith) le word (omega arith)
-              (rw (at, get_or-set_same list n word 0 lt) cc);
+          (rw (at, get_or-set_same list n word 0 lt) cc);
     }
 
 pub returns-clause-live : goal.returns-clause-live

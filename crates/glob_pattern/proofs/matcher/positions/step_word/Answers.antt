@@ -15,7 +15,7 @@ returns-then-not-whole-clause-alive g c =
     let p = g.J.Judge.place c.args.judge.now in
     let none = none-taken T shapes c.args.end start p (rw c.if-alive-eq0.true at c.requires.ready.before) in
     IsAliveWord-zero T shapes c.args.end start p c.requires.ready.from c.requires.ready.within
-        (λ whole. false≢true (sym c.if-not-whole.true ∙ c.requires.whole.1 whole)) none
+    (λ whole. false≢true (sym c.if-not-whole.true ∙ c.requires.whole.1 whole)) none
 
 pub returns-then-not-whole-clause-asked : goal.returns-then-not-whole-clause-asked
 returns-then-not-whole-clause-asked g c =
@@ -29,5 +29,5 @@ returns-then-not-whole-clause-asked g c =
 pub returns-clause-alive : goal.returns-clause-alive
 returns-clause-alive g c =
     c.step.ensures (g.J.Judge.table c.args.judge.now) (map g.T.Shaped.shape c.args.tokens.now) c.args.end (63 * c.args.n)
-        (g.J.Judge.place c.args.judge.now)
+    (g.J.Judge.place c.args.judge.now)
     c.requires.ready.from c.requires.ready.within c.requires.ready.shaped c.ask-took.ensures.taken c.requires.opens c.requires.whole

@@ -23,14 +23,18 @@ loop-n-init g c =
     let within : low ≤ length alive = r.live.within in
     let few : 63 * (low - 1) ≤ c.args.end = omega (arith, within, r.many, r.shaped.few) in
     let zeros : (i : ℕ) → 0 ≤ i → i < low → get_or alive i 0 ≡ 0 = λ i from lt. r.live.none i (omega (arith, lt, within)) (inl lt) in
-    let before : AreAlive T shapes c.args.end (p - 1) 0 low alive = record { word = λ i from lt. r.before.word i from
-        (omega (arith, lt, within)) } in
+    let before : AreAlive T shapes c.args.end (p - 1) 0 low alive = record {
+      word = λ i from lt. r.before.word i from
+          (omega (arith, lt, within));
+    } in
     let taken : (t : ℕ) → 63 * 0 ≤ t → t < 63 * low → t < c.args.end → ¬
-        (HasTaken T shapes t p) = none-taken_in_words T shapes c.args.end alive 0 low p before zeros in
+    (HasTaken T shapes t p) = none-taken_in_words T shapes c.args.end alive 0 low p before zeros in
     record {
       count = refl;
-      done = AreAlive-zeros T shapes c.args.end alive 0 low p (record { word = λ i from lt. absurd
-          (omega (arith, lt)) }) r.shaped.within few (λ lt. PrefixSplits-none T shapes p r.stepped) taken zeros;
+      done = AreAlive-zeros T shapes c.args.end alive 0 low p (record {
+        word = λ i from lt. absurd
+            (omega (arith, lt));
+      }) r.shaped.within few (λ lt. PrefixSplits-none T shapes p r.stepped) taken zeros;
       rest = record { word = λ i from lt. r.before.word i (omega arith) lt };
       zeros = λ i from lt high. r.live.none i lt (inr high);
       next = record { within = le_refl (length alive); none = λ i lt out. zeros i (omega arith) lt };
@@ -132,7 +136,7 @@ returns-then-live-n-clause-stepped g c =
     let begin : min (63 * n) c.args.end ≡ 63 * n = omega (arith, from) in
     let zeros : (m : ℕ) → n ≤ m → m < length list → get_or list m 0 ≡ 0 = λ m low below. i.zeros m low below (omega (arith, low, c.if-live-n.true)) in
     let taken : (t : ℕ) → 63 * n ≤ t → t < 63 * length list → t < c.args.end → ¬
-        (HasTaken T shapes t p) = none-taken_in_words T shapes c.args.end list n (length list) p i.rest zeros in
+    (HasTaken T shapes t p) = none-taken_in_words T shapes c.args.end list n (length list) p i.rest zeros in
     record {
       many = i.count;
       alive = AreAlive-zeros T shapes c.args.end list n (length list) p i.done r.shaped.within few

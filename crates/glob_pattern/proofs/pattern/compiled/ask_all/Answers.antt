@@ -16,7 +16,7 @@ decide-requires g c =
     let all = take_all c.all.result.end c.args.tokens.now (omega (arith, span.end)) in
     rw (judge.opening, judge.options, judge.tokens, judge.text, judge.start, judge.count)
     (subst (λ ts. CanRun (table_within true c.args.options ts (chars c.args.text.now))
-        (map shape_of c.args.tokens.now) c.args.words.now c.all.result 0 0) all
+    (map shape_of c.args.tokens.now) c.args.words.now c.all.result 0 0) all
     (CanRun-part true c.args.options c.args.tokens.now c.args.text.now c.args.words.now c.all.result 0 0
     (rw span.end c.requires) (λ j set. absurd (IsBitSet-zero j (rw span.accepting at set))) refl refl (omega arith) (omega arith)))
 

@@ -10,8 +10,8 @@ pub returns-then-accepting-ne0-clause-answer : goal.returns-then-accepting-ne0-c
 returns-then-accepting-ne0-clause-answer g c =
     let (lt, set, none) = lowest_set c.accepting-accepting.result (omega (arith, c.if-accepting-ne0.true)) (omega arith) in
     let splits = SplitsPart-at_once c.args.opening c.args.options c.args.tokens.now c.args.end _ (chars c.args.text.now)
-        (omega (arith, c.if-end-eq1.true)) (c.accepting-accepting.ensures.rest c.args.tokens.now c.args.end c.requires c.args.opening
-        (chars c.args.text.now) _ set) in
+    (omega (arith, c.if-end-eq1.true)) (c.accepting-accepting.ensures.rest c.args.tokens.now c.args.end c.requires c.args.opening
+    (chars c.args.text.now) _ set) in
     (λ _. splits, λ _. refl)
 
 pub new-judge-requires : goal.new-judge-requires
@@ -30,8 +30,8 @@ decide-requires g c =
     let masked = c.new-judge.ensures in
     rw (masked, judge.opening, judge.options, judge.tokens, judge.text, judge.start, judge.count)
     (CanRun-part c.args.opening c.args.options c.args.tokens.now c.args.text.now c.words.result.now _ 0 0 c.words.ensures.words
-        (c.accepting-accepting.ensures.rest c.args.tokens.now c.args.end c.requires c.args.opening (chars c.args.text.now)) refl refl
-        (omega arith) (omega arith))
+    (c.accepting-accepting.ensures.rest c.args.tokens.now c.args.end c.requires c.args.opening (chars c.args.text.now)) refl refl
+    (omega arith) (omega arith))
 
 pub returns-clause-answer : goal.returns-clause-answer
 unfolding table_within
@@ -55,5 +55,5 @@ pub returns-clause-least : goal.returns-clause-least
 unfolding table_within
 returns-clause-least g c = λ yes ruled.
     let least = rw (c.new-judge.ensures, c.new-one_by_one.ensures.text) at
-        (c.in_ok-answer.ensures.least yes (c.accepting-accepting.ensures.ruled ruled)) in
+    (c.in_ok-answer.ensures.least yes (c.accepting-accepting.ensures.ruled ruled)) in
     omega (arith, least, c.asked.ensures)

@@ -7,7 +7,7 @@ use Rattle.glob_pattern.proofs.pattern.automaton.Automaton.new.Goals.{then-end-l
 pub returns : goal.returns
 returns g c =
     let words : 63 < c.args.end → AreShapeWords
-        (map shape_of c.args.tokens.now) c.args.end c.if-end-le-WORD.words.items = elim c.if-end-le-WORD.branch [
+    (map shape_of c.args.tokens.now) c.args.end c.if-end-le-WORD.words.items = elim c.if-end-le-WORD.branch [
       | then-end-le-WORD w ↦ λ more. absurd (omega (arith, more, w.if-end-le-WORD.true))
       | else-end-le-WORD+in_ok-words w ↦ λ more. rw w.words-is w.in_ok-words.ensures
     ] in

@@ -7,7 +7,7 @@ use Rattle.glob_pattern.proofs.pattern.automaton.Automaton.words.Goals as goal
 pub returns-then-end-le-WORD-clause-words : goal.returns-then-end-le-WORD-clause-words
 returns-then-end-le-WORD-clause-words g c =
     rw c.from_ref.ensures.value (one-word _ _ _ (omega (arith, c.if-end-le-WORD.true))
-        (omega (arith, length-map c.args.tokens.now shape_of, c.requires.within)) c.requires.first_word)
+    (omega (arith, length-map c.args.tokens.now shape_of, c.requires.within)) c.requires.first_word)
 
 pub returns-then-end-le-WORD-clause-short : goal.returns-then-end-le-WORD-clause-short
 returns-then-end-le-WORD-clause-short g c = λ lt. c.from_ref.ensures.len

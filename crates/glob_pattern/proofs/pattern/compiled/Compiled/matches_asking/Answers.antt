@@ -98,7 +98,7 @@ overflow_add-result g c =
     let all = mul-le-mul_right (length (chars c.in-Some.part.text.now)) few in
     let one = mul-suc (length tokens) (length (chars c.in-Some.part.text.now)) in
     let fits = product_fits (length tokens) (suc (length (chars c.in-Some.part.text.now))) (omega arith)
-        (omega (arith, c.in-Some.ensures.count, length-chars c.args.text.now)) in
+    (omega (arith, c.in-Some.ensures.count, length-chars c.args.text.now)) in
     omega (arith, all, one, fits, c.in_ok-answer.ensures.most, is.ones.within, length-map tokens shape_of, c.if-between-eq0.false, c.min-again.ensures)
 
 pub returns-then-between-eq0-clause-least : goal.returns-then-between-eq0-clause-least

@@ -25,7 +25,7 @@ invariant_of-result g c =
             subst (IsNeedle (take n rest)) (sym w.needle-is)
             (IsNeedle-within (take n rest) w.of-needle.result 0 w.min.result
             (subst (λ ts. IsNeedle ts w.of-needle.result) (sym (take-take w.min.result n rest few))
-                (rw (all, list) at w.of-needle.ensures)))
+            (rw (all, list) at w.of-needle.ensures)))
       ];
       between = rw (all, list) at c.in_ok-new.ensures;
     }

@@ -1,5 +1,6 @@
-use Rattle.std.proofs.Common.{◌≡◌, ◌∙◌, true, not, length, get_or, sym, ap, subst, arith}
-use Rattle.std.proofs.lemmas.Bool.{eq-eqb, false≢true, not-false}
+use Rattle.std.proofs.Common.{◌≡◌, true, not, length, sym, ap, subst, arith}
+use Rattle.std.proofs.lemmas.Bool.{false≢true}
+use Rattle.std.proofs.lemmas.List.{length-take-le}
 use Rattle.glob_pattern.proofs.MatchingLemmas.Stripped.{pattern-first, pattern-last, match-needs_ends, cut-within, first-byte}
 use Rattle.glob_pattern.proofs.pattern.ends.Ends.reject.Goals as goal
 
@@ -16,19 +17,25 @@ returns-then-bytes-self g c = λ yes.
     let within = cut-within c.args.tokens.now c.args.self.now c.requires.ends c.args.pattern.now c.utf8.pattern c.requires.pattern c.args.options c.args.text.now c.utf8.text has in
     omega (arith, within, c.if-bytes-self.true, ap length c.as_bytes-bytes.ensures.value))
 
-pub bounds-bytes-0 : goal.bounds-bytes-0
-bounds-bytes-0 g c = omega (arith, c.if-bytes-self.false, c.if-self-gt0.true)
-
-pub bounds-literals-0 : goal.bounds-literals-0
-bounds-literals-0 g c =
+pub slice_bounds-are_same-end-then-self-gt0 : goal.slice_bounds-are_same-end-then-self-gt0
+slice_bounds-are_same-end-then-self-gt0 g c =
     let first = pattern-first c.args.tokens.now c.args.self.now c.requires.ends c.args.pattern.now c.utf8.pattern c.requires.pattern in
-    omega (arith, first.1, c.if-self-gt0.true, ap length c.as_bytes-literals.ensures.value)
+    sym (length-take-le 1 c.as_bytes-literals.result.now
+    (omega (arith, first.1, c.if-self-gt0.true, ap length c.as_bytes-literals.ensures.value)))
+
+pub are_same-requires : goal.are_same-requires
+are_same-requires g c =
+    let first = pattern-first c.args.tokens.now c.args.self.now c.requires.ends c.args.pattern.now c.utf8.pattern c.requires.pattern in
+    let bytes = length-take-le 1 c.as_bytes-bytes.result.now (omega (arith, c.if-bytes-self.false, c.if-self-gt0.true)) in
+    let literals = length-take-le 1 c.as_bytes-literals.result.now (omega
+    (arith, first.1, c.if-self-gt0.true, ap length c.as_bytes-literals.ensures.value)) in
+    omega (arith, bytes, literals)
 
 pub returns-then-self-gt0 : goal.returns-then-self-gt0
 returns-then-self-gt0 g c = λ differ.
     match-needs_ends c.args.tokens.now c.args.self.now c.requires.ends c.args.pattern.now c.utf8.pattern c.requires.pattern c.args.options c.args.text.now c.utf8.text
     (λ has.
-    let same = first-byte c.args.tokens.now c.args.self.now c.requires.ends c.args.pattern.now c.utf8.pattern c.requires.pattern c.args.options c.args.text.now c.utf8.text has
-    (not-false _ c.if-not-options.false) (omega (arith, c.if-self-gt0.true)) in
-    let read = ap (λ bs. get_or bs 0 0) c.as_bytes-bytes.ensures.value ∙ same ∙ sym (ap (λ bs. get_or bs 0 0) c.as_bytes-literals.ensures.value) in
-    false≢true (subst (λ b. not b ≡ true) (eq-eqb _ _ read) differ))
+    let same = first-byte c.args.tokens.now c.args.self.now c.requires.ends c.args.pattern.now c.utf8.pattern c.requires.pattern c.args.options
+    c.args.text.now c.utf8.text has (omega (arith, c.if-self-gt0.true)) in
+    let yes = c.are_same.ensures.1 (rw (c.as_bytes-bytes.ensures.value, c.as_bytes-literals.ensures.value) same) in
+    false≢true (subst (λ b. not b ≡ true) yes differ))

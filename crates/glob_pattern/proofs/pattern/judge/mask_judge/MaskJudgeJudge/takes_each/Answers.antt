@@ -34,12 +34,17 @@ returns-clause-took g c = λ j lt.
       λ s.
           let (a, m) = both.0 s in
           let at = c.requires.tokens j a in
-          let row = mask.masked.are.row c.args.word (omega (arith, at.2, mask.enough)) in
-          (a, ((row.takes judge.options (judge.before == slash) judge.current j refl at.0).0
-              (rw (c.taking.ensures, mask.classed c.requires.stepped, mask.masked.columns) at m)).1),
+          let row = mask.masked.are.row c.args.word (omega (arith, at.2, mask.enough)) in (
+            a,
+            ((row.takes judge.options (judge.before == slash) judge.current j refl at.0).0
+                (rw (c.taking.ensures, mask.classed c.requires.stepped, mask.masked.columns) at m)).1,
+          ),
       λ (a, t).
           let at = c.requires.tokens j a in
           let row = mask.masked.are.row c.args.word (omega (arith, at.2, mask.enough)) in
-          both.1 (a, rw (c.taking.ensures, mask.classed c.requires.stepped, mask.masked.columns)
-              ((row.takes judge.options (judge.before == slash) judge.current j refl at.0).1 (at.2, t))),
+          both.1 (
+            a,
+            rw (c.taking.ensures, mask.classed c.requires.stepped, mask.masked.columns)
+                ((row.takes judge.options (judge.before == slash) judge.current j refl at.0).1 (at.2, t)),
+          ),
     )
