@@ -1,9 +1,15 @@
--- The names that the bytes of an opened directory hold.
-use Rattle.std.specs.Prelude.{ℕ, Bool, ◌&&◌, not, ◌==◌, List, bytes_eq}
+-- What an opened directory has to read: bytes, which hold its names, and then the end, or an error of a kind.
+use Rattle.std.specs.Prelude.{◌≡◌, ◌≢◌, ℕ, Bool, ◌&&◌, not, ◌==◌, List, [], Option, Some, None, bytes_eq, ⊤}
+use Rattle.std.specs.IoError.{error_kind}
 use Rattle.std.specs.List.{filter, slice_split}
 use Rattle.std.specs.Path.{parent_dir}
+use Rattle.std.specs.declared.io.Error.{Error}
+use Rattle.std.specs.declared.io.ErrorKind.{ErrorKind}
+use Rattle.std.specs.declared.io.ErrorKind.TheVariants.{OutOfMemory}
 use Rattle.glob_text.specs.Text.{Text}
 use Rattle.glob_tree.specs.Paths.{nul, stays}
+use Rattle.glob_tree.specs.declared.tree.ListError.{ListError}
+use Rattle.glob_tree.specs.declared.tree.ListError.TheVariants.{Read, Memory}
 
 -- the piece names an entry: it is not empty, `.` or `..`
 abbrev pub is_listed : Text → Bool
@@ -12,3 +18,18 @@ is_listed piece = not (stays piece) && not (bytes_eq piece parent_dir)
 -- the names of the entries, in order: a NUL stands after each
 unfoldable pub names_in : List ℕ → List Text
 names_in bytes = filter is_listed (slice_split (λ b. b == nul) bytes)
+
+-- nothing is left to read, and no error is to come
+abbrev pub HasEnded : (left : Option (List ℕ)) → (fault : Option ErrorKind) → Type 0
+HasEnded None fault = ⊤
+HasEnded (Some bytes) fault = (bytes ≡ []) × (fault ≡ None)
+
+-- the error of a read: a failed allocation, or the one that comes after the last byte
+abbrev pub IsReadFault : (left : Option (List ℕ)) → (fault : Option ErrorKind) → Error → Type 0
+IsReadFault None fault e = ⊤
+IsReadFault (Some bytes) fault e = error_kind e ≢ OutOfMemory → (bytes ≡ []) × (fault ≡ Some (error_kind e))
+
+-- the error of a directory that is read to its end
+abbrev pub IsReadError : (fault : Option ErrorKind) → ListError → Type 0
+IsReadError fault (Read e) = fault ≡ Some (error_kind e)
+IsReadError fault Memory = ⊤

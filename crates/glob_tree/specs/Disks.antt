@@ -1,7 +1,7 @@
 -- What contracts see of a disk.
-use Rattle.std.specs.Prelude.{ℕ, Option, Some}
+use Rattle.std.specs.Prelude.{if◌then◌else◌, ℕ, Option, Some, None}
 use Rattle.glob_tree.specs.Content.{Content}
-use Rattle.glob_tree.specs.FileSystems.{FileSystem, followed}
+use Rattle.glob_tree.specs.FileSystems.{FileSystem, has_directory_links}
 use Rattle.glob_tree.specs.declared.physical.Links.{Links}
 use Rattle.glob_tree.specs.declared.physical.Links.TheVariants.{Kept, Followed}
 
@@ -10,13 +10,15 @@ pub record DiskModel : Type 0 where
   pub files : Option FileSystem
   pub asks : ℕ
 
--- the same, and whether symbolic links are followed
-pub record PhysicalModel : Type 0 where
+-- the same, whether symbolic links are followed, and who receives what is left out
+pub record PhysicalModel (S : Type 0) : Type 0 where
   pub files : Option FileSystem
   pub asks : ℕ
   pub links : Links
+  pub strays : S
 
--- What a tree has of a file system. Where symbolic links are kept, each is no directory.
+-- What a tree has of a file system. Where symbolic links are kept, each is no directory. A followed link to a directory has no
+-- place in a content, so with one nothing is known.
 abbrev pub content_with_links : Links → FileSystem → Option Content
 content_with_links Kept f = Some f.content
-content_with_links Followed f = followed f
+content_with_links Followed f = if has_directory_links f then None else Some f.content

@@ -1,17 +1,19 @@
 -- A file system that stays as it is, and what the calls of a system answer in it.
-use Rattle.std.specs.Prelude.{◌≡◌, ◌≢◌, ℕ, Bool, true, false, ◌&&◌, ◌||◌, not, if◌then◌else◌, List, [], ◌∷◌, find, Option, Some, None, MatchOption, option_map, option_and_then, Result, Ok, Err, IsPermutation, ⊤}
-use Rattle.std.specs.List.{list_any}
+use Rattle.std.specs.Prelude.{◌≡◌, ◌≢◌, ℕ, Bool, true, false, ◌&&◌, ◌||◌, not, List, [], ◌∷◌, find, Option, Some, None, MatchOption, option_map, option_and_then, map, Result, Ok, Err, IsPermutation, IsSome, ⊤}
+use Rattle.std.specs.List.{list_any, filter}
 use Rattle.std.specs.Fs.{file_type, IsDir, IsSymlink}
 use Rattle.std.specs.IoError.{error_kind}
 use Rattle.std.specs.declared.fs.attrs.FileType.{FileType}
 use Rattle.std.specs.declared.fs.attrs.Metadata.{Metadata}
 use Rattle.std.specs.declared.io.Error.{Error}
+use Rattle.std.specs.declared.io.ErrorKind.{ErrorKind}
 use Rattle.std.specs.declared.io.ErrorKind.TheVariants.{OutOfMemory}
 use Rattle.glob_text.specs.Pieces.{pieces}
 use Rattle.glob_text.specs.Text.{Text}
 use Rattle.glob_tree.specs.Answers.{IsListFault, names_of}
-use Rattle.glob_tree.specs.Content.{Content, Key, same_key, is_content, kind_at, is_dir_at, step, origin, resolve, ListAnswer, Entries, Fails, NoDirectory}
+use Rattle.glob_tree.specs.Content.{Content, Key, same_key, is_content, kind_at, is_dir_at, step, origin, resolve, DirEntry, ListAnswer, Entries, Fails, NoDirectory}
 use Rattle.glob_tree.specs.Directories.{names_in}
+use Rattle.glob_tree.specs.Strays.{texts_of, strays_of, AreReceived}
 use Rattle.glob_tree.specs.declared.kind.Kind.{Kind}
 use Rattle.glob_tree.specs.declared.kind.Kind.TheVariants.{Dir, Shut, Other}
 
@@ -26,10 +28,12 @@ is_a_directory Nowhere = false
 is_a_directory AFile = false
 is_a_directory ADirectory = true
 
--- What is at each key, where a symbolic link is no directory, and what each symbolic link points to.
+-- What is at each key, where a symbolic link is no directory, what each symbolic link points to, and the names in directories
+-- that are not UTF-8, each with the key of its directory.
 pub record FileSystem : Type 0 where
   pub content : Content
   pub links : List (Key × Target)
+  pub strays : List (Key × Text)
 
 -- the file system is known to be f, and f is well formed
 abbrev pub IsHeld : Option FileSystem → FileSystem → Type 0
@@ -101,17 +105,35 @@ passes_link f (Some k) (p ∷ ps) = is_directory_link f k || passes_link f (step
 unfoldable pub is_direct : FileSystem → Text → Bool
 is_direct f path = not (passes_link f (Some (origin f.content path)) (pieces path))
 
--- What an opened directory has left to read: the names of its entries, each once, in any order.
-abbrev pub IsOpened : ListAnswer → Option (List ℕ) → Type 0
-IsOpened (Entries entries) left = (bytes : List ℕ) × (left ≡ Some bytes) × IsPermutation (names_of entries) (names_in bytes)
-IsOpened (Fails kind) left = ⊥
-IsOpened NoDirectory left = ⊤
+-- a symbolic link points to a directory
+abbrev pub has_directory_links : FileSystem → Bool
+has_directory_links f = list_any (λ e. is_a_directory e.1) f.links
+
+abbrev pub strays_at : FileSystem → Option Key → List Text
+strays_at f None = []
+strays_at f (Some k) = map (λ s. s.1) (filter (λ s. same_key k s.0) f.strays)
+
+-- the names that are not UTF-8 in the directory at a path
+unfoldable pub strays_found : FileSystem → Text → List Text
+strays_found f path = strays_at f (resolve f.content path)
+
+-- the names of a directory: those of its entries are UTF-8, and the others its strays, each once and in any order
+abbrev pub AreNames : List DirEntry → (strays names : List Text) → Type 0
+AreNames entries strays names = IsPermutation (names_of entries) (texts_of names) × IsPermutation strays (strays_of names)
+
+-- What an opened directory has left to read: its names, and then the end. Of one that cannot be listed a read fails.
+abbrev pub IsOpened : ListAnswer → (strays : List Text) → (left : Option (List ℕ)) → (fault : Option ErrorKind) → Type 0
+IsOpened (Entries entries) strays left fault =
+    (bytes : List ℕ) × (left ≡ Some bytes) × (fault ≡ None) × AreNames entries strays (names_in bytes)
+IsOpened (Fails kind) strays left fault = IsSome left × (fault ≡ Some kind)
+IsOpened NoDirectory strays left fault = ⊤
+
+-- of a listing, the strays of the directory were received
+abbrev pub IsReceived : ListAnswer → (strays : List Text) → (old new : Option (List Text)) → Type 0
+IsReceived (Entries entries) strays old new = AreReceived strays old new
+IsReceived (Fails kind) strays old new = ⊤
+IsReceived NoDirectory strays old new = ⊤
 
 -- the error where a directory is not opened: that of its listing, or a failed allocation
 abbrev pub IsOpenFault : ListAnswer → Error → Type 0
 IsOpenFault answer e = error_kind e ≢ OutOfMemory → IsListFault answer (error_kind e)
-
--- What a tree that follows symbolic links has of a file system. A link to a directory has no place in a content, so with one
--- nothing is known.
-abbrev pub followed : FileSystem → Option Content
-followed f = if list_any (λ e. is_a_directory e.1) f.links then None else Some f.content

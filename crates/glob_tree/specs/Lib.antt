@@ -3,6 +3,7 @@ pub mod Content
 pub mod Directories
 pub mod Disks
 pub mod FileSystems
+pub mod Followed
 pub mod Looks
 pub mod Memory
 pub mod Paths

@@ -1,5 +1,5 @@
 -- What is received of the names in a directory, and which of them are listed.
-use Rattle.std.specs.Prelude.{not, List, ◌++◌, Option, option_map}
+use Rattle.std.specs.Prelude.{◌≡◌, not, List, ◌++◌, IsPermutation, Option, option_map}
 use Rattle.std.specs.List.{filter}
 use Rattle.std.specs.Str.{is_utf8}
 use Rattle.glob_text.specs.Text.{Text}
@@ -15,3 +15,7 @@ texts_of names = filter is_utf8 names
 -- the names that are no texts
 abbrev pub strays_of : List Text → List Text
 strays_of names = filter (λ name. not (is_utf8 name)) names
+
+-- each of the strays of a directory was received, once and in any order
+abbrev pub AreReceived : (strays : List Text) → (old new : Option (List Text)) → Type 0
+AreReceived strays old new = (more : List Text) × (new ≡ and_then old more) × IsPermutation strays more

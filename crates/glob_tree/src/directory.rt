@@ -1,9 +1,7 @@
 //! The names of an opened directory.
-ghost use Rattle.std.specs.Prelude.{◌≡◌, ◌+◌, ◌<◌, length, map, vec_len, IfOk, IfErr, OnOk, IfSome, IsSome};
-ghost use Rattle.std.specs.Io.KnownBytes.{IsAtEnd};
-ghost use Rattle.glob_tree.specs.Directories.{names_in as names_of_bytes};
+ghost use Rattle.std.specs.Prelude.{◌≡◌, ◌+◌, ◌<◌, length, map, vec_len, None, IfOk, IfErr, OnOk, IfSome, IsSome};
+ghost use Rattle.glob_tree.specs.Directories.{HasEnded, IsReadError, names_in as names_of_bytes};
 ghost use Rattle.glob_tree.specs.Private.Gathering.{Gathers};
-ghost use Rattle.glob_tree.specs.declared.tree.ListError.TheVariants.{Memory};
 
 use crate::name::names_entry;
 use crate::system::Directory;
@@ -20,16 +18,19 @@ const LARGE_BLOCK: usize = 32768;
 /// The bytes of an opened directory, read to its end: its names, each with a NUL after it, as `a\0..\0b\0`. Most
 /// directories end within two reads: one of all names, and one of none.
 ///
-/// The error is `Memory` at an allocation failure, and `Read` with the error of the read that failed: what was read
-/// before it is dropped.
+/// The error is `Memory` at an allocation failure, and `Read` with the error of the read that failed, which is never
+/// taken for the end: what was read before it is dropped.
 pub fn read_directory<D: Directory, A: Allocator>(
     alloc: A,
     directory: &mut D,
 ) -> Result<Vec<u8, A>, ListError>
     ensures bytes { IfOk result (λ read. IfSome (D.left directory.old)
         (λ bytes. read.items ≡ bytes)) }
-    ensures end { OnOk result (IsAtEnd (D.left directory.new)) }
-    ensures fails { IsSome (D.left directory.old) → IfErr result (λ e. e ≡ Memory) }
+    ensures end { OnOk result (HasEnded (D.left directory.new) (D.fault directory.new)) }
+    ensures whole { IsSome (D.left directory.old)
+        → OnOk result (D.fault directory.old ≡ None) }
+    ensures fails { IsSome (D.left directory.old)
+        → IfErr result (λ e. IsReadError (D.fault directory.old) e) }
 {
     let mut bytes = Vec::new(alloc);
     let mut block = [0; BLOCK];
@@ -49,8 +50,11 @@ fn read_rest<D: Directory, A: Allocator>(
 ) -> Result<(), ListError>
     ensures bytes { OnOk result (Gathers (D.left directory.old) (D.left directory.new)
         bytes.old.items bytes.new.items) }
-    ensures end { OnOk result (IsAtEnd (D.left directory.new)) }
-    ensures fails { IsSome (D.left directory.old) → IfErr result (λ e. e ≡ Memory) }
+    ensures end { OnOk result (HasEnded (D.left directory.new) (D.fault directory.new)) }
+    ensures whole { IsSome (D.left directory.old)
+        → OnOk result (D.fault directory.old ≡ None) }
+    ensures fails { IsSome (D.left directory.old)
+        → IfErr result (λ e. IsReadError (D.fault directory.old) e) }
 {
     let mut block = [0; LARGE_BLOCK];
     while read_block(directory, &mut block, bytes)? > 0 {}
@@ -67,9 +71,12 @@ fn read_block<D: Directory, A: Allocator>(
     ensures bytes { OnOk result (Gathers (D.left directory.old) (D.left directory.new)
         bytes.old.items bytes.new.items) }
     ensures count { IfOk result (λ n. vec_len bytes.new ≡ vec_len bytes.old + n) }
-    ensures end { IfOk result (λ n. n ≡ 0 → IsAtEnd (D.left directory.new)) }
+    ensures end { IfOk result (λ n. n ≡ 0
+        → HasEnded (D.left directory.new) (D.fault directory.new)) }
     ensures known { OnOk result (IsSome (D.left directory.old) → IsSome (D.left directory.new)) }
-    ensures fails { IsSome (D.left directory.old) → IfErr result (λ e. e ≡ Memory) }
+    ensures kept { D.fault directory.new ≡ D.fault directory.old }
+    ensures fails { IsSome (D.left directory.old)
+        → IfErr result (λ e. IsReadError (D.fault directory.old) e) }
 {
     let count = directory.read(block)?;
     bytes.extend_from_slice(&block[..count])?;

@@ -1,14 +1,14 @@
 //! The file system, where symbolic links are followed.
-ghost use Rattle.std.specs.Prelude.{◌≡◌, ◌+◌, ◌++◌, Option, true, map, string_bytes, IfOk, IfErr, IfSome, IsOkAnd, OnOk};
+ghost use Rattle.std.specs.Prelude.{◌≡◌, ◌+◌, ◌++◌, Option, true, false, map, None, option_and_then, string_bytes, IfOk, IfErr, IfSome, IsSome, IsOkAnd, OnOk};
 ghost use Rattle.std.specs.Fs.{file_type, IsSymlink};
-ghost use Rattle.std.specs.Io.KnownBytes.{IsAtEnd};
-ghost use Rattle.glob_tree.specs.Answers.{IsEntriesAnswer, IsListAnswer, IsListError, IsNamesAnswer, entries_of, entry_count, names_of};
+ghost use Rattle.glob_tree.specs.Answers.{IsEntriesAnswer, IsListAnswer, IsListError, IsNamesAnswer, IsTold, entries_of, entry_count, names_of};
 ghost use Rattle.glob_tree.specs.Content.{Content, list_result, look_result};
-ghost use Rattle.glob_tree.specs.Directories.{names_in as names_of_bytes};
-ghost use Rattle.glob_tree.specs.FileSystems.{Found, IsStatAnswer};
+ghost use Rattle.glob_tree.specs.Directories.{HasEnded, names_in as names_of_bytes};
+ghost use Rattle.glob_tree.specs.FileSystems.{FileSystem, Found, IsHeld, IsStatAnswer, is_direct, stat_found};
+ghost use Rattle.glob_tree.specs.Followed.{followed, is_found_directory, list_followed, look_followed, look_found};
 ghost use Rattle.glob_tree.specs.Looks.{is_directory};
-ghost use Rattle.glob_tree.specs.Private.Listing.{IsFollowed, are_looked_up, are_text_names, is_said_dir, is_text_name, look_found, said_entries};
-ghost use Rattle.glob_tree.specs.declared.tree.ListError.TheVariants.{Memory};
+ghost use Rattle.glob_tree.specs.Private.Listing.{IsEntriesError, IsNameError, are_looked_up, are_text_names, is_said_dir, is_text_name, said_entries};
+ghost use Rattle.glob_tree.specs.Private.Looking.{AreDirect};
 
 use crate::asks::Asks;
 use crate::directory::{names_in, read_directory};
@@ -29,8 +29,8 @@ enum Kinds {
 }
 
 /// The file system that a [`System`] reaches, as a tree in which symbolic links are followed. Where the system holds a
-/// known file system without symbolic links to directories, that is its content. Relative paths begin at the current
-/// directory of the process.
+/// known file system without symbolic links to directories and without names that are not UTF-8, that is its content.
+/// Relative paths begin at the current directory of the process.
 ///
 /// A look makes one system call, and two at a link. A listing makes one for each entry, also for a link, and one of
 /// names alone makes none for them. Beside these it opens and closes the directory, and reads its names in two blocks
@@ -75,7 +75,7 @@ impl<R: System, A: Allocator + Copy> Tree for Disk<R, A> {
     type Alloc = A;
 
     ghost use Rattle.std.specs.Prelude.{option_and_then};
-    ghost use Rattle.glob_tree.specs.FileSystems.{followed};
+    ghost use Rattle.glob_tree.specs.Followed.{followed};
 
     ghost tells = { λ disk. option_and_then followed disk.files };
 
@@ -87,7 +87,10 @@ impl<R: System, A: Allocator + Copy> Tree for Disk<R, A> {
     fn look(&mut self, path: &str) -> Result<Look, AllocError>
         ensures files { self.new.files ≡ self.old.files }
         ensures asks { self.new.asks ≡ self.old.asks + 1 }
-        ensures seen { (c : Content) → IsFollowed self.old.files c
+        ensures followed { (f : FileSystem) → IsHeld self.old.files f → is_direct f path.now ≡ true
+            → IfOk result (λ seen. seen ≡ look_followed f path.now) }
+        ensures seen { (c : Content)
+            → IsTold (option_and_then followed self.old.files) c
             → IfOk result (λ seen. seen ≡ look_result c path.now) }
     {
         self.asks = self.asks.after(1);
@@ -100,9 +103,15 @@ impl<R: System, A: Allocator + Copy> Tree for Disk<R, A> {
     fn list(&mut self, path: &str) -> Result<Vec<Entry<A>, A>, ListError>
         ensures files { self.new.files ≡ self.old.files }
         ensures asks { self.new.asks ≡ self.old.asks + 1 + entry_count result }
-        ensures entries { (c : Content) → IsFollowed self.old.files c
+        ensures followed { (f : FileSystem) → IsHeld self.old.files f
+            → IfOk result (λ v. IsListAnswer (list_followed f path.now) (entries_of v.items)) }
+        ensures unread { (f : FileSystem) → IsHeld self.old.files f
+            → IfErr result (λ e. IsListError (list_followed f path.now) e) }
+        ensures entries { (c : Content)
+            → IsTold (option_and_then followed self.old.files) c
             → IfOk result (λ v. IsListAnswer (list_result c path.now) (entries_of v.items)) }
-        ensures fails { (c : Content) → IsFollowed self.old.files c
+        ensures fails { (c : Content)
+            → IsTold (option_and_then followed self.old.files) c
             → IfErr result (λ e. IsListError (list_result c path.now) e) }
     {
         self.listing(path, Kinds::LookedUp)
@@ -113,9 +122,15 @@ impl<R: System, A: Allocator + Copy> Tree for Disk<R, A> {
     fn list_names(&mut self, path: &str) -> Result<Vec<Entry<A>, A>, ListError>
         ensures files { self.new.files ≡ self.old.files }
         ensures asks { self.new.asks ≡ self.old.asks + 1 + entry_count result }
-        ensures names { (c : Content) → IsFollowed self.old.files c
+        ensures followed { (f : FileSystem) → IsHeld self.old.files f
+            → IfOk result (λ v. IsNamesAnswer (list_followed f path.now) (entries_of v.items)) }
+        ensures unread { (f : FileSystem) → IsHeld self.old.files f
+            → IfErr result (λ e. IsListError (list_followed f path.now) e) }
+        ensures names { (c : Content)
+            → IsTold (option_and_then followed self.old.files) c
             → IfOk result (λ v. IsNamesAnswer (list_result c path.now) (entries_of v.items)) }
-        ensures fails { (c : Content) → IsFollowed self.old.files c
+        ensures fails { (c : Content)
+            → IsTold (option_and_then followed self.old.files) c
             → IfErr result (λ e. IsListError (list_result c path.now) e) }
     {
         self.listing(path, Kinds::LeftOut)
@@ -125,8 +140,8 @@ impl<R: System, A: Allocator + Copy> Tree for Disk<R, A> {
 impl<R: System, A: Allocator + Copy> Disk<R, A> {
     /// What is at a path.
     fn seen(&self, path: &str) -> Result<Look, AllocError>
-        ensures { (c : Content) → IsFollowed self.now.files c
-            → IfOk result (λ seen. seen ≡ look_result c path.now) }
+        ensures { (f : FileSystem) → IsHeld self.now.files f → is_direct f path.now ≡ true
+            → IfOk result (λ seen. seen ≡ look_followed f path.now) }
     {
         let found = self.rt.lstat(path);
         if is_symlink(&found) {
@@ -139,10 +154,10 @@ impl<R: System, A: Allocator + Copy> Disk<R, A> {
     fn listing(&mut self, path: &str, kinds: Kinds) -> Result<Vec<Entry<A>, A>, ListError>
         ensures files { self.new.files ≡ self.old.files }
         ensures asks { self.new.asks ≡ self.old.asks + 1 + entry_count result }
-        ensures entries { (c : Content) → IsFollowed self.old.files c → IfOk result (λ v.
-            IsEntriesAnswer (are_looked_up kinds) (list_result c path.now) (entries_of v.items)) }
-        ensures fails { (c : Content) → IsFollowed self.old.files c
-            → IfErr result (λ e. IsListError (list_result c path.now) e) }
+        ensures entries { (f : FileSystem) → IsHeld self.old.files f → IfOk result (λ v.
+            IsEntriesAnswer (are_looked_up kinds) (list_followed f path.now) (entries_of v.items)) }
+        ensures fails { (f : FileSystem) → IsHeld self.old.files f
+            → IfErr result (λ e. IsListError (list_followed f path.now) e) }
     {
         self.asks = self.asks.after(1);
         let entries = self.entries(path, kinds)?;
@@ -152,10 +167,10 @@ impl<R: System, A: Allocator + Copy> Disk<R, A> {
 
     /// The entries of the directory at a path.
     fn entries(&self, path: &str, kinds: Kinds) -> Result<Vec<Entry<A>, A>, ListError>
-        ensures entries { (c : Content) → IsFollowed self.now.files c → IfOk result (λ v.
-            IsEntriesAnswer (are_looked_up kinds) (list_result c path.now) (entries_of v.items)) }
-        ensures fails { (c : Content) → IsFollowed self.now.files c
-            → IfErr result (λ e. IsListError (list_result c path.now) e) }
+        ensures entries { (f : FileSystem) → IsHeld self.now.files f → IfOk result (λ v.
+            IsEntriesAnswer (are_looked_up kinds) (list_followed f path.now) (entries_of v.items)) }
+        ensures fails { (f : FileSystem) → IsHeld self.now.files f
+            → IfErr result (λ e. IsListError (list_followed f path.now) e) }
     {
         // The separator at its end, so that a link there is followed.
         let mut path = join(self.alloc, path, "")?;
@@ -172,13 +187,17 @@ impl<R: System, A: Allocator + Copy> Disk<R, A> {
     ) -> Result<Vec<Entry<A>, A>, ListError>
         ensures names { IfOk result (λ v. IfSome (D.left directory.old)
             (λ bytes. names_of (entries_of v.items) ≡ names_of_bytes bytes)) }
-        ensures kinds { (c : Content) → IsFollowed self.now.files c
+        ensures texts { OnOk result (IfSome (D.left directory.old)
+            (λ bytes. are_text_names (names_of_bytes bytes) ≡ true)) }
+        ensures kinds { (f : FileSystem) → IsHeld self.now.files f
+            → AreDirect f (string_bytes path.old)
             → IfOk result (λ v. IfSome (D.left directory.old) (λ bytes. entries_of v.items
-            ≡ said_entries c kinds (string_bytes path.old) (names_of_bytes bytes))) }
-        ensures fails { IfSome (D.left directory.old)
-            (λ bytes. are_text_names (names_of_bytes bytes) ≡ true
-            → IfErr result (λ e. e ≡ Memory)) }
-        ensures end { OnOk result (IsAtEnd (D.left directory.new)) }
+            ≡ said_entries (is_said_dir f kinds (string_bytes path.old)) (names_of_bytes bytes))) }
+        ensures fails { IfErr result (λ e. IfSome (D.left directory.old) (λ bytes.
+            IsEntriesError (are_text_names (names_of_bytes bytes)) (D.fault directory.old) e)) }
+        ensures whole { IsSome (D.left directory.old)
+            → OnOk result (D.fault directory.old ≡ None) }
+        ensures end { OnOk result (HasEnded (D.left directory.new) (D.fault directory.new)) }
     {
         let bytes = read_directory(self.alloc, directory)?;
         self.named_entries(path, kinds, bytes.as_slice())
@@ -192,11 +211,13 @@ impl<R: System, A: Allocator + Copy> Disk<R, A> {
         bytes: &[u8],
     ) -> Result<Vec<Entry<A>, A>, ListError>
         ensures names { IfOk result (λ v. names_of (entries_of v.items) ≡ names_of_bytes bytes.now) }
-        ensures kinds { (c : Content) → IsFollowed self.now.files c
-            → IfOk result (λ v. entries_of v.items
-            ≡ said_entries c kinds (string_bytes path.old) (names_of_bytes bytes.now)) }
-        ensures fails { are_text_names (names_of_bytes bytes.now) ≡ true
-            → IfErr result (λ e. e ≡ Memory) }
+        ensures texts { OnOk result (are_text_names (names_of_bytes bytes.now) ≡ true) }
+        ensures kinds { (f : FileSystem) → IsHeld self.now.files f
+            → AreDirect f (string_bytes path.old) → IfOk result (λ v. entries_of v.items
+            ≡ said_entries (is_said_dir f kinds (string_bytes path.old))
+            (names_of_bytes bytes.now)) }
+        ensures fails { IfErr result
+            (λ e. IsNameError (are_text_names (names_of_bytes bytes.now)) e) }
     {
         let names = names_in(self.alloc, bytes)?;
         self.entries_named(path, kinds, names.as_slice())
@@ -211,11 +232,13 @@ impl<R: System, A: Allocator + Copy> Disk<R, A> {
     ) -> Result<Vec<Entry<A>, A>, ListError>
         ensures names { IfOk result
             (λ v. names_of (entries_of v.items) ≡ map (λ n. n.now) names.now) }
-        ensures kinds { (c : Content) → IsFollowed self.now.files c
-            → IfOk result (λ v. entries_of v.items
-            ≡ said_entries c kinds (string_bytes path.old) (map (λ n. n.now) names.now)) }
-        ensures fails { are_text_names (map (λ n. n.now) names.now) ≡ true
-            → IfErr result (λ e. e ≡ Memory) }
+        ensures texts { OnOk result (are_text_names (map (λ n. n.now) names.now) ≡ true) }
+        ensures kinds { (f : FileSystem) → IsHeld self.now.files f
+            → AreDirect f (string_bytes path.old) → IfOk result (λ v. entries_of v.items
+            ≡ said_entries (is_said_dir f kinds (string_bytes path.old))
+            (map (λ n. n.now) names.now)) }
+        ensures fails { IfErr result
+            (λ e. IsNameError (are_text_names (map (λ n. n.now) names.now)) e) }
     {
         let mut entries = Vec::new(self.alloc);
         for name in names {
@@ -227,27 +250,40 @@ impl<R: System, A: Allocator + Copy> Disk<R, A> {
     /// The entry of a name in a directory.
     fn entry(&self, path: &mut String<A>, kinds: Kinds, name: &[u8]) -> Result<Entry<A>, ListError>
         ensures name { IfOk result (λ entry. entry.name ≡ name.now) }
-        ensures kind { (c : Content) → IsFollowed self.now.files c → IfOk result
-            (λ entry. entry.is_dir ≡ is_said_dir c kinds (string_bytes path.old) name.now) }
+        ensures text { OnOk result (is_text_name name.now ≡ true) }
+        ensures kind { (f : FileSystem) → IsHeld self.now.files f
+            → AreDirect f (string_bytes path.old) → IfOk result (λ entry. entry.is_dir
+            ≡ is_said_dir f kinds (string_bytes path.old) name.now) }
         ensures path { OnOk result (string_bytes path.new ≡ string_bytes path.old) }
-        ensures fails { is_text_name name.now ≡ true → IfErr result (λ e. e ≡ Memory) }
+        ensures fails { IfErr result (λ e. IsNameError (is_text_name name.now) e) }
     {
         let Some(name) = text_name(name) else {
             return Err(ListError::Read(io::Error::from(ErrorKind::InvalidFilename)));
         };
-        let is_dir = match kinds {
-            Kinds::LookedUp => self.look_in(path, name)?.is_dir(),
-            Kinds::LeftOut => false,
-        };
+        let is_dir = self.is_dir_in(path, kinds, name)?;
         let name = name_from_proper(self.alloc, name)?;
         Ok(Entry { name, is_dir })
     }
 
+    /// Whether a name in a directory is said to be one, which is looked up or left out.
+    fn is_dir_in(&self, path: &mut String<A>, kinds: Kinds, name: &str) -> Result<bool, AllocError>
+        ensures kind { (f : FileSystem) → IsHeld self.now.files f
+            → is_direct f (string_bytes path.old ++ name.now) ≡ true
+            → IfOk result (λ yes. yes ≡ is_said_dir f kinds (string_bytes path.old) name.now) }
+        ensures path { OnOk result (string_bytes path.new ≡ string_bytes path.old) }
+    {
+        match kinds {
+            Kinds::LookedUp => Ok(self.look_in(path, name)?.is_dir()),
+            Kinds::LeftOut => Ok(false),
+        }
+    }
+
     /// What a name in a directory leads to, and `Missing` where that cannot be learned.
     fn look_in(&self, path: &mut String<A>, name: &str) -> Result<Look, AllocError>
-        ensures kind { (c : Content) → IsFollowed self.now.files c → IfOk result (λ look.
-            is_directory look
-            ≡ is_directory (look_result c (string_bytes path.old ++ name.now))) }
+        ensures kind { (f : FileSystem) → IsHeld self.now.files f
+            → is_direct f (string_bytes path.old ++ name.now) ≡ true
+            → IfOk result (λ look. is_directory look
+            ≡ is_found_directory (stat_found f (string_bytes path.old ++ name.now))) }
         ensures path { OnOk result (string_bytes path.new ≡ string_bytes path.old) }
     {
         let length = path.len();
@@ -260,7 +296,10 @@ impl<R: System, A: Allocator + Copy> Disk<R, A> {
 
 /// Whether the system answers with the metadata of a symbolic link.
 fn is_symlink(answer: &io::Result<Metadata>) -> bool
-    ensures { result ≡ true → IsOkAnd answer.now (λ metadata. IsSymlink (file_type metadata)) }
+    ensures symlink { result ≡ true
+        → IsOkAnd answer.now (λ metadata. IsSymlink (file_type metadata)) }
+    ensures other { result ≡ false
+        → IfOk answer.now (λ metadata. IsSymlink (file_type metadata) → ⊥) }
 {
     match answer {
         Ok(metadata) => metadata.is_symlink(),

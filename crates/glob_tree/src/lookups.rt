@@ -1,19 +1,17 @@
 //! What the calls of a system say of paths, and of the entries of a directory, where links are kept or followed.
-ghost use Rattle.std.specs.Prelude.{if◌then◌else◌, ◌≡◌, ◌≢◌, ◌++◌, [], true, false, Option, Some, map, string_bytes, IfOk, IfErr, IfSome, OnOk};
-ghost use Rattle.std.specs.Fs.{file_type, IsSymlink};
-ghost use Rattle.std.specs.Io.KnownBytes.{IsAtEnd};
+ghost use Rattle.std.specs.Prelude.{if◌then◌else◌, ◌≡◌, ◌≢◌, ◌⊎◌, ◌++◌, ◌∷◌, [], true, false, Option, None, Some, map, string_bytes, IfOk, IfErr, IfSome, IsSome, OnOk};
+ghost use Rattle.std.specs.Fs.{file_type, IsDir, IsSymlink};
 ghost use Rattle.glob_tree.specs.Answers.{IsListAnswer, IsListError, entries_of, names_of};
 ghost use Rattle.glob_tree.specs.Content.{list_result, look_result};
-ghost use Rattle.glob_tree.specs.Directories.{names_in as names_of_bytes};
-ghost use Rattle.glob_tree.specs.FileSystems.{FileSystem, Directory as found_directory, IsHeld, is_direct, lstat_found, stat_found};
+ghost use Rattle.glob_tree.specs.Directories.{HasEnded, names_in as names_of_bytes};
+ghost use Rattle.glob_tree.specs.FileSystems.{FileSystem, IsHeld, IsReceived, is_direct, lstat_found, stat_found, strays_found};
+ghost use Rattle.glob_tree.specs.Followed.{is_found_directory, look_followed};
 ghost use Rattle.glob_tree.specs.Looks.{is_directory};
 ghost use Rattle.glob_tree.specs.Paths.{is_proper as is_proper_text};
 ghost use Rattle.glob_tree.specs.Private.Looking.{AreDirect, HasWay, IsFoundAs, IsOnWay, IsSeen, IsWay, LeadsOn};
-ghost use Rattle.glob_tree.specs.Private.Listing.{are_text_names, said_entries};
+ghost use Rattle.glob_tree.specs.Private.Listing.{IsEntriesError, IsNameError, are_text_names, is_dir_in as is_in, said_entries};
 ghost use Rattle.glob_tree.specs.Strays.{and_then, texts_of, strays_of};
-ghost use Rattle.glob_tree.specs.declared.disk.Kinds.TheVariants.{LookedUp};
 ghost use Rattle.glob_tree.specs.declared.physical.Links.TheVariants.{Followed};
-ghost use Rattle.glob_tree.specs.declared.tree.ListError.TheVariants.{Memory};
 
 use crate::directory::{names_in, read_directory};
 use crate::name::{is_proper, name_from_proper};
@@ -64,7 +62,7 @@ impl<R: System, S: Strays, A: Allocator + Copy> Lookups<R, S, A> {
         }
     }
 
-    /// What is at a path. Nothing is below what is no directory, so what is behind a link that is none is missing, too.
+    /// What is at a path. Nothing is below what is no directory, so a path that goes on behind a kept link is missing.
     pub fn look(&mut self, path: &str) -> Result<Look, AllocError>
         ensures files { self.new.files ≡ self.old.files }
         ensures links { self.new.links ≡ self.old.links }
@@ -136,6 +134,10 @@ impl<R: System, S: Strays, A: Allocator + Copy> Lookups<R, S, A> {
         ensures seen { (f : FileSystem) → IsSeen self.old.links self.old.files f
             → is_direct f path.now ≡ true
             → IfOk result (λ seen. seen ≡ look_result f.content path.now) }
+        ensures followed { (f : FileSystem) → IsHeld self.old.files f → is_direct f path.now ≡ true
+            → self.old.links ≡ Followed
+            → IfOk result (λ seen. (seen ≡ look_followed f path.now)
+            ⊎ (S.paths self.new.strays ≡ and_then (S.paths self.old.strays) (path.now ∷ []))) }
     {
         match self.found(path)? {
             None => Ok(Look::Missing),
@@ -150,6 +152,9 @@ impl<R: System, S: Strays, A: Allocator + Copy> Lookups<R, S, A> {
         ensures links { self.new.links ≡ self.old.links }
         ensures entries { (f : FileSystem) → IsSeen self.old.links self.old.files f → IfOk result
             (λ v. IsListAnswer (list_result f.content path.now) (entries_of v.items)) }
+        ensures strays { (f : FileSystem) → IsHeld self.old.files f
+            → OnOk result (IsReceived (list_result f.content path.now) (strays_found f path.now)
+            (S.names self.old.strays) (S.names self.new.strays)) }
         ensures fails { (f : FileSystem) → IsSeen self.old.links self.old.files f
             → IfErr result (λ e. IsListError (list_result f.content path.now) e) }
     {
@@ -175,12 +180,14 @@ impl<R: System, S: Strays, A: Allocator + Copy> Lookups<R, S, A> {
         ensures kinds { (f : FileSystem) → IsSeen self.old.links self.old.files f
             → AreDirect f (string_bytes path.old)
             → IfOk result (λ v. IfSome (D.left directory.old) (λ bytes. entries_of v.items
-            ≡ said_entries f.content LookedUp (string_bytes path.old)
+            ≡ said_entries (is_in f.content (string_bytes path.old))
             (texts_of (names_of_bytes bytes)))) }
-        ensures fails { IfSome (D.left directory.old)
-            (λ bytes. are_text_names (names_of_bytes bytes) ≡ true
-            → IfErr result (λ e. e ≡ Memory)) }
-        ensures end { OnOk result (IsAtEnd (D.left directory.new)) }
+        ensures fails { IfErr result (λ e. IfSome (D.left directory.old) (λ bytes.
+            IsEntriesError (are_text_names (texts_of (names_of_bytes bytes)))
+            (D.fault directory.old) e)) }
+        ensures whole { IsSome (D.left directory.old)
+            → OnOk result (D.fault directory.old ≡ None) }
+        ensures end { OnOk result (HasEnded (D.left directory.new) (D.fault directory.new)) }
     {
         let bytes = read_directory(*self.way.allocator(), directory)?;
         self.named_entries(path, bytes.as_slice())
@@ -201,10 +208,10 @@ impl<R: System, S: Strays, A: Allocator + Copy> Lookups<R, S, A> {
         ensures kinds { (f : FileSystem) → IsSeen self.old.links self.old.files f
             → AreDirect f (string_bytes path.old)
             → IfOk result (λ v. entries_of v.items
-            ≡ said_entries f.content LookedUp (string_bytes path.old)
+            ≡ said_entries (is_in f.content (string_bytes path.old))
             (texts_of (names_of_bytes bytes.now))) }
-        ensures fails { are_text_names (names_of_bytes bytes.now) ≡ true
-            → IfErr result (λ e. e ≡ Memory) }
+        ensures fails { IfErr result
+            (λ e. IsNameError (are_text_names (texts_of (names_of_bytes bytes.now))) e) }
     {
         let names = names_in(*self.way.allocator(), bytes)?;
         self.entries_named(path, names.as_slice())
@@ -225,10 +232,10 @@ impl<R: System, S: Strays, A: Allocator + Copy> Lookups<R, S, A> {
         ensures kinds { (f : FileSystem) → IsSeen self.old.links self.old.files f
             → AreDirect f (string_bytes path.old)
             → IfOk result (λ v. entries_of v.items
-            ≡ said_entries f.content LookedUp (string_bytes path.old)
+            ≡ said_entries (is_in f.content (string_bytes path.old))
             (texts_of (map (λ n. n.now) names.now))) }
-        ensures fails { are_text_names (map (λ n. n.now) names.now) ≡ true
-            → IfErr result (λ e. e ≡ Memory) }
+        ensures fails { IfErr result
+            (λ e. IsNameError (are_text_names (texts_of (map (λ n. n.now) names.now))) e) }
     {
         let mut entries = Vec::new(*self.way.allocator());
         for name in names {
@@ -251,7 +258,7 @@ impl<R: System, S: Strays, A: Allocator + Copy> Lookups<R, S, A> {
             → AreDirect f (string_bytes path.old)
             → IfOk result (λ entry. entry.is_dir
             ≡ is_directory (look_result f.content (string_bytes path.old ++ name.now))) }
-        ensures fails { is_proper_text name.now ≡ true → IfErr result (λ e. e ≡ Memory) }
+        ensures fails { IfErr result (λ e. IsNameError (is_proper_text name.now) e) }
     {
         if !is_proper(name) {
             return Err(ListError::Read(io::Error::from(ErrorKind::InvalidFilename)));
@@ -295,8 +302,10 @@ impl<R: System, S: Strays, A: Allocator + Copy> Lookups<R, S, A> {
         ensures files { self.new.files ≡ self.old.files }
         ensures links { self.new.links ≡ self.old.links }
         ensures strays { S.names self.new.strays ≡ S.names self.old.strays }
-        ensures none { (f : FileSystem) → IsHeld self.old.files f → is_direct f link.now ≡ true
-            → stat_found f link.now ≢ Some found_directory → IfOk result (λ yes. yes ≡ false) }
+        ensures leads { (f : FileSystem) → IsHeld self.old.files f → is_direct f link.now ≡ true
+            → IfOk result (λ yes. (yes ≡ is_found_directory (stat_found f link.now))
+            ⊎ ((yes ≡ false)
+            × (S.paths self.new.strays ≡ and_then (S.paths self.old.strays) (link.now ∷ [])))) }
     {
         let Some(target) = self.target(link)? else {
             return Ok(false);
@@ -342,8 +351,10 @@ impl<R: System, S: Strays, A: Allocator + Copy> Lookups<R, S, A> {
 
     /// Whether what has this metadata is a link that is followed.
     fn is_followed(&self, found: &Metadata) -> bool
-        ensures { result ≡ true
+        ensures yes { result ≡ true
             → (self.now.links ≡ Followed) × IsSymlink (file_type found.now) }
+        ensures no { result ≡ false → self.now.links ≡ Followed
+            → IsSymlink (file_type found.now) → ⊥ }
     {
         self.links == Links::Followed && found.is_symlink()
     }
@@ -355,6 +366,8 @@ impl<R: System, S: Strays, A: Allocator + Copy> Lookups<R, S, A> {
         ensures strays { S.names self.new.strays ≡ S.names self.old.strays }
         ensures found { (f : FileSystem) → IsHeld self.old.files f → is_direct f path.now ≡ true
             → IfOk result (λ metadata. IsFoundAs (lstat_found f path.now) metadata) }
+        ensures known { IfOk result (λ metadata. IsSome metadata
+            → S.paths self.new.strays ≡ S.paths self.old.strays) }
     {
         let answer = self.rt.lstat(path);
         settle(&mut self.strays, path, answer)
@@ -367,6 +380,8 @@ impl<R: System, S: Strays, A: Allocator + Copy> Lookups<R, S, A> {
         ensures strays { S.names self.new.strays ≡ S.names self.old.strays }
         ensures found { (f : FileSystem) → IsHeld self.old.files f → is_direct f link.now ≡ true
             → IfOk result (λ metadata. IsFoundAs (stat_found f link.now) metadata) }
+        ensures known { IfOk result (λ metadata. IsSome metadata
+            → S.paths self.new.strays ≡ S.paths self.old.strays) }
     {
         let answer = self.rt.stat(link);
         settle(&mut self.strays, link, answer)

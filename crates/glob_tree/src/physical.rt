@@ -1,8 +1,9 @@
 //! The file system, where a symbolic link is no directory.
-ghost use Rattle.std.specs.Prelude.{◌≡◌, ◌+◌, IfOk, IfErr, option_and_then};
+ghost use Rattle.std.specs.Prelude.{◌≡◌, ◌+◌, IfOk, IfErr, OnOk, option_and_then};
 ghost use Rattle.glob_tree.specs.Answers.{IsListAnswer, IsListError, IsTold, entries_of, entry_count};
 ghost use Rattle.glob_tree.specs.Content.{Content, list_result, look_result};
 ghost use Rattle.glob_tree.specs.Disks.{content_with_links};
+ghost use Rattle.glob_tree.specs.FileSystems.{FileSystem, IsHeld, IsReceived, strays_found};
 ghost use Rattle.glob_tree.specs.declared.physical.Links.TheVariants.{Kept};
 
 use crate::asks::Asks;
@@ -49,13 +50,18 @@ pub struct PhysicalDisk<R: System, S: Strays, A: Allocator = Global> {
     asks: Asks,
 }
 
-/// Its file system, where that is known, how much was asked of it, and how it takes links.
+/// Its file system, where that is known, how much was asked of it, how it takes links, and what the strays received.
 impl<R: System, S: Strays, A: Allocator> Model for PhysicalDisk<R, S, A> {
     ghost use Rattle.glob_tree.specs.Disks.{PhysicalModel};
 
-    ghost Value = { PhysicalModel };
+    ghost Value = { PhysicalModel S };
 
-    ghost view = { λ disk. record { files = disk.lookups.files; asks = disk.asks; links = disk.lookups.links } };
+    ghost view = { λ disk. record {
+      files = disk.lookups.files;
+      asks = disk.asks;
+      links = disk.lookups.links;
+      strays = disk.lookups.strays;
+    } };
 }
 
 impl<R: System, S: Strays, A: Allocator + Copy> PhysicalDisk<R, S, A> {
@@ -118,6 +124,9 @@ impl<R: System, S: Strays, A: Allocator + Copy> Tree for PhysicalDisk<R, S, A> {
         ensures fails { (c : Content)
             → IsTold (option_and_then (content_with_links self.old.links) self.old.files) c
             → IfErr result (λ e. IsListError (list_result c path.now) e) }
+        ensures strays { (f : FileSystem) → IsHeld self.old.files f
+            → OnOk result (IsReceived (list_result f.content path.now) (strays_found f path.now)
+            (S.names self.old.strays) (S.names self.new.strays)) }
     {
         self.asks = self.asks.after(1);
         let entries = self.lookups.entries(path)?;

@@ -1,5 +1,5 @@
 //! What a disk cannot answer, for someone to hear.
-ghost use Rattle.std.specs.Prelude.{◌≡◌, ◌≢◌, ◌⊎◌, ℕ, List, Option, None, [], ◌∷◌, IfOk, IfErr, OnOk};
+ghost use Rattle.std.specs.Prelude.{◌≡◌, ◌≢◌, ◌⊎◌, ℕ, List, Option, None, [], ◌∷◌, IfOk, IfErr, IsSome, OnOk};
 ghost use Rattle.std.specs.IoError.{error_kind};
 ghost use Rattle.glob_tree.specs.FileSystems.{Found, IsStatAnswer};
 ghost use Rattle.glob_tree.specs.Private.Looking.{IsFoundAs};
@@ -59,6 +59,8 @@ pub(crate) fn settle<S: Strays>(
         → IfOk result (λ metadata. IsFoundAs found metadata) }
     ensures names { S.names strays.new ≡ S.names strays.old }
     ensures known { OnOk answer (S.paths strays.new ≡ S.paths strays.old) }
+    ensures some { IfOk result (λ metadata. IsSome metadata
+        → S.paths strays.new ≡ S.paths strays.old) }
     ensures missing { IfErr answer (λ error. (error_kind error ≡ ErrorKind.NotFound)
         ⊎ (error_kind error ≡ ErrorKind.NotADirectory) → S.paths strays.new ≡ S.paths strays.old) }
     ensures unsettled { IfErr answer (λ error. error_kind error ≢ ErrorKind.NotFound

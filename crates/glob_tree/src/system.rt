@@ -1,13 +1,14 @@
 //! The calls of a system that disks are made of.
-ghost use Rattle.std.specs.Prelude.{◌≡◌, ◌≢◌, ℕ, List, Option, true, None, IfOk, IfErr, IsSome};
+ghost use Rattle.std.specs.Prelude.{◌≡◌, ℕ, ◌<◌, List, Option, true, None, length, IfOk, IfErr};
 ghost use Rattle.std.specs.Io.{ReadsAtMost};
 ghost use Rattle.std.specs.Io.KnownBytes.{ReadConsumes};
-ghost use Rattle.std.specs.IoError.{error_kind};
+ghost use Rattle.std.specs.declared.io.ErrorKind.{ErrorKind};
 ghost use Rattle.glob_tree.specs.Content.{list_result};
-ghost use Rattle.glob_tree.specs.FileSystems.{FileSystem, IsHeld, IsOpened, IsOpenFault, IsStatAnswer, is_direct, lstat_found, stat_found};
+ghost use Rattle.glob_tree.specs.Directories.{HasEnded, IsReadFault};
+ghost use Rattle.glob_tree.specs.FileSystems.{FileSystem, IsHeld, IsOpened, IsOpenFault, IsStatAnswer, is_direct, lstat_found, stat_found, strays_found};
 
 use std::fs::{Files, Metadata};
-use std::io::{self, ErrorKind, Read};
+use std::io::{self, Read};
 
 /// The calls of a system: what is at a path, and which names a directory has. Each `HostRuntime` is one, as every
 /// [`Files`] is, and says nothing of what it holds.
@@ -41,11 +42,12 @@ pub trait System: Drop {
 
     /// Opens the directory at a path.
     ///
-    /// It fails where the directory cannot be listed, with an error of that kind, and may fail with any error where the
-    /// path leads to no directory.
+    /// Where the directory cannot be listed, this call fails with an error of that kind, or a read of it does. It may
+    /// fail with any error where the path leads to no directory.
     fn open(&self, path: &str) -> io::Result<Self::Dir>
         ensures opened { (f : FileSystem) → IsHeld (holds self.now) f → is_direct f path.now ≡ true
-            → IfOk result (λ dir. IsOpened (list_result f.content path.now) (Self.Dir.left dir)) }
+            → IfOk result (λ dir. IsOpened (list_result f.content path.now)
+            (strays_found f path.now) (Self.Dir.left dir) (Self.Dir.fault dir)) }
         ensures fails { (f : FileSystem) → IsHeld (holds self.now) f → is_direct f path.now ≡ true
             → IfErr result (λ e. IsOpenFault (list_result f.content path.now) e) };
 }
@@ -56,15 +58,21 @@ pub trait Directory: Drop {
     /// The bytes that reads will give from here on, where they are known.
     ghost left: { Self → Option (List ℕ) };
 
+    /// The kind of the error that comes after the bytes that are left, if one does, and not the end.
+    ghost fault: { Self → Option ErrorKind };
+
     /// Reads the next bytes into the first places of `block`, and returns how many they are: 0 at the end. So a
     /// directory with the names `a` and `b` may be read as `a\0b`, `\0`, and the end.
     ///
-    /// Where its bytes are known, it fails only where memory runs out, with an error of the kind `OutOfMemory`.
+    /// Where its bytes are known, it fails where memory runs out, with an error of the kind `OutOfMemory`, and after
+    /// the last byte of a directory whose reading fails, with an error of that kind.
     fn read(&mut self, block: &mut [u8]) -> io::Result<usize>
         ensures bound { ReadsAtMost result block.new }
         ensures bytes { ReadConsumes (left self.old) (left self.new) result block.new }
-        ensures fails { IsSome (left self.old)
-            → IfErr result (λ e. error_kind e ≡ ErrorKind.OutOfMemory) };
+        ensures kept { fault self.new ≡ fault self.old }
+        ensures end { IfOk result (λ n. n ≡ 0 → 0 < length block.new
+            → HasEnded (left self.new) (fault self.new)) }
+        ensures fails { IfErr result (λ e. IsReadFault (left self.old) (fault self.old) e) };
 }
 
 /// The real system: what is believed of it is that its calls do what [`System`] says.
@@ -95,6 +103,8 @@ pub struct OpenDirectory<D: Read + Drop> {
 
 impl<D: Read + Drop> Directory for OpenDirectory<D> {
     ghost left = { λ _. None };
+
+    ghost fault = { λ _. None };
 
     fn read(&mut self, block: &mut [u8]) -> io::Result<usize> {
         self.names.read(block)

@@ -1,5 +1,5 @@
 -- What is found at a path, and the look that reports it.
-use Rattle.std.proofs.Common.{◌≡◌, ◌≢◌, Bool, true, false, cond, ◌&&◌, not, List, [], ◌∷◌, Option, Some, None, Result, Ok, Err, refl, ap, sym, ◌∙◌, arith}
+use Rattle.std.proofs.Common.{◌≡◌, ◌≢◌, Bool, true, false, cond, ◌&&◌, not, ◌||◌, List, [], ◌∷◌, Option, Some, None, Result, Ok, Err, refl, ap, sym, ◌∙◌, arith}
 use Rattle.std.specs.Prelude.{find, option_map, option_and_then, IfOk, IsOkAnd}
 use Rattle.std.specs.Fs.{file_type, IsDir, IsSymlink}
 use Rattle.std.specs.IoError.{error_kind}
@@ -12,31 +12,34 @@ use Rattle.std.proofs.lemmas.Bool.{both_ways, not_from_false, or_from, or_parts}
 use Rattle.std.proofs.lemmas.Option.{none-some, same_Some}
 use Rattle.glob_text.specs.Pieces.{pieces}
 use Rattle.glob_text.specs.Text.{Text}
+use Rattle.glob_tree.specs.Answers.{IsTold}
 use Rattle.glob_tree.specs.Content.{Content, Key, same_key, is_content, kind_at, is_dir_at, step, origin, resolve, look_of, look_result}
-use Rattle.glob_tree.specs.FileSystems.{FileSystem, Target, Nowhere, AFile, ADirectory, is_a_directory, IsHeld, target_at, Found, Directory, Symlink, File, found_here, found_there, lstat_at, stat_at, lstat_found, stat_found, IsStatAnswer, is_directory_link, passes_link, is_direct}
+use Rattle.glob_tree.specs.FileSystems.{FileSystem, Target, Nowhere, AFile, ADirectory, is_a_directory, IsHeld, target_at, Found, Directory, Symlink, File, found_here, found_there, lstat_at, stat_at, lstat_found, stat_found, IsStatAnswer, is_directory_link, passes_link, is_direct, has_directory_links}
+use Rattle.glob_tree.specs.Followed.{look_found, look_through, look_followed, is_found_directory, has_strays, followed}
 use Rattle.glob_tree.specs.Looks.{is_directory}
-use Rattle.glob_tree.specs.Private.Listing.{IsFollowed, look_found}
 use Rattle.glob_tree.specs.declared.kind.Kind.{Kind}
 use Rattle.glob_tree.specs.declared.kind.Kind.TheVariants.{Dir, Shut, Other}
 use Rattle.glob_tree.specs.declared.tree.Look.{Look}
 use Rattle.glob_tree.specs.declared.tree.Look.TheVariants as look
 
--- the files are known, and no symbolic link points to a directory
+-- the files are known, no symbolic link points to a directory, and each name is a text
 pub record Follows (files : Option FileSystem) (c : Content) : Type 0 where
   pub f : FileSystem
   pub held : IsHeld files f
   pub same : f.content ≡ c
-  pub no_links : list_any (λ e. is_a_directory e.1) f.links ≡ false
+  pub no_links : has_directory_links f ≡ false
+  pub no_strays : has_strays f.strays ≡ false
 
-pub Follows-from_told : (files : Option FileSystem) (c : Content) → IsFollowed files c → Follows files c
+pub Follows-from_told : (files : Option FileSystem) (c : Content) → IsTold (option_and_then followed files) c → Follows files c
 Follows-from_told None c told = absurd (none-some c told.0)
-Follows-from_told (Some f) c told = by_test (list_any (λ e. is_a_directory e.1) f.links) refl told.0
+Follows-from_told (Some f) c told = by_test (has_directory_links f || has_strays f.strays) refl told.0
   where
-    by_test : (b : Bool) → list_any (λ e. is_a_directory e.1) f.links ≡ b → cond b None (Some f.content) ≡ Some c → Follows (Some f) c
+    by_test : (b : Bool) → (has_directory_links f || has_strays f.strays) ≡ b → cond b None (Some f.content) ≡ Some c → Follows (Some f) c
     by_test true e h = absurd (none-some c h)
     by_test false e h =
         let same = same_Some f.content c h in
-        record { f = f; held = (refl, ap is_content same ∙ told.1); same = same; no_links = e }
+        let parts = or_parts (has_directory_links f) (has_strays f.strays) e in
+        record { f = f; held = (refl, ap is_content same ∙ told.1); same = same; no_links = parts.0; no_strays = parts.1 }
 
 and_no : (a b : Bool) → b ≡ false → (a && b) ≡ false
 and_no true b h = h
@@ -162,38 +165,71 @@ answer_symlink (Some File) m h s = absurd (h.1 s)
 pub answer_none : (absent : Look) (found : Option Found) (e : Error) → IsStatAnswer found (Err e) → error_kind e ≢ OutOfMemory → absent ≡ look_found absent found
 answer_none absent found e h non = sym (ap (look_found absent) (h non))
 
--- a look at a path by what `lstat` returned, unless that is a symbolic link
-pub seen_there : {E : Type 0} (files : Option FileSystem) (c : Content) → IsFollowed files c → (path : Text) (answer : Result Metadata Error)
-    → ((f : FileSystem) → IsHeld files f → is_direct f path ≡ true → IsStatAnswer (lstat_found f path) answer)
+found_looked : (o : Option Found) → is_found_directory o ≡ is_directory (look_found look.Missing o)
+found_looked None = refl
+found_looked (Some Directory) = refl
+found_looked (Some Symlink) = refl
+found_looked (Some File) = refl
+
+-- without symbolic links to directories, links that are followed change no look
+pub look_followed-plain : (f : FileSystem) → has_directory_links f ≡ false → (path : Text) → look_followed f path ≡ look_result f.content path
+unfolding look_followed
+look_followed-plain f non path = by_here (lstat_found f path) refl
+  where
+    by_here : (o : Option Found) → lstat_found f path ≡ o → look_through o (stat_found f path) ≡ look_result f.content path
+    by_here None is = ap (look_found look.Missing) (sym is) ∙ lstat_look f path
+    by_here (Some Directory) is = ap (look_found look.Missing) (sym is) ∙ lstat_look f path
+    by_here (Some Symlink) is = stat_look f non path is
+    by_here (Some File) is = ap (look_found look.Missing) (sym is) ∙ lstat_look f path
+
+-- and each directory is found
+pub stat_looked : (f : FileSystem) → has_directory_links f ≡ false → (path : Text) → is_found_directory (stat_found f path) ≡ is_directory (look_result f.content path)
+stat_looked f non path = found_looked (stat_found f path) ∙ stat_directory f non path
+
+is_missing : Look → Bool
+is_missing look.Dir = false
+is_missing look.Other = false
+is_missing look.Missing = true
+
+missing_other : (l : Look) → l ≡ look.Missing → l ≡ look.Other → ⊥
+unfolding is_missing
+missing_other l missing other = both_ways false refl (ap is_missing (sym other ∙ missing))
+
+-- a look at a path by what `lstat` returned, which is no symbolic link
+pub seen_there : {E : Type 0} (f : FileSystem) (path : Text) (answer : Result Metadata Error) → IsStatAnswer (lstat_found f path) answer → IfOk answer (λ m. IsSymlink (file_type m) → ⊥)
     → (r : Result Look E) → ((found : Option Found) → IsStatAnswer found answer → IfOk r (λ l. l ≡ look_found look.Missing found))
-    → IfOk r (λ l. l ≡ look_result c path)
-seen_there files c told path answer found (Err e) of = tt
-seen_there files c told path answer found (Ok l) of =
-    let is = Follows-from_told files c told in
-    of (lstat_found is.f path) (found is.f is.held (is_direct-from_links is.f is.no_links path)) ∙ lstat_look is.f path ∙ ap (λ d. look_result d path) is.same
+    → IfOk r (λ l. l ≡ look_followed f path)
+unfolding look_followed
+seen_there f path answer found non (Err e) of = tt
+seen_there f path (Ok m) found non (Ok l) of = by_found (lstat_found f path) found (of (lstat_found f path) found)
+  where
+    by_found : (o : Option Found) → IsStatAnswer o (Ok m) → l ≡ look_found look.Missing o → l ≡ look_through o (stat_found f path)
+    by_found None h is = is
+    by_found (Some Directory) h is = is
+    by_found (Some Symlink) h is = absurd (non h)
+    by_found (Some File) h is = is
+seen_there f path (Err e) found non (Ok l) of = by_found (lstat_found f path) (of (lstat_found f path) found)
+  where
+    by_found : (o : Option Found) → l ≡ look_found look.Missing o → l ≡ look_through o (stat_found f path)
+    by_found None is = is
+    by_found (Some Directory) is = is
+    by_found (Some Symlink) is = absurd (missing_other l (of None (λ non. refl)) is)
+    by_found (Some File) is = is
 
 -- and where it is one, by what `stat` returned
-pub seen_link : {E : Type 0} (files : Option FileSystem) (c : Content) → IsFollowed files c → (path : Text) (first answer : Result Metadata Error) → IsOkAnd first (λ m. IsSymlink (file_type m))
-    → ((f : FileSystem) → IsHeld files f → is_direct f path ≡ true → IsStatAnswer (lstat_found f path) first)
-    → ((f : FileSystem) → IsHeld files f → is_direct f path ≡ true → IsStatAnswer (stat_found f path) answer)
-    → (r : Result Look E) → ((found : Option Found) → IsStatAnswer found answer → IfOk r (λ l. l ≡ look_found look.Other found))
-    → IfOk r (λ l. l ≡ look_result c path)
-seen_link files c told path (Err e) answer link here there r of = absurd link
-seen_link files c told path (Ok m) answer link here there (Err e) of = tt
-seen_link files c told path (Ok m) answer link here there (Ok l) of =
-    let is = Follows-from_told files c told in
-    let direct = is_direct-from_links is.f is.no_links path in
-    let symlink = answer_symlink (lstat_found is.f path) m (here is.f is.held direct) link in
-    of (stat_found is.f path) (there is.f is.held direct) ∙ stat_look is.f is.no_links path symlink ∙ ap (λ d. look_result d path) is.same
+pub seen_link : {E : Type 0} (f : FileSystem) (path : Text) (first answer : Result Metadata Error) → IsOkAnd first (λ m. IsSymlink (file_type m)) → IsStatAnswer (lstat_found f path) first
+    → IsStatAnswer (stat_found f path) answer → (r : Result Look E) → ((found : Option Found) → IsStatAnswer found answer → IfOk r (λ l. l ≡ look_found look.Other found))
+    → IfOk r (λ l. l ≡ look_followed f path)
+unfolding look_followed
+seen_link f path (Err e) answer link here there r of = absurd link
+seen_link f path (Ok m) answer link here there (Err e) of = tt
+seen_link f path (Ok m) answer link here there (Ok l) of =
+    of (stat_found f path) there ∙ ap (λ o. look_through o (stat_found f path)) (sym (answer_symlink (lstat_found f path) m here link))
 
 -- whether a directory is at a path, by what `stat` returned
-pub seen_directory : {E : Type 0} (files : Option FileSystem) (c : Content) → IsFollowed files c → (path at : Text) → path ≡ at → (answer : Result Metadata Error)
-    → ((f : FileSystem) → IsHeld files f → is_direct f path ≡ true → IsStatAnswer (stat_found f path) answer)
+pub seen_directory : {E : Type 0} (f : FileSystem) (path at : Text) → path ≡ at → (answer : Result Metadata Error) → IsStatAnswer (stat_found f path) answer
     → (r : Result Look E) → ((found : Option Found) → IsStatAnswer found answer → IfOk r (λ l. l ≡ look_found look.Missing found))
-    → IfOk r (λ l. is_directory l ≡ is_directory (look_result c at))
-seen_directory files c told path at same answer found (Err e) of = tt
-seen_directory files c told path at same answer found (Ok l) of =
-    let is = Follows-from_told files c told in
-    ap is_directory (of (stat_found is.f path) (found is.f is.held (is_direct-from_links is.f is.no_links path)))
-    ∙ stat_directory is.f is.no_links path
-    ∙ (λ i. is_directory (look_result (is.same i) (same i)))
+    → IfOk r (λ l. is_directory l ≡ is_found_directory (stat_found f at))
+seen_directory f path at same answer found (Err e) of = tt
+seen_directory f path at same answer found (Ok l) of =
+    ap is_directory (of (stat_found f path) found) ∙ sym (found_looked (stat_found f path)) ∙ ap (λ p. is_found_directory (stat_found f p)) same

@@ -1,36 +1,29 @@
 -- What a listing returns, by what an opened directory has to read.
-use Rattle.std.proofs.Common.{◌≡◌, ◌≢◌, ℕ, Bool, true, false, ⊎_elim, List, [], ◌∷◌, ◌++◌, Option, Some, None, Result, Ok, Err, refl, ap, sym, subst, ◌∙◌}
-use Rattle.std.specs.Prelude.{Contains, IsPermutation, IfOk, IfErr, IfSome, Vec, option_and_then}
-use Rattle.std.specs.Result.{IsErrAnd}
-use Rattle.std.specs.IoError.{error_kind}
-use Rattle.std.specs.List.{list_all}
+use Rattle.std.proofs.Common.{◌≡◌, Bool, true, false, map, ⊎_elim, List, [], ◌∷◌, ◌++◌, Option, Some, None, refl, ap, sym, subst, ◌∙◌}
+use Rattle.std.specs.Prelude.{Contains, IsPermutation, option_and_then}
+use Rattle.std.specs.List.{list_all, filter}
 use Rattle.std.specs.Path.{with_separator}
 use Rattle.std.specs.Str.{is_utf8}
-use Rattle.std.specs.declared.io.Error.{Error}
-use Rattle.std.specs.declared.io.ErrorKind.TheVariants.{OutOfMemory}
 use Rattle.std.proofs.lemmas.Bool.{and_from, both_ways}
 use Rattle.std.proofs.lemmas.List.{append-nil}
 use Rattle.std.proofs.lemmas.List.Sorted.{IsPermutation-map, IsPermutation-sym, Contains-permutation}
 use Rattle.glob_text.specs.Text.{Text}
-use Rattle.glob_tree.specs.Answers.{entries_of, names_of, IsEntriesAnswer, IsListFault, IsListError, IsListErrorOf}
-use Rattle.glob_tree.specs.Content.{Content, Key, is_content, kind_at, is_dir, is_dir_at, step, resolve, look_of, look_result, DirEntry, children, ListAnswer, Entries, Fails, NoDirectory, list_of, list_found, list_result}
-use Rattle.glob_tree.specs.Directories.{names_in}
-use Rattle.glob_tree.specs.FileSystems.{FileSystem, IsHeld, IsOpened, IsOpenFault, is_direct}
+use Rattle.glob_tree.specs.Answers.{names_of, IsEntriesAnswer}
+use Rattle.glob_tree.specs.Content.{Content, Key, same_key, is_content, kind_at, is_dir, is_dir_at, step, resolve, look_of, look_result, DirEntry, children, ListAnswer, Entries, Fails, NoDirectory, list_of, list_found, list_result}
+use Rattle.glob_tree.specs.FileSystems.{FileSystem, stat_found, has_directory_links, strays_at, strays_found}
+use Rattle.glob_tree.specs.Followed.{is_found_directory, entry_followed, answer_followed, list_followed, has_strays}
 use Rattle.glob_tree.specs.Looks.{is_directory}
 use Rattle.glob_tree.specs.Paths.{join, is_proper}
-use Rattle.glob_tree.specs.Private.Listing.{IsFollowed, are_looked_up, said_entry, said_entries, is_text_name, are_text_names}
+use Rattle.glob_tree.specs.Private.Listing.{are_looked_up, is_said_dir, is_dir_in, said_entry, said_entries, is_text_name, are_text_names}
 use Rattle.glob_tree.specs.declared.disk.Kinds.{Kinds}
 use Rattle.glob_tree.specs.declared.disk.Kinds.TheVariants.{LookedUp, LeftOut}
 use Rattle.glob_tree.specs.declared.kind.Kind.{Kind}
 use Rattle.glob_tree.specs.declared.kind.Kind.TheVariants.{Dir, Shut, Other}
-use Rattle.glob_tree.specs.declared.tree.Entry.{Entry}
-use Rattle.glob_tree.specs.declared.tree.ListError.{ListError}
-use Rattle.glob_tree.specs.declared.tree.ListError.TheVariants.{Read, Memory}
 use Rattle.glob_tree.proofs.ContentLemmas.Contents.{IsContent, IsContent-from_test, IsChild-list_result}
 use Rattle.glob_tree.proofs.ContentLemmas.Directories.{LeadsTo, IsName-from_proper, is_dir_at-kind, step_name}
 use Rattle.glob_tree.proofs.ContentLemmas.Membership.{Contains-head, Contains-tail, Contains-cases, Contains-nil}
 use Rattle.glob_tree.proofs.ContentLemmas.Resolving.{resolve_join, resolve_join_none, step_here, step_none}
-use Rattle.glob_tree.proofs.SystemLemmas.Finding.{Follows-from_told, is_direct-from_links}
+use Rattle.glob_tree.proofs.SystemLemmas.Finding.{stat_looked}
 
 -- a separator at the end of a path changes no listing
 pub list_result-join : (c : Content) (path : Text) → list_result c (join path []) ≡ list_result c path
@@ -104,56 +97,86 @@ joined path name = ap (λ p. p ++ name) (append-nil (with_separator path))
 
 -- each entry is what is said of its name
 all_said : (c : Content) (path : Text) (es : List DirEntry) → ((l : DirEntry) → Contains es l → is_directory (look_result c (path ++ l.0)) ≡ l.1)
-    → said_entries c LookedUp path (names_of es) ≡ es
+    → said_entries (is_dir_in c path) (names_of es) ≡ es
 unfolding said_entries
 all_said c path [] h = refl
 all_said c path (e ∷ es) h = λ i. (e.0, h e (Contains-head e es) i) ∷ all_said c path es (λ l in'. h l (Contains-tail e es l in')) i
 
-names_said : (c : Content) (kinds : Kinds) (path : Text) (names : List Text) → names_of (said_entries c kinds path names) ≡ names
+names_said : (said : Text → Bool) (names : List Text) → names_of (said_entries said names) ≡ names
 unfolding said_entries
-names_said c kinds path [] = refl
-names_said c kinds path (n ∷ names) = ap (λ ns. n ∷ ns) (names_said c kinds path names)
+names_said said [] = refl
+names_said said (n ∷ names) = ap (λ ns. n ∷ ns) (names_said said names)
 
 -- no entry that was not looked up is said to be a directory
-none_said : (c : Content) (path : Text) (names : List Text) (e : DirEntry) → Contains (said_entries c LeftOut path names) e → e.1 ≡ false
+none_said : (f : FileSystem) (path : Text) (names : List Text) (e : DirEntry) → Contains (said_entries (is_said_dir f LeftOut path) names) e → e.1 ≡ false
 unfolding said_entries
-none_said c path [] e in' = absurd (Contains-nil e in')
-none_said c path (n ∷ names) e in' = ⊎_elim
+none_said f path [] e in' = absurd (Contains-nil e in')
+none_said f path (n ∷ names) e in' = ⊎_elim
     (λ same. sym (ap (λ x. x.1) same))
-    (λ later. none_said c path names e later)
-    (Contains-cases (n, false) (said_entries c LeftOut path names) e in')
+    (λ later. none_said f path names e later)
+    (Contains-cases (n, false) (said_entries (is_said_dir f LeftOut path) names) e in')
 
-said_moved : (c : Content) (path : Text) (names more : List Text) → IsPermutation names more → IsPermutation (said_entries c LookedUp path names) (said_entries c LookedUp path more)
+said_moved : (said : Text → Bool) (names more : List Text) → IsPermutation names more → IsPermutation (said_entries said names) (said_entries said more)
 unfolding said_entries
-said_moved c path names more moved = IsPermutation-map (said_entry c LookedUp path) names more moved
+said_moved said names more moved = IsPermutation-map (said_entry said) names more moved
 
-pub entries_said : (c : Content) → is_content c ≡ true → (path : Text) (kinds : Kinds) (es : List DirEntry) → list_result c path ≡ Entries es → (names : List Text)
-    → IsPermutation (names_of es) names → IsEntriesAnswer (are_looked_up kinds) (Entries es) (said_entries c kinds (join path []) names)
-entries_said c w path LookedUp es at names moved =
+said_followed : (f : FileSystem) (path : Text) (es : List DirEntry) → said_entries (is_said_dir f LookedUp (join path [])) (names_of es) ≡ map (entry_followed f path) es
+unfolding said_entries
+said_followed f path [] = refl
+said_followed f path (e ∷ es) = λ i. (e.0, is_found_directory (stat_found f (joined path e.0 i))) ∷ said_followed f path es i
+
+names_followed : (f : FileSystem) (path : Text) (es : List DirEntry) → names_of (map (entry_followed f path) es) ≡ names_of es
+names_followed f path [] = refl
+names_followed f path (e ∷ es) = ap (λ ns. e.0 ∷ ns) (names_followed f path es)
+
+-- entries where links are followed
+pub entries_followed : (f : FileSystem) (path : Text) (kinds : Kinds) (es : List DirEntry) (names : List Text) → IsPermutation (names_of es) names
+    → IsEntriesAnswer (are_looked_up kinds) (Entries (map (entry_followed f path) es)) (said_entries (is_said_dir f kinds (join path [])) names)
+entries_followed f path LookedUp es names moved =
+    subst (λ ls. IsPermutation ls (said_entries (is_said_dir f LookedUp (join path [])) names)) (said_followed f path es)
+    (said_moved (is_said_dir f LookedUp (join path [])) (names_of es) names moved)
+entries_followed f path LeftOut es names moved = (
+  subst (IsPermutation (names_of (map (entry_followed f path) es))) (sym (names_said (is_said_dir f LeftOut (join path [])) names))
+      (subst (λ ns. IsPermutation ns names) (sym (names_followed f path es)) moved),
+  λ e in' d. absurd (both_ways e.1 (none_said f (join path []) names e in') d),
+)
+
+-- entries where the content has each link
+pub entries_kept : (c : Content) → is_content c ≡ true → (path : Text) (es : List DirEntry) → list_result c path ≡ Entries es → (names : List Text)
+    → IsPermutation (names_of es) names → IsPermutation es (said_entries (is_dir_in c (join path [])) names)
+entries_kept c w path es at names moved =
     let of = Lists-from_result c path es at in
     let each : (l : DirEntry) → Contains es l → is_directory (look_result c (join path [] ++ l.0)) ≡ l.1 = λ l in'.
     ap (λ p. is_directory (look_result c p)) (joined path l.0) ∙ entry_looked c (IsContent-from_test c w) path of.k of.leads l (subst (λ ls. Contains ls l) (sym of.all) in') in
-    subst (λ ls. IsPermutation ls (said_entries c LookedUp (join path []) names)) (all_said c (join path []) es each) (said_moved c (join path []) (names_of es) names moved)
-entries_said c w path LeftOut es at names moved = (
-  subst (IsPermutation (names_of es)) (sym (names_said c LeftOut (join path []) names)) moved,
-  λ e in' d. absurd (both_ways e.1 (none_said c (join path []) names e in') d),
-)
+    subst (λ ls. IsPermutation ls (said_entries (is_dir_in c (join path [])) names)) (all_said c (join path []) es each) (said_moved (is_dir_in c (join path [])) (names_of es) names moved)
 
--- the answer of a listing that has read what an opened directory had left
-pub listing_answer : (c : Content) → is_content c ≡ true → (path : Text) (kinds : Kinds) (left : Option (List ℕ)) → IsOpened (list_result c (join path [])) left → (listed : List DirEntry)
-    → IfSome left (λ bytes. listed ≡ said_entries c kinds (join path []) (names_in bytes)) → IsEntriesAnswer (are_looked_up kinds) (list_result c path) listed
-listing_answer c w path kinds left opened listed is = from_answer (list_result c path) refl (subst (λ a. IsOpened a left) (list_result-join c path) opened)
+-- a tree that follows links lists the content, where no link points to a directory and each name is a text
+pub list_followed-plain : (f : FileSystem) → is_content f.content ≡ true → has_directory_links f ≡ false → has_strays f.strays ≡ false → (path : Text)
+    → list_followed f path ≡ list_result f.content path
+unfolding list_followed strays_found
+list_followed-plain f w non texts path = by_strays f.strays refl texts ∙ by_answer (list_result f.content path) refl
   where
-    nothing : (kinds : Kinds) → IsEntriesAnswer (are_looked_up kinds) NoDirectory listed
-    nothing LookedUp = tt
-    nothing LeftOut = tt
+    at_key : (ss : List (Key × Text)) → f.strays ≡ ss → ss ≡ [] → (o : Option Key) → strays_at f o ≡ []
+    at_key ss is none None = refl
+    at_key ss is none (Some k) = ap (λ ss. map (λ s. s.1) (filter (λ s. same_key k s.0) ss)) (is ∙ none)
 
-    from_answer : (a : ListAnswer) → list_result c path ≡ a → IsOpened a left → IsEntriesAnswer (are_looked_up kinds) a listed
-    from_answer (Entries es) at (bytes, known, moved) =
-        let all : listed ≡ said_entries c kinds (join path []) (names_in bytes) = subst (λ o. IfSome o (λ bs. listed ≡ said_entries c kinds (join path []) (names_in bs))) known is in
-        subst (IsEntriesAnswer (are_looked_up kinds) (Entries es)) (sym all) (entries_said c w path kinds es at (names_in bytes) moved)
-    from_answer (Fails kind) at opened = absurd opened
-    from_answer NoDirectory at opened = nothing kinds
+    by_strays : (ss : List (Key × Text)) → f.strays ≡ ss → has_strays ss ≡ false
+        → answer_followed f path (list_result f.content path) (strays_at f (resolve f.content path)) ≡ answer_followed f path (list_result f.content path) []
+    by_strays [] is none = ap (answer_followed f path (list_result f.content path)) (at_key [] is refl (resolve f.content path))
+    by_strays (s ∷ ss) is none = absurd (both_ways true none refl)
+
+    all_looked : (es : List DirEntry) → ((l : DirEntry) → Contains es l → is_directory (look_result f.content (join path l.0)) ≡ l.1) → map (entry_followed f path) es ≡ es
+    all_looked [] h = refl
+    all_looked (e ∷ es) h =
+        λ i. (e.0, (stat_looked f non (join path e.0) ∙ h e (Contains-head e es)) i) ∷ all_looked es (λ l in'. h l (Contains-tail e es l in')) i
+
+    by_answer : (a : ListAnswer) → list_result f.content path ≡ a → answer_followed f path (list_result f.content path) [] ≡ list_result f.content path
+    by_answer (Entries es) at =
+        let of = Lists-from_result f.content path es at in
+        let all = all_looked es (λ l in'. entry_looked f.content (IsContent-from_test f.content w) path of.k of.leads l (subst (λ ls. Contains ls l) (sym of.all) in')) in
+        ap (λ a. answer_followed f path a []) at ∙ ap Entries all ∙ sym at
+    by_answer (Fails kind) at = ap (λ a. answer_followed f path a []) at ∙ sym at
+    by_answer NoDirectory at = ap (λ a. answer_followed f path a []) at ∙ sym at
 
 all_texts : (names : List Text) → ((n : Text) → Contains names n → is_text_name n ≡ true) → are_text_names names ≡ true
 unfolding are_text_names
@@ -176,77 +199,3 @@ texts_read c w path es at names moved = all_texts names (λ n in'.
     let (l, there, same) = entry_named es n (Contains-permutation names (names_of es) n (IsPermutation-sym (names_of es) names moved) in') in
     let is = IsChild-list_result c (IsContent-from_test c w) of.k l (subst (λ ls. Contains ls l) (sym of.all) there) in
     ap is_text_name (sym same) ∙ and_from (is_utf8 l.0) (is_proper l.0) is.utf8 is.proper)
-
--- the error of a listing whose names were read
-pub listing_fault : (c : Content) → is_content c ≡ true → (path : Text) (left : Option (List ℕ)) → IsOpened (list_result c (join path [])) left → (e : ListError)
-    → IfSome left (λ bytes. are_text_names (names_in bytes) ≡ true → e ≡ Memory) → IsListError (list_result c path) e
-listing_fault c w path left opened e is = from_answer (list_result c path) refl (subst (λ a. IsOpened a left) (list_result-join c path) opened)
-  where
-    any_error : (e : ListError) → IsListError NoDirectory e
-    any_error (Read x) = tt
-    any_error Memory = tt
-
-    from_answer : (a : ListAnswer) → list_result c path ≡ a → IsOpened a left → IsListError a e
-    from_answer (Entries es) at (bytes, known, moved) =
-        let memory = subst (λ o. IfSome o (λ bs. are_text_names (names_in bs) ≡ true → e ≡ Memory)) known is in
-        subst (IsListError (Entries es)) (sym (memory (texts_read c w path es at (names_in bytes) moved))) tt
-    from_answer (Fails kind) at opened = absurd opened
-    from_answer NoDirectory at opened = any_error e
-
-is_memory : ListError → Bool
-is_memory (Read e) = false
-is_memory Memory = true
-
-read_or : Error → ListError → Error
-read_or e (Read x) = x
-read_or e Memory = e
-
--- the error of a listing whose directory was not opened
-pub open_fault : (c : Content) (path : Text) (e : Error) (made : ListError) → IsOpenFault (list_result c (join path [])) e → IsListErrorOf e made → IsListError (list_result c path) made
-unfolding is_memory read_or
-open_fault c path e made fault of = subst (λ a. IsListError a made) (list_result-join c path) (by_made made of)
-  where
-    by_made : (made : ListError) → IsListErrorOf e made → IsListError (list_result c (join path [])) made
-    by_made Memory of = tt
-    by_made (Read x) of =
-        let non : error_kind e ≢ OutOfMemory = λ oom. both_ways false refl (ap is_memory (of.0 oom)) in
-        subst (λ y. IsListFault (list_result c (join path [])) (error_kind y)) (sym (ap (read_or e) (of.1 non))) (fault non)
-
--- what a disk that follows links lists, where an opened directory was read
-pub disk_answer : {A E : Type 0} (files : Option FileSystem) (c : Content) → IsFollowed files c → (path buffer : Text) → buffer ≡ join path [] → (kinds : Kinds) (left : Option (List ℕ))
-    → ((f : FileSystem) → IsHeld files f → is_direct f buffer ≡ true → IsOpened (list_result f.content buffer) left) → (r : Result (Vec (Entry A) A) E)
-    → IfOk r (λ v. IfSome left (λ bytes. entries_of v.items ≡ said_entries c kinds buffer (names_in bytes)))
-    → IfOk r (λ v. IsEntriesAnswer (are_looked_up kinds) (list_result c path) (entries_of v.items))
-disk_answer files c told path buffer same kinds left opened (Err e) is = tt
-disk_answer files c told path buffer same kinds left opened (Ok v) is =
-    let of = Follows-from_told files c told in
-    listing_answer c told.1 path kinds left
-    (subst (λ b. IsOpened (list_result c b) left) same
-    (subst (λ d. IsOpened (list_result d buffer) left) of.same (opened of.f of.held (is_direct-from_links of.f of.no_links buffer))))
-    (entries_of v.items)
-    (subst (λ b. IfSome left (λ bytes. entries_of v.items ≡ said_entries c kinds b (names_in bytes))) same is)
-
--- its error then
-pub disk_fault : {T : Type 0} (files : Option FileSystem) (c : Content) → IsFollowed files c → (path buffer : Text) → buffer ≡ join path [] → (left : Option (List ℕ))
-    → ((f : FileSystem) → IsHeld files f → is_direct f buffer ≡ true → IsOpened (list_result f.content buffer) left) → (r : Result T ListError)
-    → IfSome left (λ bytes. are_text_names (names_in bytes) ≡ true → IfErr r (λ e. e ≡ Memory))
-    → IfErr r (λ e. IsListError (list_result c path) e)
-disk_fault files c told path buffer same left opened (Ok x) is = tt
-disk_fault files c told path buffer same left opened (Err e) is =
-    let of = Follows-from_told files c told in
-    listing_fault c told.1 path left
-    (subst (λ b. IsOpened (list_result c b) left) same
-    (subst (λ d. IsOpened (list_result d buffer) left) of.same (opened of.f of.held (is_direct-from_links of.f of.no_links buffer))))
-    e is
-
--- and where the directory was not opened
-pub disk_unopened : {T : Type 0} (files : Option FileSystem) (c : Content) → IsFollowed files c → (path buffer : Text) → buffer ≡ join path [] → (e : Error)
-    → ((f : FileSystem) → IsHeld files f → is_direct f buffer ≡ true → IsOpenFault (list_result f.content buffer) e) → (r : Result T ListError)
-    → IsErrAnd r (IsListErrorOf e) → IfErr r (λ made. IsListError (list_result c path) made)
-disk_unopened files c told path buffer same e fault (Ok x) is = tt
-disk_unopened files c told path buffer same e fault (Err made) is =
-    let of = Follows-from_told files c told in
-    open_fault c path e made
-    (subst (λ b. IsOpenFault (list_result c b) e) same
-    (subst (λ d. IsOpenFault (list_result d buffer) e) of.same (fault of.f of.held (is_direct-from_links of.f of.no_links buffer))))
-    is

@@ -15,16 +15,16 @@ use Rattle.glob_text.specs.Text.{Text}
 use Rattle.glob_tree.specs.Answers.{IsTold}
 use Rattle.glob_tree.specs.Content.{Content, Key, is_content, kind_at, resolve, look_result}
 use Rattle.glob_tree.specs.Disks.{content_with_links}
-use Rattle.glob_tree.specs.FileSystems.{FileSystem, Target, Nowhere, AFile, ADirectory, is_a_directory, target_at, Found, Directory, Symlink, File, found_here, found_there, lstat_at, stat_at, lstat_found, stat_found, IsStatAnswer, is_direct}
+use Rattle.glob_tree.specs.FileSystems.{FileSystem, Target, Nowhere, AFile, ADirectory, is_a_directory, target_at, Found, Directory, Symlink, File, found_here, found_there, lstat_at, stat_at, lstat_found, stat_found, IsStatAnswer, is_direct, has_directory_links}
+use Rattle.glob_tree.specs.Followed.{look_found, look_through, look_followed, is_found_directory}
 use Rattle.glob_tree.specs.Looks.{is_directory}
-use Rattle.glob_tree.specs.Private.Listing.{look_found}
 use Rattle.glob_tree.specs.Private.Looking.{has_places, IsSeen, IsFoundAs, IsWay, HasWay, LeadsOn, IsOnWay}
 use Rattle.glob_tree.specs.declared.kind.Kind.{Kind}
 use Rattle.glob_tree.specs.declared.kind.Kind.TheVariants.{Dir, Shut, Other}
 use Rattle.glob_tree.specs.declared.physical.Links.{Links}
 use Rattle.glob_tree.specs.declared.physical.Links.TheVariants.{Kept, Followed}
 use Rattle.glob_tree.specs.declared.tree.Look.TheVariants as look
-use Rattle.glob_tree.proofs.SystemLemmas.Finding.{Follows-from_told, no_target, lstat_look, answer_directory, answer_other, answer_symlink}
+use Rattle.glob_tree.proofs.SystemLemmas.Finding.{no_target, lstat_look, answer_directory, answer_other, answer_symlink}
 use Rattle.glob_tree.proofs.SystemLemmas.Ways.{direct_one, direct_below, nothing_below, said_no, way_above}
 
 -- a told content is that of files that are seen
@@ -38,9 +38,13 @@ Sees-from_told links None c told = absurd (none-some c told.0)
 Sees-from_told Kept (Some f) c told =
     let same = same_Some f.content c told.0 in
     record { f = f; seen = ((refl, ap is_content same ∙ told.1), refl); same = same }
-Sees-from_told Followed (Some f) c told =
-    let of = Follows-from_told (Some f) c told in
-    record { f = of.f; seen = (of.held, not_from_false (list_any (λ e. is_a_directory e.1) of.f.links) of.no_links); same = of.same }
+Sees-from_told Followed (Some f) c told = by_test (has_directory_links f) refl told.0
+  where
+    by_test : (b : Bool) → has_directory_links f ≡ b → cond b None (Some f.content) ≡ Some c → Sees Followed (Some f) c
+    by_test true e h = absurd (none-some c h)
+    by_test false e h =
+        let same = same_Some f.content c h in
+        record { f = f; seen = ((refl, ap is_content same ∙ told.1), not_from_false (has_directory_links f) e); same = same }
 
 -- what a disk is told of metadata
 pub as_found : (found : Option Found) (m : Metadata) → IsStatAnswer found (Ok m) → IsFoundAs found (Some m)
@@ -68,15 +72,9 @@ pub look_something : (f : FileSystem) (path : Text) (m : Metadata) (d : Bool) �
 look_something f path m true h is back = answer_directory look.Missing (lstat_found f path) m (as_answer (lstat_found f path) m h) (is refl) ∙ lstat_look f path
 look_something f path m false h is back = answer_other look.Missing (lstat_found f path) m (as_answer (lstat_found f path) m h) (λ d. both_ways false refl (back d)) ∙ lstat_look f path
 
-is_found_directory : Option Found → Bool
-is_found_directory None = false
-is_found_directory (Some Directory) = true
-is_found_directory (Some Symlink) = false
-is_found_directory (Some File) = false
-
 -- a link that is followed points to no directory
 pub no_directory_there : (f : FileSystem) (path : Text) → has_places Followed f ≡ true → lstat_found f path ≡ Some Symlink → stat_found f path ≢ Some Directory
-unfolding lstat_found stat_found is_found_directory
+unfolding lstat_found stat_found
 no_directory_there f path places h is = at_key (resolve f.content path) h is
   where
     no_links : list_any (λ e. is_a_directory e.1) f.links ≡ false
@@ -105,15 +103,56 @@ link_found f path m h s = answer_symlink (lstat_found f path) m (as_answer (lsta
 pub look_link : (f : FileSystem) (path : Text) → lstat_found f path ≡ Some Symlink → look.Other ≡ look_result f.content path
 look_link f path is = ap (look_found look.Missing) (sym is) ∙ lstat_look f path
 
--- that what was found there is no directory
-pub target_no_directory : (found : Option Found) (m : Metadata) → IsFoundAs found (Some m) → found ≢ Some Directory → IsDir (file_type m) → ⊥
-target_no_directory None m h non d = h
-target_no_directory (Some Directory) m h non d = non refl
-target_no_directory (Some Symlink) m h non d = both_looks (answer_directory look.Missing (Some Symlink) m h d)
+pub no_found : (o : Option Found) → o ≢ Some Directory → is_found_directory o ≡ false
+no_found None non = refl
+no_found (Some Directory) non = absurd (non refl)
+no_found (Some Symlink) non = refl
+no_found (Some File) non = refl
+
+-- a directory is found where the metadata is of one
+pub found_directory : (o : Option Found) (m : Metadata) (d : Bool) → IsFoundAs o (Some m) → (d ≡ true → IsDir (file_type m)) → (IsDir (file_type m) → d ≡ true) → d ≡ is_found_directory o
+found_directory None m d h is back = absurd h
+found_directory (Some Directory) m d h is back = back h
+found_directory (Some Symlink) m true h is back = absurd (both_looks (answer_directory look.Missing (Some Symlink) m h (is refl)))
   where
     both_looks : look.Dir ≡ look.Other → ⊥
     both_looks e = both_ways false refl (sym (ap is_directory e))
-target_no_directory (Some File) m h non d = h.0 d
+found_directory (Some Symlink) m false h is back = refl
+found_directory (Some File) m true h is back = absurd (h.0 (is refl))
+found_directory (Some File) m false h is back = refl
+
+-- looks that follow links: at nothing, at a link, and at anything else
+pub followed_nothing : (f : FileSystem) (path : Text) → IsFoundAs (lstat_found f path) None → look.Missing ≡ look_followed f path
+unfolding look_followed
+followed_nothing f path h = by_found (lstat_found f path) h
+  where
+    by_found : (o : Option Found) → IsFoundAs o None → look.Missing ≡ look_through o (stat_found f path)
+    by_found None h = refl
+    by_found (Some t) h = absurd h
+
+pub followed_link : (f : FileSystem) (path : Text) (d : Bool) → lstat_found f path ≡ Some Symlink → d ≡ is_found_directory (stat_found f path)
+    → cond d look.Dir look.Other ≡ look_followed f path
+unfolding look_followed
+followed_link f path d link is =
+    ap (λ b. cond b look.Dir look.Other) is ∙ by_target (stat_found f path) ∙ ap (λ o. look_through o (stat_found f path)) (sym link)
+  where
+    by_target : (o : Option Found) → cond (is_found_directory o) look.Dir look.Other ≡ look_found look.Other o
+    by_target None = refl
+    by_target (Some Directory) = refl
+    by_target (Some Symlink) = refl
+    by_target (Some File) = refl
+
+pub followed_something : (f : FileSystem) (path : Text) (m : Metadata) (d : Bool) → IsFoundAs (lstat_found f path) (Some m) → (IsSymlink (file_type m) → ⊥)
+    → (d ≡ true → IsDir (file_type m)) → (IsDir (file_type m) → d ≡ true) → cond d look.Dir look.Other ≡ look_followed f path
+unfolding look_followed
+followed_something f path m d h non is back =
+    ap (λ b. cond b look.Dir look.Other) (found_directory (lstat_found f path) m d h is back) ∙ by_found (lstat_found f path) h
+  where
+    by_found : (o : Option Found) → IsFoundAs o (Some m) → cond (is_found_directory o) look.Dir look.Other ≡ look_through o (stat_found f path)
+    by_found None h = absurd h
+    by_found (Some Directory) h = refl
+    by_found (Some Symlink) h = absurd (non h)
+    by_found (Some File) h = refl
 
 -- the ways of a path
 pub way_of_one : (f : FileSystem) → is_content f.content ≡ true → (path : Text) → has_no_slash path ≡ true → HasWay f path true

@@ -1,33 +1,39 @@
--- A listing where links are kept: of a path that leads to a directory, all that is asked is direct.
-use Rattle.std.proofs.Common.{◌≡◌, ℕ, ◌-◌, Bool, true, false, cond, inl, inr, List, [], ◌∷◌, ◌++◌, length, take, Option, Some, None, Result, Ok, Err, refl, ap, sym, subst, ◌∙◌}
-use Rattle.std.specs.Prelude.{IfOk, IfErr, IfSome, Vec}
-use Rattle.std.specs.Result.{IsErrAnd}
+-- A listing, by what an opened directory has to read: of a path that leads to a directory, all that is asked is direct.
+use Rattle.std.proofs.Common.{◌≡◌, ℕ, ◌-◌, Bool, true, false, not, cond, inl, inr, ⊎_elim, List, [], ◌∷◌, ◌++◌, length, map, take, Option, Some, None, refl, ap, sym, subst, ◌∙◌, arith}
+use Rattle.std.specs.Prelude.{IfSome, IsSome, IsPermutation, Vec}
+use Rattle.std.specs.IoError.{error_kind}
 use Rattle.std.specs.List.{list_all}
 use Rattle.std.specs.Path.{has_no_slash}
 use Rattle.std.specs.Str.{is_utf8}
 use Rattle.std.specs.declared.io.Error.{Error}
+use Rattle.std.specs.declared.io.ErrorKind.{ErrorKind}
 use Rattle.std.proofs.lemmas.Bool.{and_parts, both_ways}
 use Rattle.std.proofs.lemmas.List.{append_assoc}
+use Rattle.std.proofs.lemmas.List.Sorted.{length_permutation}
+use Rattle.std.proofs.lemmas.Option.{none-some, same_Some}
 use Rattle.glob_text.specs.Characters.{slash}
 use Rattle.glob_text.specs.Pieces.{ends_with}
 use Rattle.glob_text.specs.Text.{Text}
-use Rattle.glob_tree.specs.Answers.{entries_of, IsListAnswer, IsListError, IsListErrorOf}
+use Rattle.glob_tree.specs.Answers.{entries_of, names_of, IsEntriesAnswer, IsListAnswer, IsListError, IsListErrorOf, IsListFault}
 use Rattle.glob_tree.specs.Content.{Content, Key, is_content, kind_at, resolve, DirEntry, ListAnswer, Entries, Fails, NoDirectory, list_of, list_found, list_result}
 use Rattle.glob_tree.specs.Directories.{names_in}
-use Rattle.glob_tree.specs.FileSystems.{FileSystem, IsOpened, IsOpenFault, is_direct}
+use Rattle.glob_tree.specs.FileSystems.{FileSystem, IsOpened, IsOpenFault, IsReceived, is_direct, strays_at, strays_found}
+use Rattle.glob_tree.specs.Followed.{answer_followed, entry_followed, list_followed}
 use Rattle.glob_tree.specs.Paths.{join, is_proper}
-use Rattle.glob_tree.specs.Private.Listing.{said_entries, is_text_name, are_text_names}
+use Rattle.glob_tree.specs.Private.Listing.{are_looked_up, is_said_dir, is_dir_in, said_entries, is_text_name, are_text_names, IsEntriesError}
 use Rattle.glob_tree.specs.Private.Looking.{AreDirect, IsWay}
-use Rattle.glob_tree.specs.Strays.{texts_of}
-use Rattle.glob_tree.specs.declared.disk.Kinds.TheVariants.{LookedUp}
+use Rattle.glob_tree.specs.Strays.{and_then, texts_of, strays_of}
+use Rattle.glob_tree.specs.declared.disk.Kinds.{Kinds}
+use Rattle.glob_tree.specs.declared.disk.Kinds.TheVariants.{LookedUp, LeftOut}
 use Rattle.glob_tree.specs.declared.kind.Kind.{Kind}
 use Rattle.glob_tree.specs.declared.kind.Kind.TheVariants.{Dir, Shut, Other}
 use Rattle.glob_tree.specs.declared.tree.Entry.{Entry}
 use Rattle.glob_tree.specs.declared.tree.ListError.{ListError}
 use Rattle.glob_tree.specs.declared.tree.ListError.TheVariants.{Read, Memory}
 use Rattle.glob_tree.proofs.ContentLemmas.Directories.{LeadsTo, is_directory-look_result, is_dir_at-kind}
-use Rattle.glob_tree.proofs.ContentLemmas.Resolving.{front_and_end, join_ended, join_open, resolve_some}
-use Rattle.glob_tree.proofs.SystemLemmas.Listing.{joined, list_result-join, entries_said, texts_read, listing_fault, open_fault}
+use Rattle.glob_tree.proofs.ContentLemmas.Resolving.{front_and_end, join_ended, join_open, resolve_join, resolve_some, step_here}
+use Rattle.glob_tree.proofs.SystemLemmas.Listing.{joined, list_result-join, entries_followed, entries_kept, texts_read}
+use Rattle.glob_tree.proofs.SystemLemmas.Reading.{made_of}
 use Rattle.glob_tree.proofs.SystemLemmas.Ways.{direct_below, way_above}
 
 is_nil : Text → Bool
@@ -92,72 +98,182 @@ texts_same (n ∷ names) all =
     let text = (and_parts (is_utf8 n) (is_proper n) both.0).0 in
     ap (λ b. cond b (n ∷ texts_of names) (texts_of names)) text ∙ ap (λ ns. n ∷ ns) (texts_same names both.1)
 
-any_error : (a : ListAnswer) → a ≡ NoDirectory → (e : ListError) → IsListError a e
-any_error a none e = subst (λ b. IsListError b e) (sym none) (by_error e)
+no_strays : (names : List Text) → are_text_names names ≡ true → strays_of names ≡ []
+unfolding are_text_names
+no_strays [] all = refl
+no_strays (n ∷ names) all =
+    let both = and_parts (is_text_name n) (list_all is_text_name names) all in
+    let text = (and_parts (is_utf8 n) (is_proper n) both.0).0 in
+    ap (λ b. cond (not b) (n ∷ strays_of names) (strays_of names)) text ∙ no_strays names both.1
+
+-- names without strays are texts
+all_texts : (names : List Text) → strays_of names ≡ [] → texts_of names ≡ names
+all_texts [] none = refl
+all_texts (n ∷ names) none = by_test (is_utf8 n) refl none (λ none. all_texts names none)
   where
-    by_error : (e : ListError) → IsListError NoDirectory e
-    by_error (Read x) = tt
-    by_error Memory = tt
+    by_test : (b : Bool) → is_utf8 n ≡ b → cond (not b) (n ∷ strays_of names) (strays_of names) ≡ [] → (strays_of names ≡ [] → texts_of names ≡ names) → texts_of (n ∷ names) ≡ n ∷ names
+    by_test true is none further = ap (λ b. cond b (n ∷ texts_of names) (texts_of names)) is ∙ ap (λ ns. n ∷ ns) (further none)
+    by_test false is none further = absurd (omega (arith, ap length none))
 
--- the entries of a listing
-pub kept_answer : (f : FileSystem) → is_content f.content ≡ true → (path : Text) (left : Option (List ℕ)) → (is_direct f (join path []) ≡ true → IsOpened (list_result f.content (join path [])) left)
-    → (listed : List DirEntry) → (AreDirect f (join path []) → IfSome left (λ bytes. listed ≡ said_entries f.content LookedUp (join path []) (texts_of (names_in bytes))))
-    → IsListAnswer (list_result f.content path) listed
-kept_answer f w path left opened listed is = by_leads (leads_or_not f.content path)
-  where
-    by_answer : (k : Key) → LeadsTo f.content path k → (a : ListAnswer) → list_result f.content path ≡ a → IsOpened a left → IsListAnswer a listed
-    by_answer k at (Entries es) from (bytes, known, moved) =
-        let all = texts_read f.content w path es from (names_in bytes) moved in
-        let said : listed ≡ said_entries f.content LookedUp (join path []) (texts_of (names_in bytes)) =
-        subst (λ o. IfSome o (λ bs. listed ≡ said_entries f.content LookedUp (join path []) (texts_of (names_in bs)))) known (is (direct_names f w path k at)) in
-        subst (IsListAnswer (Entries es)) (sym (said ∙ ap (said_entries f.content LookedUp (join path [])) (texts_same (names_in bytes) all)))
-        (entries_said f.content w path LookedUp es from (names_in bytes) moved)
-    by_answer k at (Fails kind) from opened = absurd opened
-    by_answer k at NoDirectory from opened = tt
+moved_nil : (xs : List Text) → IsPermutation [] xs → xs ≡ []
+moved_nil [] moved = refl
+moved_nil (x ∷ xs) moved = absurd (omega (arith, length_permutation [] (x ∷ xs) moved))
 
-    by_leads : LeadsOrNot f.content path → IsListAnswer (list_result f.content path) listed
-    by_leads (Not none) = subst (λ a. IsListAnswer a listed) (sym none) tt
-    by_leads (Leads k at) =
-        by_answer k at (list_result f.content path) refl (subst (λ a. IsOpened a left) (list_result-join f.content path) (opened (direct_itself f w path k at)))
+no_moved_nil : (x : Text) (xs : List Text) → IsPermutation (x ∷ xs) [] → ⊥
+no_moved_nil x xs moved = omega (arith, length_permutation (x ∷ xs) [] moved)
 
--- its error where the names were read
-pub kept_fault : (f : FileSystem) → is_content f.content ≡ true → (path : Text) (left : Option (List ℕ)) → (is_direct f (join path []) ≡ true → IsOpened (list_result f.content (join path [])) left)
-    → (e : ListError) → IfSome left (λ bytes. are_text_names (names_in bytes) ≡ true → e ≡ Memory) → IsListError (list_result f.content path) e
-kept_fault f w path left opened e is = by_leads (leads_or_not f.content path)
-  where
-    by_leads : LeadsOrNot f.content path → IsListError (list_result f.content path) e
-    by_leads (Not none) = any_error (list_result f.content path) none e
-    by_leads (Leads k at) = listing_fault f.content w path left (opened (direct_itself f w path k at)) e is
+module _ (f : FileSystem) (w : is_content f.content ≡ true) (path : Text) (left : Option (List ℕ)) (fault : Option ErrorKind)
+    (opened : is_direct f (join path []) ≡ true → IsOpened (list_result f.content (join path [])) (strays_found f (join path [])) left fault) where
+  -- what was opened, where the path leads to a directory
+  opened_there : (k : Key) → LeadsTo f.content path k → IsOpened (list_result f.content path) (strays_found f path) left fault
+  unfolding strays_found
+  opened_there k at =
+      let same : resolve f.content (join path []) ≡ resolve f.content path =
+      resolve_join f.content path [] k at.resolved refl ∙ step_here f.content k [] at.directory refl ∙ sym at.resolved in
+      subst (λ a. IsOpened a (strays_found f path) left fault) (list_result-join f.content path)
+      (subst (λ o. IsOpened (list_result f.content (join path [])) (strays_at f o) left fault) same (opened (direct_itself f w path k at)))
 
--- and where the directory was not opened
-pub kept_open_fault : (f : FileSystem) → is_content f.content ≡ true → (path : Text) (e : Error) (made : ListError)
-    → (is_direct f (join path []) ≡ true → IsOpenFault (list_result f.content (join path [])) e) → IsListErrorOf e made → IsListError (list_result f.content path) made
-kept_open_fault f w path e made fault of = by_leads (leads_or_not f.content path)
-  where
-    by_leads : LeadsOrNot f.content path → IsListError (list_result f.content path) made
-    by_leads (Not none) = any_error (list_result f.content path) none made
-    by_leads (Leads k at) = open_fault f.content path e made (fault (direct_itself f w path k at)) of
+  -- the texts among the names that were read are those of entries
+  texts_there : (es : List DirEntry) → list_result f.content path ≡ Entries es → (names : List Text) → IsPermutation (names_of es) (texts_of names)
+      → are_text_names (texts_of names) ≡ true
+  texts_there es from names moved = texts_read f.content w path es from (texts_of names) moved
 
--- the answer of a disk that keeps or follows links
-pub seen_answer : {A E : Type 0} (f : FileSystem) → is_content f.content ≡ true → (path buffer : Text) → buffer ≡ join path [] → (left : Option (List ℕ))
-    → (is_direct f buffer ≡ true → IsOpened (list_result f.content buffer) left) → (r : Result (Vec (Entry A) A) E)
-    → (AreDirect f buffer → IfOk r (λ v. IfSome left (λ bytes. entries_of v.items ≡ said_entries f.content LookedUp buffer (texts_of (names_in bytes)))))
-    → IfOk r (λ v. IsListAnswer (list_result f.content path) (entries_of v.items))
-seen_answer f w path buffer same left opened (Err e) is = tt
-seen_answer f w path buffer same left opened (Ok v) is =
-    kept_answer f w path left (subst (λ b. is_direct f b ≡ true → IsOpened (list_result f.content b) left) same opened) (entries_of v.items)
-    (subst (λ b. AreDirect f b → IfSome left (λ bytes. entries_of v.items ≡ said_entries f.content LookedUp b (texts_of (names_in bytes)))) same is)
+  -- the entries of a listing where links are followed
+  pub followed_answer : {A : Type 0} (kinds : Kinds) (v : Vec (Entry A) A) → IfSome left (λ bytes. are_text_names (names_in bytes) ≡ true)
+      → (AreDirect f (join path []) → IfSome left (λ bytes. entries_of v.items ≡ said_entries (is_said_dir f kinds (join path [])) (names_in bytes))) → (IsSome left → fault ≡ None)
+      → IsEntriesAnswer (are_looked_up kinds) (list_followed f path) (entries_of v.items)
+  unfolding list_followed
+  followed_answer {A} kinds v texts is whole = by_leads (leads_or_not f.content path)
+    where
+      nothing : (kinds : Kinds) → IsEntriesAnswer (are_looked_up kinds) NoDirectory (entries_of v.items)
+      nothing LookedUp = tt
+      nothing LeftOut = tt
 
-pub seen_fault : {T : Type 0} (f : FileSystem) → is_content f.content ≡ true → (path buffer : Text) → buffer ≡ join path [] → (left : Option (List ℕ))
-    → (is_direct f buffer ≡ true → IsOpened (list_result f.content buffer) left) → (r : Result T ListError)
-    → IfSome left (λ bytes. are_text_names (names_in bytes) ≡ true → IfErr r (λ e. e ≡ Memory)) → IfErr r (λ e. IsListError (list_result f.content path) e)
-seen_fault f w path buffer same left opened (Ok x) is = tt
-seen_fault f w path buffer same left opened (Err e) is =
-    kept_fault f w path left (subst (λ b. is_direct f b ≡ true → IsOpened (list_result f.content b) left) same opened) e is
+      by_answer : (k : Key) → LeadsTo f.content path k → (a : ListAnswer) (ss : List Text) → list_result f.content path ≡ a → IsOpened a ss left fault
+          → IsEntriesAnswer (are_looked_up kinds) (answer_followed f path a ss) (entries_of v.items)
+      by_answer k at (Entries es) [] from (bytes, known, end, (moved, strays)) =
+          let all = subst (λ o. IfSome o (λ bs. are_text_names (names_in bs) ≡ true)) known texts in
+          let said = subst (λ o. IfSome o (λ bs. entries_of v.items ≡ said_entries (is_said_dir f kinds (join path [])) (names_in bs))) known (is (direct_names f w path k at)) in
+          subst (IsEntriesAnswer (are_looked_up kinds) (Entries (map (entry_followed f path) es))) (sym said)
+          (entries_followed f path kinds es (names_in bytes) (subst (IsPermutation (names_of es)) (texts_same (names_in bytes) all) moved))
+      by_answer k at (Entries es) (s ∷ ss) from (bytes, known, end, (moved, strays)) =
+          let all = subst (λ o. IfSome o (λ bs. are_text_names (names_in bs) ≡ true)) known texts in
+          absurd (no_moved_nil s ss (subst (IsPermutation (s ∷ ss)) (no_strays (names_in bytes) all) strays))
+      by_answer k at (Fails kind) ss from (known, ends) = absurd (none-some kind (sym (whole known) ∙ ends))
+      by_answer k at NoDirectory ss from opened = nothing kinds
 
-pub seen_unopened : {T : Type 0} (f : FileSystem) → is_content f.content ≡ true → (path buffer : Text) → buffer ≡ join path [] → (e : Error)
-    → (is_direct f buffer ≡ true → IsOpenFault (list_result f.content buffer) e) → (r : Result T ListError)
-    → IsErrAnd r (IsListErrorOf e) → IfErr r (λ made. IsListError (list_result f.content path) made)
-seen_unopened f w path buffer same e fault (Ok x) is = tt
-seen_unopened f w path buffer same e fault (Err made) is =
-    kept_open_fault f w path e made (subst (λ b. is_direct f b ≡ true → IsOpenFault (list_result f.content b) e) same fault) is
+      by_leads : LeadsOrNot f.content path → IsEntriesAnswer (are_looked_up kinds) (answer_followed f path (list_result f.content path) (strays_found f path)) (entries_of v.items)
+      by_leads (Not none) = subst (λ a. IsEntriesAnswer (are_looked_up kinds) (answer_followed f path a (strays_found f path)) (entries_of v.items)) (sym none) (nothing kinds)
+      by_leads (Leads k at) = by_answer k at (list_result f.content path) (strays_found f path) refl (opened_there k at)
+
+  -- and its error where the names were read
+  pub followed_fault : (e : ListError) → IfSome left (λ bytes. IsEntriesError (are_text_names (names_in bytes)) fault e) → IsListError (list_followed f path) e
+  unfolding list_followed
+  followed_fault Memory of = tt
+  followed_fault (Read x) of = by_leads (leads_or_not f.content path)
+    where
+      by_known : (kind : ErrorKind) (l : Option (List ℕ)) → IsSome l → fault ≡ Some kind → IfSome l (λ bytes. IsEntriesError (are_text_names (names_in bytes)) fault (Read x)) → error_kind x ≡ kind
+      by_known kind None known ends of = absurd (both_ways false refl known)
+      by_known kind (Some bytes) known ends of =
+          ⊎_elim (λ same. same_Some (error_kind x) kind (sym same ∙ ends)) (λ other. absurd (none-some kind (sym other.0 ∙ ends))) of
+
+      by_answer : (a : ListAnswer) (ss : List Text) → list_result f.content path ≡ a → IsOpened a ss left fault → IsListError (answer_followed f path a ss) (Read x)
+      by_answer (Entries es) [] from (bytes, known, end, (moved, strays)) =
+          let error = subst (λ o. IfSome o (λ bs. IsEntriesError (are_text_names (names_in bs)) fault (Read x))) known of in
+          let texts = all_texts (names_in bytes) (moved_nil (strays_of (names_in bytes)) strays) in
+          let all = subst (λ ns. are_text_names ns ≡ true) texts (texts_there es from (names_in bytes) moved) in
+          absurd (⊎_elim (λ same. none-some (error_kind x) (sym end ∙ same)) (λ other. both_ways (are_text_names (names_in bytes)) other.1 all) error)
+      by_answer (Entries es) (s ∷ ss) from (bytes, known, end, (moved, strays)) =
+          let error = subst (λ o. IfSome o (λ bs. IsEntriesError (are_text_names (names_in bs)) fault (Read x))) known of in
+          ⊎_elim (λ same. absurd (none-some (error_kind x) (sym end ∙ same))) (λ other. other.2) error
+      by_answer (Fails kind) ss from (known, ends) = by_known kind left known ends of
+      by_answer NoDirectory ss from opened = tt
+
+      by_leads : LeadsOrNot f.content path → IsListError (answer_followed f path (list_result f.content path) (strays_found f path)) (Read x)
+      by_leads (Not none) = subst (λ a. IsListError (answer_followed f path a (strays_found f path)) (Read x)) (sym none) tt
+      by_leads (Leads k at) = by_answer (list_result f.content path) (strays_found f path) refl (opened_there k at)
+
+  -- the entries where the content has each link
+  pub kept_answer : {A : Type 0} (v : Vec (Entry A) A)
+      → (AreDirect f (join path []) → IfSome left (λ bytes. entries_of v.items ≡ said_entries (is_dir_in f.content (join path [])) (texts_of (names_in bytes))))
+      → (IsSome left → fault ≡ None) → IsListAnswer (list_result f.content path) (entries_of v.items)
+  kept_answer {A} v is whole = by_leads (leads_or_not f.content path)
+    where
+      by_answer : (k : Key) → LeadsTo f.content path k → (a : ListAnswer) → list_result f.content path ≡ a → IsOpened a (strays_found f path) left fault → IsListAnswer a (entries_of v.items)
+      by_answer k at (Entries es) from (bytes, known, end, (moved, strays)) =
+          let said = subst (λ o. IfSome o (λ bs. entries_of v.items ≡ said_entries (is_dir_in f.content (join path [])) (texts_of (names_in bs)))) known (is (direct_names f w path k at)) in
+          subst (IsPermutation es) (sym said) (entries_kept f.content w path es from (texts_of (names_in bytes)) moved)
+      by_answer k at (Fails kind) from (known, ends) = absurd (none-some kind (sym (whole known) ∙ ends))
+      by_answer k at NoDirectory from opened = tt
+
+      by_leads : LeadsOrNot f.content path → IsListAnswer (list_result f.content path) (entries_of v.items)
+      by_leads (Not none) = subst (λ a. IsListAnswer a (entries_of v.items)) (sym none) tt
+      by_leads (Leads k at) = by_answer k at (list_result f.content path) refl (opened_there k at)
+
+  -- and the error
+  pub kept_fault : (e : ListError) → IfSome left (λ bytes. IsEntriesError (are_text_names (texts_of (names_in bytes))) fault e) → IsListError (list_result f.content path) e
+  kept_fault Memory of = tt
+  kept_fault (Read x) of = by_leads (leads_or_not f.content path)
+    where
+      by_known : (kind : ErrorKind) (l : Option (List ℕ)) → IsSome l → fault ≡ Some kind → IfSome l (λ bytes. IsEntriesError (are_text_names (texts_of (names_in bytes))) fault (Read x))
+          → error_kind x ≡ kind
+      by_known kind None known ends of = absurd (both_ways false refl known)
+      by_known kind (Some bytes) known ends of =
+          ⊎_elim (λ same. same_Some (error_kind x) kind (sym same ∙ ends)) (λ other. absurd (none-some kind (sym other.0 ∙ ends))) of
+
+      by_answer : (a : ListAnswer) → list_result f.content path ≡ a → IsOpened a (strays_found f path) left fault → IsListError a (Read x)
+      by_answer (Entries es) from (bytes, known, end, (moved, strays)) =
+          let error = subst (λ o. IfSome o (λ bs. IsEntriesError (are_text_names (texts_of (names_in bs))) fault (Read x))) known of in
+          ⊎_elim (λ same. none-some (error_kind x) (sym end ∙ same))
+          (λ other. both_ways (are_text_names (texts_of (names_in bytes))) other.1 (texts_there es from (names_in bytes) moved)) error
+      by_answer (Fails kind) from (known, ends) = by_known kind left known ends of
+      by_answer NoDirectory from opened = tt
+
+      by_leads : LeadsOrNot f.content path → IsListError (list_result f.content path) (Read x)
+      by_leads (Not none) = subst (λ a. IsListError a (Read x)) (sym none) tt
+      by_leads (Leads k at) = by_answer (list_result f.content path) refl (opened_there k at)
+
+  -- each name that is no text is received, once
+  pub kept_strays : (old new : Option (List Text)) → IfSome left (λ bytes. new ≡ and_then old (strays_of (names_in bytes)))
+      → IsReceived (list_result f.content path) (strays_found f path) old new
+  kept_strays old new is = by_leads (leads_or_not f.content path)
+    where
+      by_answer : (a : ListAnswer) → list_result f.content path ≡ a → IsOpened a (strays_found f path) left fault → IsReceived a (strays_found f path) old new
+      by_answer (Entries es) from (bytes, known, end, (moved, strays)) =
+          (strays_of (names_in bytes), subst (λ o. IfSome o (λ bs. new ≡ and_then old (strays_of (names_in bs)))) known is, strays)
+      by_answer (Fails kind) from opened = tt
+      by_answer NoDirectory from opened = tt
+
+      by_leads : LeadsOrNot f.content path → IsReceived (list_result f.content path) (strays_found f path) old new
+      by_leads (Not none) = subst (λ a. IsReceived a (strays_found f path) old new) (sym none) tt
+      by_leads (Leads k at) = by_answer (list_result f.content path) refl (opened_there k at)
+
+-- the error where the directory was not opened
+module _ (f : FileSystem) (w : is_content f.content ≡ true) (path : Text) (e : Error) (made : ListError)
+    (fault : is_direct f (join path []) ≡ true → IsOpenFault (list_result f.content (join path [])) e) (of : IsListErrorOf e made) where
+  unopened : (a : ListAnswer) (b : ListAnswer) → ((kind : ErrorKind) → IsListFault a kind → IsListFault b kind) → IsOpenFault a e → IsListError b made
+  unopened a b onto closed = made_of (IsListError b) e tt (λ non. onto (error_kind e) (closed non)) made of
+
+  pub kept_unopened : IsListError (list_result f.content path) made
+  kept_unopened = by_leads (leads_or_not f.content path)
+    where
+      by_leads : LeadsOrNot f.content path → IsListError (list_result f.content path) made
+      by_leads (Not none) = subst (λ a. IsListError a made) (sym none) (unopened NoDirectory NoDirectory (λ kind is. is) (λ non. tt))
+      by_leads (Leads k at) =
+          unopened (list_result f.content path) (list_result f.content path) (λ kind is. is) (subst (λ a. IsOpenFault a e) (list_result-join f.content path) (fault (direct_itself f w path k at)))
+
+  pub followed_unopened : IsListError (list_followed f path) made
+  unfolding list_followed
+  followed_unopened = by_leads (leads_or_not f.content path)
+    where
+      as_followed : (a : ListAnswer) (ss : List Text) (kind : ErrorKind) → IsListFault a kind → IsListFault (answer_followed f path a ss) kind
+      as_followed (Entries es) ss kind is = absurd is
+      as_followed (Fails wanted) ss kind is = is
+      as_followed NoDirectory ss kind is = tt
+
+      by_leads : LeadsOrNot f.content path → IsListError (answer_followed f path (list_result f.content path) (strays_found f path)) made
+      by_leads (Not none) =
+          subst (λ a. IsListError (answer_followed f path a (strays_found f path)) made) (sym none) (unopened NoDirectory NoDirectory (λ kind is. is) (λ non. tt))
+      by_leads (Leads k at) =
+          unopened (list_result f.content path) (answer_followed f path (list_result f.content path) (strays_found f path)) (as_followed (list_result f.content path) (strays_found f path))
+          (subst (λ a. IsOpenFault a e) (list_result-join f.content path) (fault (direct_itself f w path k at)))

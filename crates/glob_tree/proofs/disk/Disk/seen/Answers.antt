@@ -5,14 +5,12 @@ use Rattle.glob_tree.proofs.SystemLemmas.Finding.{seen_there, seen_link}
 use Rattle.glob_tree.proofs.disk.Disk.seen.Goals as goal
 
 pub returns-then-is_symlink : goal.returns-then-is_symlink
-returns-then-is_symlink g c = λ x told.
-    seen_link c.args.self.now.files x told c.args.path.now c.lstat-found.result c.stat.result (c.if-is_symlink.ensures refl)
-    (λ f held direct. c.lstat-found.ensures.found f (subst (λ (d : DiskModel). IsHeld d.files f) (sym c.self.view_is) held) direct)
-    (λ f held direct. c.stat.ensures.found f (subst (λ (d : DiskModel). IsHeld d.files f) (sym c.self.view_is) held) direct)
+returns-then-is_symlink g c = λ f held direct.
+    let files = subst (λ (d : DiskModel). IsHeld d.files f) (sym c.self.view_is) held in
+    seen_link f c.args.path.now c.lstat-found.result c.stat.result (c.if-is_symlink.ensures.symlink refl) (c.lstat-found.ensures.found f files direct) (c.stat.ensures.found f files direct)
     c.look_of.result c.look_of.ensures
 
 pub returns : goal.returns
-returns g c = λ x told.
-    seen_there c.args.self.now.files x told c.args.path.now c.lstat-found.result
-    (λ f held direct. c.lstat-found.ensures.found f (subst (λ (d : DiskModel). IsHeld d.files f) (sym c.self.view_is) held) direct)
-    c.look_of-2.result c.look_of-2.ensures
+returns g c = λ f held direct.
+    let files = subst (λ (d : DiskModel). IsHeld d.files f) (sym c.self.view_is) held in
+    seen_there f c.args.path.now c.lstat-found.result (c.lstat-found.ensures.found f files direct) (c.if-is_symlink.ensures.other refl) c.look_of-2.result c.look_of-2.ensures

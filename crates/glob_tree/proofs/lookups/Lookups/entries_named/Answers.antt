@@ -1,17 +1,14 @@
-use Rattle.std.proofs.Common.{rules, ◌≡◌, ◌∷◌, [], map, take, refl, ap, sym, subst, ◌∙◌}
+use Rattle.std.proofs.Common.{rules, ◌∷◌, [], map, take, refl, ap, sym, subst, ◌∙◌}
 use Rattle.std.specs.Prelude.{slice_index_or}
 use Rattle.std.specs.String.{string_bytes}
 use Rattle.glob_text.specs.Text.{Text}
 use Rattle.glob_tree.specs.Answers.{entries_of, names_of}
-use Rattle.glob_tree.specs.Paths.{is_proper}
-use Rattle.glob_tree.specs.Private.Listing.{said_entries}
+use Rattle.glob_tree.specs.Private.Listing.{IsNameError, are_text_names, is_dir_in, said_entries}
 use Rattle.glob_tree.specs.Private.Looking.{AreDirect, IsSeen, LookupsModel}
-use Rattle.glob_tree.specs.Strays.{and_then, strays_of}
-use Rattle.glob_tree.specs.declared.disk.Kinds.TheVariants.{LookedUp}
-use Rattle.glob_tree.specs.declared.tree.ListError.TheVariants.{Memory}
+use Rattle.glob_tree.specs.Strays.{and_then, texts_of, strays_of}
 use Rattle.glob_tree.proofs.MemoryLemmas.Refusing.{fails_by}
 use Rattle.glob_tree.proofs.StraysLemmas.{and_then-nil, and_then-append}
-use Rattle.glob_tree.proofs.SystemLemmas.Naming.{proper_at, text_next, text_said, no_stray_next, stray_next, no_text_next, said_none}
+use Rattle.glob_tree.proofs.SystemLemmas.Naming.{text_fault, text_next, text_said, no_stray_next, stray_next, no_text_next, said_none}
 use Rattle.glob_tree.proofs.lookups.Lookups.entries_named.Goals as goal
 use Rattle.glob_tree.proofs.lookups.Lookups.entries_named.Goals.{in-Ok+in_ok-entry-in-Ok+in_ok-push-in-Ok, in-Err}
 
@@ -22,14 +19,14 @@ loop-name-init g c = record {
   links = refl;
   names = ap (λ es. names_of (entries_of es)) c.new-entries.ensures.items;
   strays = sym (and_then-nil (g.S.Strays.names c.args.self.now.strays));
-  kinds = λ f seen direct. ap entries_of c.new-entries.ensures.items ∙ sym (said_none f.content LookedUp (string_bytes c.args.path.now));
+  kinds = λ f seen direct. ap entries_of c.new-entries.ensures.items ∙ sym (said_none _);
 }
 
 pub returns-in_err-entry-in-Ok-clause-fails : goal.returns-in_err-entry-in-Ok-clause-fails
-returns-in_err-entry-in-Ok-clause-fails g c = λ all.
-    let proper = proper_at c.args.names.now c.loop-name.name-index _ c.loop-name-test.true all in
-    let memory = c.in_err-entry-in-Ok.ensures.fails (ap is_proper c.in-Ok.ensures.cases.0 ∙ proper) in
-    fails_by (λ e. e ≡ Memory) c.from_residual.result c.in_err-entry-in-Ok.field-0.0 c.from_residual.ensures.1 memory
+returns-in_err-entry-in-Ok-clause-fails g c =
+    fails_by (IsNameError (are_text_names (texts_of (map (λ n. n.now) c.args.names.now)))) c.from_residual.result c.in_err-entry-in-Ok.field-0.0 c.from_residual.ensures.1
+    (text_fault c.args.names.now c.loop-name.name-index _ c.loop-name-test.true c.in_err-entry-in-Ok.field-0.0 c.in-Ok.name.now c.in-Ok.ensures.cases.0 c.in-Ok.ensures.cases.1
+    c.in_err-entry-in-Ok.ensures.fails)
 
 pub loop-name-preserved : goal.loop-name-preserved
 loop-name-preserved g c = elim c.match-from_utf8.branch [
@@ -43,7 +40,7 @@ loop-name-preserved g c = elim c.match-from_utf8.branch [
     strays = w.in_ok-entry-in-Ok.ensures.strays ∙ c.loop-name.invariant.strays
         ∙ ap (and_then (g.S.Strays.names c.args.self.now.strays)) (sym (no_stray_next c.args.names.now c.loop-name.name-index _ c.loop-name-test.true w.in-Ok.ensures.cases.1));
     kinds = λ f seen direct. ap entries_of w.in_ok-push-in-Ok.ensures.items
-        ∙ text_said c.args.names.now c.loop-name.name-index _ c.loop-name-test.true f.content (string_bytes c.args.path.now) (string_bytes c.loop-name.path) c.loop-name.invariant.path
+        ∙ text_said c.args.names.now c.loop-name.name-index _ c.loop-name-test.true (is_dir_in f.content) (string_bytes c.args.path.now) (string_bytes c.loop-name.path) c.loop-name.invariant.path
         c.loop-name.entries.items w.in_ok-entry-in-Ok.field-0 w.in-Ok.name.now (c.loop-name.invariant.kinds f seen direct) w.in_ok-entry-in-Ok.ensures.name
         w.in-Ok.ensures.cases.0 w.in-Ok.ensures.cases.1
         (w.in_ok-entry-in-Ok.ensures.kind f
@@ -62,6 +59,6 @@ loop-name-preserved g c = elim c.match-from_utf8.branch [
             ∙ and_then-append (g.S.Strays.names c.args.self.now.strays) (strays_of (map (λ n. n.now) (take c.loop-name.name-index c.args.names.now))) (item ∷ [])
             ∙ ap (and_then (g.S.Strays.names c.args.self.now.strays)) (sym (stray_next c.args.names.now c.loop-name.name-index _ c.loop-name-test.true w.in-Err.ensures.cases.0));
         kinds = λ f seen direct. c.loop-name.invariant.kinds f seen direct
-            ∙ ap (said_entries f.content LookedUp (string_bytes c.args.path.now)) (sym (no_text_next c.args.names.now c.loop-name.name-index _ c.loop-name-test.true w.in-Err.ensures.cases.0));
+            ∙ ap (said_entries (is_dir_in f.content (string_bytes c.args.path.now))) (sym (no_text_next c.args.names.now c.loop-name.name-index _ c.loop-name-test.true w.in-Err.ensures.cases.0));
       })
 ]

@@ -10,6 +10,6 @@ use Rattle.glob_tree.proofs.physical.PhysicalDiskTree.list.Goals as goal
 pub returns-in_err-entries-clause-fails : goal.returns-in_err-entries-clause-fails
 returns-in_err-entries-clause-fails g c = λ x told.
     let is = Sees-from_told c.self.inside.lookups.links c.self.inside.lookups.files x
-    (subst (λ (d : PhysicalModel). IsTold (option_and_then (content_with_links d.links) d.files) x) (sym c.self.view_is) told) in
+    (subst (λ (d : PhysicalModel _). IsTold (option_and_then (content_with_links d.links) d.files) x) (sym c.self.view_is) told) in
     fails_by (IsListError (list_result x c.args.path.now)) c.from_residual.result c.in_err-entries.field-0.0 c.from_residual.ensures.1
     (subst (λ d. IsListError (list_result d c.args.path.now) c.in_err-entries.field-0.0) is.same (c.in_err-entries.ensures.fails is.f is.seen))
