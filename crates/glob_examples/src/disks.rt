@@ -1,6 +1,6 @@
 //! A program's walk over a disk, where what the system holds is known.
 ghost use Rattle.std.specs.Prelude.{IfOk, option_and_then};
-ghost use Rattle.glob_tree.specs.FileSystems.{followed};
+ghost use Rattle.glob_tree.specs.Followed.{followed};
 ghost use Rattle.glob_walk.specs.WalkGoals.{FindsExactly, FindsInOrder};
 
 use glob::{Disk, MatchOptions, PatternRefusal, Walk, walk_in};
@@ -8,7 +8,7 @@ use glob_tree::System;
 use std::alloc::Allocator;
 
 /// The whole walk of a pattern over the disk that a system reaches. Where the system holds a known file system without
-/// symbolic links to directories, it finds in it what a walk over a tree in memory does.
+/// symbolic links to directories and names that are not UTF-8, it finds in it what a walk over a tree in memory does.
 pub fn walk_disk<S: System, A: Allocator + Copy>(
     alloc: A,
     system: S,

@@ -1,5 +1,6 @@
 pub mod Answering
 pub mod Finding
+pub mod Holding
 pub mod Listing
 pub mod Looking
 pub mod Naming

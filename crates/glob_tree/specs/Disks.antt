@@ -17,8 +17,8 @@ pub record PhysicalModel (S : Type 0) : Type 0 where
   pub links : Links
   pub strays : S
 
--- What a tree has of a file system. Where symbolic links are kept, each is no directory. A followed link to a directory has no
--- place in a content, so with one nothing is known.
+-- What a tree has of a file system. Where symbolic links are kept, each is no directory. A followed link to a directory
+-- has no place in a content, so with one nothing is known.
 abbrev pub content_with_links : Links → FileSystem → Option Content
 content_with_links Kept f = Some f.content
 content_with_links Followed f = if has_directory_links f then None else Some f.content

@@ -28,12 +28,16 @@ is_a_directory Nowhere = false
 is_a_directory AFile = false
 is_a_directory ADirectory = true
 
--- What is at each key, where a symbolic link is no directory, what each symbolic link points to, and the names in directories
--- that are not UTF-8, each with the key of its directory.
+-- What is at each key, where a symbolic link is no directory, what each symbolic link points to, and the names in
+-- directories that are not UTF-8, each with the key of its directory.
 pub record FileSystem : Type 0 where
   pub content : Content
   pub links : List (Key × Target)
   pub strays : List (Key × Text)
+
+-- a file system without links and names that are not UTF-8
+abbrev pub plain_files : Content → FileSystem
+plain_files c = record { content = c; links = []; strays = [] }
 
 -- the file system is known to be f, and f is well formed
 abbrev pub IsHeld : Option FileSystem → FileSystem → Type 0

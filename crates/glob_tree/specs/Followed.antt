@@ -51,7 +51,7 @@ abbrev pub has_strays : List (Key × Text) → Bool
 has_strays [] = false
 has_strays (s ∷ ss) = true
 
--- What such a tree has of a file system. A link to a directory and a name that is not UTF-8 have no place in a content, so with
--- one nothing is known.
+-- What such a tree has of a file system. A link to a directory and a name that is not UTF-8 have no place in a content,
+-- so with one nothing is known.
 abbrev pub followed : FileSystem → Option Content
 followed f = if has_directory_links f || has_strays f.strays then None else Some f.content

@@ -210,7 +210,8 @@ impl<R: System, A: Allocator + Copy> Disk<R, A> {
         kinds: Kinds,
         bytes: &[u8],
     ) -> Result<Vec<Entry<A>, A>, ListError>
-        ensures names { IfOk result (λ v. names_of (entries_of v.items) ≡ names_of_bytes bytes.now) }
+        ensures names { IfOk result
+            (λ v. names_of (entries_of v.items) ≡ names_of_bytes bytes.now) }
         ensures texts { OnOk result (are_text_names (names_of_bytes bytes.now) ≡ true) }
         ensures kinds { (f : FileSystem) → IsHeld self.now.files f
             → AreDirect f (string_bytes path.old) → IfOk result (λ v. entries_of v.items

@@ -8,14 +8,14 @@ ghost use Rattle.glob_tree.specs.FileSystems.{FileSystem, IsHeld, IsReceived, is
 ghost use Rattle.glob_tree.specs.Followed.{is_found_directory, look_followed};
 ghost use Rattle.glob_tree.specs.Looks.{is_directory};
 ghost use Rattle.glob_tree.specs.Paths.{is_proper as is_proper_text};
-ghost use Rattle.glob_tree.specs.Private.Looking.{AreDirect, HasWay, IsFoundAs, IsOnWay, IsSeen, IsWay, LeadsOn};
+ghost use Rattle.glob_tree.specs.Private.Looking.{AreDirect, HasWay, IsFoundAs, IsSeen, IsWay, LeadsOn};
 ghost use Rattle.glob_tree.specs.Private.Listing.{IsEntriesError, IsNameError, are_text_names, is_dir_in as is_in, said_entries};
 ghost use Rattle.glob_tree.specs.Strays.{and_then, texts_of, strays_of};
 ghost use Rattle.glob_tree.specs.declared.physical.Links.TheVariants.{Followed};
 
 use crate::directory::{names_in, read_directory};
 use crate::name::{is_proper, name_from_proper};
-use crate::path_text::{cut_last, join};
+use crate::path_text::{cut_last, is_on_way, join};
 use crate::physical::Links;
 use crate::strays::{Strays, settle};
 use crate::system::{Directory, System};
@@ -393,17 +393,4 @@ fn look_for(is_dir: bool) -> Look
     ensures { result ≡ (if is_dir then Look.Dir else Look.Other) }
 {
     if is_dir { Look::Dir } else { Look::Other }
-}
-
-/// Whether a directory is the last one on a way, or above it; the empty path is above each.
-fn is_on_way(directory: &str, way: &str) -> bool
-    ensures { IsOnWay directory.now way.now result }
-{
-    if directory.is_empty() {
-        return true;
-    }
-    match way.strip_prefix(directory) {
-        Some(rest) => rest.is_empty() || rest.starts_with('/'),
-        None => false,
-    }
 }

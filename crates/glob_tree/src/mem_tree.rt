@@ -194,7 +194,7 @@ impl<A: Allocator + Copy> Tree for MemTree<A> {
 impl<A: Allocator + Copy> MemTree<A> {
     /// The entries of the directory to which a path leads.
     #[tactic(auto, unfolding(crate::specs::Memory::list_fault))]
-    fn entries(&self, path: &str) -> Result<Vec<Entry<A>, A>, ListError>
+    pub(crate) fn entries(&self, path: &str) -> Result<Vec<Entry<A>, A>, ListError>
         ensures entries { IfOk result (λ v.
             list_result self.now.content path.now ≡ Entries (entries_of v.items)) }
         ensures fails { IfErr result (λ e. IsListError (list_result self.now.content path.now) e) }
@@ -214,7 +214,7 @@ impl<A: Allocator + Copy> MemTree<A> {
 
 impl<A: Allocator> MemTree<A> {
     /// What a path leads to.
-    fn seen(&self, path: &str) -> Look
+    pub(crate) fn seen(&self, path: &str) -> Look
         ensures { result ≡ look_result self.now.content path.now }
     {
         let Some(number) = self.nodes.find(self.current, path) else {

@@ -5,6 +5,7 @@ ghost use Rattle.std.specs.Path.{has_no_slash, with_separator};
 ghost use Rattle.glob_text.specs.Characters.{dot, slash};
 ghost use Rattle.glob_text.specs.Pieces.{begins_with, pieces};
 ghost use Rattle.glob_tree.specs.Paths.{child as child_text, join as join_text, stays as stays_text, is_here as is_here_text};
+ghost use Rattle.glob_tree.specs.Private.Looking.{IsOnWay};
 
 use std::alloc::{AllocError, Allocator};
 
@@ -82,4 +83,17 @@ pub fn begins_with_dot(name: &str) -> bool
     ensures { result ≡ begins_with dot name.now }
 {
     name.starts_with('.')
+}
+
+/// Whether a directory is the last one on a way, or above it; the empty path is above each.
+pub(crate) fn is_on_way(directory: &str, way: &str) -> bool
+    ensures { IsOnWay directory.now way.now result }
+{
+    if directory.is_empty() {
+        return true;
+    }
+    match way.strip_prefix(directory) {
+        Some(rest) => rest.is_empty() || rest.starts_with('/'),
+        None => false,
+    }
 }

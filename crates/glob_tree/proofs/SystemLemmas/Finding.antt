@@ -172,7 +172,8 @@ found_looked (Some Symlink) = refl
 found_looked (Some File) = refl
 
 -- without symbolic links to directories, links that are followed change no look
-pub look_followed-plain : (f : FileSystem) → has_directory_links f ≡ false → (path : Text) → look_followed f path ≡ look_result f.content path
+pub look_followed-plain : (f : FileSystem) → has_directory_links f ≡ false → (path : Text)
+    → look_followed f path ≡ look_result f.content path
 unfolding look_followed
 look_followed-plain f non path = by_here (lstat_found f path) refl
   where
@@ -183,7 +184,8 @@ look_followed-plain f non path = by_here (lstat_found f path) refl
     by_here (Some File) is = ap (look_found look.Missing) (sym is) ∙ lstat_look f path
 
 -- and each directory is found
-pub stat_looked : (f : FileSystem) → has_directory_links f ≡ false → (path : Text) → is_found_directory (stat_found f path) ≡ is_directory (look_result f.content path)
+pub stat_looked : (f : FileSystem) → has_directory_links f ≡ false → (path : Text)
+    → is_found_directory (stat_found f path) ≡ is_directory (look_result f.content path)
 stat_looked f non path = found_looked (stat_found f path) ∙ stat_directory f non path
 
 is_missing : Look → Bool
@@ -196,7 +198,8 @@ unfolding is_missing
 missing_other l missing other = both_ways false refl (ap is_missing (sym other ∙ missing))
 
 -- a look at a path by what `lstat` returned, which is no symbolic link
-pub seen_there : {E : Type 0} (f : FileSystem) (path : Text) (answer : Result Metadata Error) → IsStatAnswer (lstat_found f path) answer → IfOk answer (λ m. IsSymlink (file_type m) → ⊥)
+pub seen_there : {E : Type 0} (f : FileSystem) (path : Text) (answer : Result Metadata Error) → IsStatAnswer (lstat_found f path) answer
+    → IfOk answer (λ m. IsSymlink (file_type m) → ⊥)
     → (r : Result Look E) → ((found : Option Found) → IsStatAnswer found answer → IfOk r (λ l. l ≡ look_found look.Missing found))
     → IfOk r (λ l. l ≡ look_followed f path)
 unfolding look_followed
@@ -217,8 +220,10 @@ seen_there f path (Err e) found non (Ok l) of = by_found (lstat_found f path) (o
     by_found (Some File) is = is
 
 -- and where it is one, by what `stat` returned
-pub seen_link : {E : Type 0} (f : FileSystem) (path : Text) (first answer : Result Metadata Error) → IsOkAnd first (λ m. IsSymlink (file_type m)) → IsStatAnswer (lstat_found f path) first
-    → IsStatAnswer (stat_found f path) answer → (r : Result Look E) → ((found : Option Found) → IsStatAnswer found answer → IfOk r (λ l. l ≡ look_found look.Other found))
+pub seen_link : {E : Type 0} (f : FileSystem) (path : Text) (first answer : Result Metadata Error)
+    → IsOkAnd first (λ m. IsSymlink (file_type m)) → IsStatAnswer (lstat_found f path) first
+    → IsStatAnswer (stat_found f path) answer → (r : Result Look E)
+    → ((found : Option Found) → IsStatAnswer found answer → IfOk r (λ l. l ≡ look_found look.Other found))
     → IfOk r (λ l. l ≡ look_followed f path)
 unfolding look_followed
 seen_link f path (Err e) answer link here there r of = absurd link
@@ -227,9 +232,11 @@ seen_link f path (Ok m) answer link here there (Ok l) of =
     of (stat_found f path) there ∙ ap (λ o. look_through o (stat_found f path)) (sym (answer_symlink (lstat_found f path) m here link))
 
 -- whether a directory is at a path, by what `stat` returned
-pub seen_directory : {E : Type 0} (f : FileSystem) (path at : Text) → path ≡ at → (answer : Result Metadata Error) → IsStatAnswer (stat_found f path) answer
+pub seen_directory : {E : Type 0} (f : FileSystem) (path at : Text) → path ≡ at → (answer : Result Metadata Error)
+    → IsStatAnswer (stat_found f path) answer
     → (r : Result Look E) → ((found : Option Found) → IsStatAnswer found answer → IfOk r (λ l. l ≡ look_found look.Missing found))
     → IfOk r (λ l. is_directory l ≡ is_found_directory (stat_found f at))
 seen_directory f path at same answer found (Err e) of = tt
 seen_directory f path at same answer found (Ok l) of =
-    ap is_directory (of (stat_found f path) found) ∙ sym (found_looked (stat_found f path)) ∙ ap (λ p. is_found_directory (stat_found f p)) same
+    ap is_directory (of (stat_found f path) found) ∙ sym (found_looked (stat_found f path))
+    ∙ ap (λ p. is_found_directory (stat_found f p)) same

@@ -108,7 +108,8 @@ names_said said [] = refl
 names_said said (n ∷ names) = ap (λ ns. n ∷ ns) (names_said said names)
 
 -- no entry that was not looked up is said to be a directory
-none_said : (f : FileSystem) (path : Text) (names : List Text) (e : DirEntry) → Contains (said_entries (is_said_dir f LeftOut path) names) e → e.1 ≡ false
+none_said : (f : FileSystem) (path : Text) (names : List Text) (e : DirEntry)
+    → Contains (said_entries (is_said_dir f LeftOut path) names) e → e.1 ≡ false
 unfolding said_entries
 none_said f path [] e in' = absurd (Contains-nil e in')
 none_said f path (n ∷ names) e in' = ⊎_elim
@@ -116,11 +117,13 @@ none_said f path (n ∷ names) e in' = ⊎_elim
     (λ later. none_said f path names e later)
     (Contains-cases (n, false) (said_entries (is_said_dir f LeftOut path) names) e in')
 
-said_moved : (said : Text → Bool) (names more : List Text) → IsPermutation names more → IsPermutation (said_entries said names) (said_entries said more)
+said_moved : (said : Text → Bool) (names more : List Text) → IsPermutation names more
+    → IsPermutation (said_entries said names) (said_entries said more)
 unfolding said_entries
 said_moved said names more moved = IsPermutation-map (said_entry said) names more moved
 
-said_followed : (f : FileSystem) (path : Text) (es : List DirEntry) → said_entries (is_said_dir f LookedUp (join path [])) (names_of es) ≡ map (entry_followed f path) es
+said_followed : (f : FileSystem) (path : Text) (es : List DirEntry)
+    → said_entries (is_said_dir f LookedUp (join path [])) (names_of es) ≡ map (entry_followed f path) es
 unfolding said_entries
 said_followed f path [] = refl
 said_followed f path (e ∷ es) = λ i. (e.0, is_found_directory (stat_found f (joined path e.0 i))) ∷ said_followed f path es i
@@ -130,8 +133,10 @@ names_followed f path [] = refl
 names_followed f path (e ∷ es) = ap (λ ns. e.0 ∷ ns) (names_followed f path es)
 
 -- entries where links are followed
-pub entries_followed : (f : FileSystem) (path : Text) (kinds : Kinds) (es : List DirEntry) (names : List Text) → IsPermutation (names_of es) names
-    → IsEntriesAnswer (are_looked_up kinds) (Entries (map (entry_followed f path) es)) (said_entries (is_said_dir f kinds (join path [])) names)
+pub entries_followed : (f : FileSystem) (path : Text) (kinds : Kinds) (es : List DirEntry) (names : List Text)
+    → IsPermutation (names_of es) names
+    → IsEntriesAnswer (are_looked_up kinds) (Entries (map (entry_followed f path) es))
+    (said_entries (is_said_dir f kinds (join path [])) names)
 entries_followed f path LookedUp es names moved =
     subst (λ ls. IsPermutation ls (said_entries (is_said_dir f LookedUp (join path [])) names)) (said_followed f path es)
     (said_moved (is_said_dir f LookedUp (join path [])) (names_of es) names moved)
@@ -142,16 +147,19 @@ entries_followed f path LeftOut es names moved = (
 )
 
 -- entries where the content has each link
-pub entries_kept : (c : Content) → is_content c ≡ true → (path : Text) (es : List DirEntry) → list_result c path ≡ Entries es → (names : List Text)
+pub entries_kept : (c : Content) → is_content c ≡ true → (path : Text) (es : List DirEntry) → list_result c path ≡ Entries es
+    → (names : List Text)
     → IsPermutation (names_of es) names → IsPermutation es (said_entries (is_dir_in c (join path [])) names)
 entries_kept c w path es at names moved =
     let of = Lists-from_result c path es at in
     let each : (l : DirEntry) → Contains es l → is_directory (look_result c (join path [] ++ l.0)) ≡ l.1 = λ l in'.
     ap (λ p. is_directory (look_result c p)) (joined path l.0) ∙ entry_looked c (IsContent-from_test c w) path of.k of.leads l (subst (λ ls. Contains ls l) (sym of.all) in') in
-    subst (λ ls. IsPermutation ls (said_entries (is_dir_in c (join path [])) names)) (all_said c (join path []) es each) (said_moved (is_dir_in c (join path [])) (names_of es) names moved)
+    subst (λ ls. IsPermutation ls (said_entries (is_dir_in c (join path [])) names)) (all_said c (join path []) es each)
+    (said_moved (is_dir_in c (join path [])) (names_of es) names moved)
 
 -- a tree that follows links lists the content, where no link points to a directory and each name is a text
-pub list_followed-plain : (f : FileSystem) → is_content f.content ≡ true → has_directory_links f ≡ false → has_strays f.strays ≡ false → (path : Text)
+pub list_followed-plain : (f : FileSystem) → is_content f.content ≡ true → has_directory_links f ≡ false → has_strays f.strays ≡ false
+    → (path : Text)
     → list_followed f path ≡ list_result f.content path
 unfolding list_followed strays_found
 list_followed-plain f w non texts path = by_strays f.strays refl texts ∙ by_answer (list_result f.content path) refl
@@ -161,19 +169,25 @@ list_followed-plain f w non texts path = by_strays f.strays refl texts ∙ by_an
     at_key ss is none (Some k) = ap (λ ss. map (λ s. s.1) (filter (λ s. same_key k s.0) ss)) (is ∙ none)
 
     by_strays : (ss : List (Key × Text)) → f.strays ≡ ss → has_strays ss ≡ false
-        → answer_followed f path (list_result f.content path) (strays_at f (resolve f.content path)) ≡ answer_followed f path (list_result f.content path) []
+        → answer_followed f path (list_result f.content path) (strays_at f (resolve f.content path)) ≡ answer_followed f path
+        (list_result f.content path) []
     by_strays [] is none = ap (answer_followed f path (list_result f.content path)) (at_key [] is refl (resolve f.content path))
     by_strays (s ∷ ss) is none = absurd (both_ways true none refl)
 
-    all_looked : (es : List DirEntry) → ((l : DirEntry) → Contains es l → is_directory (look_result f.content (join path l.0)) ≡ l.1) → map (entry_followed f path) es ≡ es
+    all_looked : (es : List DirEntry) → ((l : DirEntry) → Contains es l → is_directory (look_result f.content (join path l.0)) ≡ l.1)
+        → map (entry_followed f path) es ≡ es
     all_looked [] h = refl
     all_looked (e ∷ es) h =
-        λ i. (e.0, (stat_looked f non (join path e.0) ∙ h e (Contains-head e es)) i) ∷ all_looked es (λ l in'. h l (Contains-tail e es l in')) i
+        λ i. (e.0, (stat_looked f non (join path e.0) ∙ h e (Contains-head e es)) i) ∷ all_looked es
+        (λ l in'. h l (Contains-tail e es l in')) i
 
-    by_answer : (a : ListAnswer) → list_result f.content path ≡ a → answer_followed f path (list_result f.content path) [] ≡ list_result f.content path
+    by_answer : (a : ListAnswer) → list_result f.content path ≡ a
+        → answer_followed f path (list_result f.content path) [] ≡ list_result f.content path
     by_answer (Entries es) at =
         let of = Lists-from_result f.content path es at in
-        let all = all_looked es (λ l in'. entry_looked f.content (IsContent-from_test f.content w) path of.k of.leads l (subst (λ ls. Contains ls l) (sym of.all) in')) in
+        let all = all_looked es
+        (λ l in'. entry_looked f.content (IsContent-from_test f.content w) path of.k of.leads l
+        (subst (λ ls. Contains ls l) (sym of.all) in')) in
         ap (λ a. answer_followed f path a []) at ∙ ap Entries all ∙ sym at
     by_answer (Fails kind) at = ap (λ a. answer_followed f path a []) at ∙ sym at
     by_answer NoDirectory at = ap (λ a. answer_followed f path a []) at ∙ sym at

@@ -110,7 +110,8 @@ no_found (Some Symlink) non = refl
 no_found (Some File) non = refl
 
 -- a directory is found where the metadata is of one
-pub found_directory : (o : Option Found) (m : Metadata) (d : Bool) → IsFoundAs o (Some m) → (d ≡ true → IsDir (file_type m)) → (IsDir (file_type m) → d ≡ true) → d ≡ is_found_directory o
+pub found_directory : (o : Option Found) (m : Metadata) (d : Bool) → IsFoundAs o (Some m) → (d ≡ true → IsDir (file_type m))
+    → (IsDir (file_type m) → d ≡ true) → d ≡ is_found_directory o
 found_directory None m d h is back = absurd h
 found_directory (Some Directory) m d h is back = back h
 found_directory (Some Symlink) m true h is back = absurd (both_looks (answer_directory look.Missing (Some Symlink) m h (is refl)))
@@ -130,7 +131,8 @@ followed_nothing f path h = by_found (lstat_found f path) h
     by_found None h = refl
     by_found (Some t) h = absurd h
 
-pub followed_link : (f : FileSystem) (path : Text) (d : Bool) → lstat_found f path ≡ Some Symlink → d ≡ is_found_directory (stat_found f path)
+pub followed_link : (f : FileSystem) (path : Text) (d : Bool) → lstat_found f path ≡ Some Symlink
+    → d ≡ is_found_directory (stat_found f path)
     → cond d look.Dir look.Other ≡ look_followed f path
 unfolding look_followed
 followed_link f path d link is =
@@ -142,13 +144,15 @@ followed_link f path d link is =
     by_target (Some Symlink) = refl
     by_target (Some File) = refl
 
-pub followed_something : (f : FileSystem) (path : Text) (m : Metadata) (d : Bool) → IsFoundAs (lstat_found f path) (Some m) → (IsSymlink (file_type m) → ⊥)
+pub followed_something : (f : FileSystem) (path : Text) (m : Metadata) (d : Bool) → IsFoundAs (lstat_found f path) (Some m)
+    → (IsSymlink (file_type m) → ⊥)
     → (d ≡ true → IsDir (file_type m)) → (IsDir (file_type m) → d ≡ true) → cond d look.Dir look.Other ≡ look_followed f path
 unfolding look_followed
 followed_something f path m d h non is back =
     ap (λ b. cond b look.Dir look.Other) (found_directory (lstat_found f path) m d h is back) ∙ by_found (lstat_found f path) h
   where
-    by_found : (o : Option Found) → IsFoundAs o (Some m) → cond (is_found_directory o) look.Dir look.Other ≡ look_through o (stat_found f path)
+    by_found : (o : Option Found) → IsFoundAs o (Some m)
+        → cond (is_found_directory o) look.Dir look.Other ≡ look_through o (stat_found f path)
     by_found None h = absurd h
     by_found (Some Directory) h = refl
     by_found (Some Symlink) h = absurd (non h)

@@ -33,7 +33,8 @@ contains_text (n ∷ names) name in' = ⊎_elim
     ap_head n names name same = rw (sym same) (Contains-head n.now (map (λ m. m.now) names))
 
 -- of names whose texts are all proper, a text is
-text_in : (names : List Text) (name : Text) → list_all is_text_name (texts_of names) ≡ true → Contains names name → is_utf8 name ≡ true → is_text_name name ≡ true
+text_in : (names : List Text) (name : Text) → list_all is_text_name (texts_of names) ≡ true → Contains names name → is_utf8 name ≡ true
+    → is_text_name name ≡ true
 text_in [] name all in' utf8 = absurd (Contains-nil name in')
 text_in (n ∷ names) name all in' utf8 = by_test (is_utf8 n) refl all (λ all later. text_in names name all later utf8)
   where
@@ -43,7 +44,8 @@ text_in (n ∷ names) name all in' utf8 = by_test (is_utf8 n) refl all (λ all l
         let parts = and_parts (is_text_name n) (list_all is_text_name (texts_of names)) all in
         ⊎_elim (λ same. ap is_text_name (sym same) ∙ parts.0) (λ later. further parts.1 later) (Contains-cases n names name in')
     by_test false is all further =
-        ⊎_elim (λ same. absurd (both_ways (is_utf8 n) is (ap is_utf8 same ∙ utf8))) (λ later. further all later) (Contains-cases n names name in')
+        ⊎_elim (λ same. absurd (both_ways (is_utf8 n) is (ap is_utf8 same ∙ utf8))) (λ later. further all later)
+        (Contains-cases n names name in')
 
 module _ (names : List (Bor Text)) (i : ℕ) (d : Bor Text) (within : i < length names) where
   -- the names, one name further
@@ -63,13 +65,15 @@ module _ (names : List (Bor Text)) (i : ℕ) (d : Bor Text) (within : i < length
 
   -- the entry of a further name
   pub said_next : {A : Type 0} (said : Text → Text → Bool) (path at : Text) → at ≡ path → (entries : List (Entry A)) (entry : Entry A)
-      → entries_of entries ≡ said_entries (said path) (map (λ n. n.now) (take i names)) → entry.name ≡ (slice_index_or names i d).now → entry.is_dir ≡ said at (slice_index_or names i d).now
+      → entries_of entries ≡ said_entries (said path) (map (λ n. n.now) (take i names)) → entry.name ≡ (slice_index_or names i d).now
+      → entry.is_dir ≡ said at (slice_index_or names i d).now
       → entries_of (entries ++ entry ∷ []) ≡ said_entries (said path) (map (λ n. n.now) (take (i + 1) names))
   unfolding said_entries
   said_next {A} said path at same entries entry so_far is kind =
       map-append (λ (e : Entry A). (e.name, e.is_dir)) entries (entry ∷ [])
       ∙ (λ j. so_far j ++ (is j, (kind ∙ ap (λ p. said p (slice_index_or names i d).now) same) j) ∷ [])
-      ∙ sym (ap (map (said_entry (said path))) names_next ∙ map-append (said_entry (said path)) (map (λ (n : Bor Text). n.now) (take i names)) ((slice_index_or names i d).now ∷ []))
+      ∙ sym (ap (map (said_entry (said path))) names_next
+      ∙ map-append (said_entry (said path)) (map (λ (n : Bor Text). n.now) (take i names)) ((slice_index_or names i d).now ∷ []))
 
   -- one of names that are all texts is a text
   pub text_at : are_text_names (map (λ n. n.now) names) ≡ true → is_text_name (slice_index_or names i d).now ≡ true
@@ -79,16 +83,19 @@ module _ (names : List (Bor Text)) (i : ℕ) (d : Bor Text) (within : i < length
       (contains_text names (slice_index_or names i d) (i, within, get_or_default names i (slice_index_or names i d) d within))
 
   -- the error of a name, as that of all
-  pub name_fault : (e : ListError) → IsNameError (is_text_name (slice_index_or names i d).now) e → IsNameError (are_text_names (map (λ n. n.now) names)) e
+  pub name_fault : (e : ListError) → IsNameError (is_text_name (slice_index_or names i d).now) e
+      → IsNameError (are_text_names (map (λ n. n.now) names)) e
   name_fault (Read x) (none, kind) = (by_test (are_text_names (map (λ (n : Bor Text). n.now) names)) refl, kind)
     where
-      by_test : (b : Bool) → are_text_names (map (λ (n : Bor Text). n.now) names) ≡ b → are_text_names (map (λ (n : Bor Text). n.now) names) ≡ false
+      by_test : (b : Bool) → are_text_names (map (λ (n : Bor Text). n.now) names) ≡ b
+          → are_text_names (map (λ (n : Bor Text). n.now) names) ≡ false
       by_test true all = absurd (both_ways (is_text_name (slice_index_or names i d).now) none (text_at all))
       by_test false none = none
   name_fault Memory of = tt
 
   -- where others are no texts
-  pub text_fault : (e : ListError) (name : Text) → name ≡ (slice_index_or names i d).now → IsUtf8 (slice_index_or names i d).now → IsNameError (is_proper name) e
+  pub text_fault : (e : ListError) (name : Text) → name ≡ (slice_index_or names i d).now → IsUtf8 (slice_index_or names i d).now
+      → IsNameError (is_proper name) e
       → IsNameError (are_text_names (texts_of (map (λ n. n.now) names))) e
   unfolding are_text_names
   text_fault (Read x) name same utf8 (none, kind) = (by_test (are_text_names (texts_of (map (λ (n : Bor Text). n.now) names))) refl, kind)
@@ -101,20 +108,25 @@ module _ (names : List (Bor Text)) (i : ℕ) (d : Bor Text) (within : i < length
           ap is_proper same
           ∙ (and_parts (is_utf8 item) (is_proper item)
           (text_in (map (λ (n : Bor Text). n.now) names) item all
-          (contains_text names (slice_index_or names i d) (i, within, get_or_default names i (slice_index_or names i d) d within)) (is_utf8-from_IsUtf8 item utf8))).1
+          (contains_text names (slice_index_or names i d) (i, within, get_or_default names i (slice_index_or names i d) d within))
+          (is_utf8-from_IsUtf8 item utf8))).1
 
-      by_test : (b : Bool) → are_text_names (texts_of (map (λ (n : Bor Text). n.now) names)) ≡ b → are_text_names (texts_of (map (λ (n : Bor Text). n.now) names)) ≡ false
+      by_test : (b : Bool) → are_text_names (texts_of (map (λ (n : Bor Text). n.now) names)) ≡ b
+          → are_text_names (texts_of (map (λ (n : Bor Text). n.now) names)) ≡ false
       by_test true all = absurd (both_ways (is_proper name) none (proper all))
       by_test false none = none
   text_fault Memory name same utf8 of = tt
 
   -- one more that is a text
-  pub texts_next : are_text_names (map (λ n. n.now) (take i names)) ≡ true → is_text_name (slice_index_or names i d).now ≡ true → are_text_names (map (λ n. n.now) (take (i + 1) names)) ≡ true
+  pub texts_next : are_text_names (map (λ n. n.now) (take i names)) ≡ true → is_text_name (slice_index_or names i d).now ≡ true
+      → are_text_names (map (λ n. n.now) (take (i + 1) names)) ≡ true
   unfolding are_text_names
   texts_next all more =
       ap (list_all is_text_name) names_next
       ∙ list_all-append is_text_name (map (λ (n : Bor Text). n.now) (take i names)) ((slice_index_or names i d).now ∷ [])
-      ∙ and_from (list_all is_text_name (map (λ (n : Bor Text). n.now) (take i names))) (list_all is_text_name ((slice_index_or names i d).now ∷ [])) all (and_from (is_text_name (slice_index_or names i d).now) true more refl)
+      ∙ and_from (list_all is_text_name (map (λ (n : Bor Text). n.now) (take i names)))
+      (list_all is_text_name ((slice_index_or names i d).now ∷ [])) all
+      (and_from (is_text_name (slice_index_or names i d).now) true more refl)
 
   -- the name of a further entry, where others are no texts
   pub text_next : {A : Type 0} (entries : List (Entry A)) (entry : Entry A) → names_of (entries_of entries) ≡ texts_of (map (λ n. n.now) (take i names)) → entry.name ≡ (slice_index_or names i d).now
@@ -125,15 +137,18 @@ module _ (names : List (Bor Text)) (i : ℕ) (d : Bor Text) (within : i < length
       ∙ sym (ap texts_of names_next ∙ text_listed (map (λ (n : Bor Text). n.now) (take i names)) (slice_index_or names i d).now utf8)
 
   -- and the entry
-  pub text_said : {A : Type 0} (said : Text → Text → Bool) (path at : Text) → at ≡ path → (entries : List (Entry A)) (entry : Entry A) (name : Text)
-      → entries_of entries ≡ said_entries (said path) (texts_of (map (λ n. n.now) (take i names))) → entry.name ≡ name → name ≡ (slice_index_or names i d).now
+  pub text_said : {A : Type 0} (said : Text → Text → Bool) (path at : Text) → at ≡ path
+      → (entries : List (Entry A)) (entry : Entry A) (name : Text)
+      → entries_of entries ≡ said_entries (said path) (texts_of (map (λ n. n.now) (take i names))) → entry.name ≡ name
+      → name ≡ (slice_index_or names i d).now
       → IsUtf8 (slice_index_or names i d).now → entry.is_dir ≡ said at name
       → entries_of (entries ++ entry ∷ []) ≡ said_entries (said path) (texts_of (map (λ n. n.now) (take (i + 1) names)))
   unfolding said_entries
   text_said {A} said path at same entries entry name so_far is this utf8 kind =
       map-append (λ (e : Entry A). (e.name, e.is_dir)) entries (entry ∷ [])
       ∙ (λ j. so_far j ++ ((is ∙ this) j, (kind ∙ ap (λ p. said p name) same ∙ ap (said path) this) j) ∷ [])
-      ∙ sym (ap (map (said_entry (said path))) (ap texts_of names_next ∙ text_listed (map (λ (n : Bor Text). n.now) (take i names)) (slice_index_or names i d).now utf8)
+      ∙ sym (ap (map (said_entry (said path)))
+      (ap texts_of names_next ∙ text_listed (map (λ (n : Bor Text). n.now) (take i names)) (slice_index_or names i d).now utf8)
       ∙ map-append (said_entry (said path)) (texts_of (map (λ (n : Bor Text). n.now) (take i names))) ((slice_index_or names i d).now ∷ []))
 
   -- a text is no stray, and what is no text is one

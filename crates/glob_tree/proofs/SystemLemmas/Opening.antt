@@ -90,7 +90,7 @@ leads_or_not c path = from_key (resolve c path) refl
     from_key None r = Not (ap (list_found c) r)
     from_key (Some k) r = from_kind k (kind_at c k) r refl
 
-texts_same : (names : List Text) → are_text_names names ≡ true → texts_of names ≡ names
+pub texts_same : (names : List Text) → are_text_names names ≡ true → texts_of names ≡ names
 unfolding are_text_names
 texts_same [] all = refl
 texts_same (n ∷ names) all =
@@ -98,7 +98,7 @@ texts_same (n ∷ names) all =
     let text = (and_parts (is_utf8 n) (is_proper n) both.0).0 in
     ap (λ b. cond b (n ∷ texts_of names) (texts_of names)) text ∙ ap (λ ns. n ∷ ns) (texts_same names both.1)
 
-no_strays : (names : List Text) → are_text_names names ≡ true → strays_of names ≡ []
+pub no_strays : (names : List Text) → are_text_names names ≡ true → strays_of names ≡ []
 unfolding are_text_names
 no_strays [] all = refl
 no_strays (n ∷ names) all =
@@ -111,7 +111,8 @@ all_texts : (names : List Text) → strays_of names ≡ [] → texts_of names �
 all_texts [] none = refl
 all_texts (n ∷ names) none = by_test (is_utf8 n) refl none (λ none. all_texts names none)
   where
-    by_test : (b : Bool) → is_utf8 n ≡ b → cond (not b) (n ∷ strays_of names) (strays_of names) ≡ [] → (strays_of names ≡ [] → texts_of names ≡ names) → texts_of (n ∷ names) ≡ n ∷ names
+    by_test : (b : Bool) → is_utf8 n ≡ b → cond (not b) (n ∷ strays_of names) (strays_of names) ≡ []
+        → (strays_of names ≡ [] → texts_of names ≡ names) → texts_of (n ∷ names) ≡ n ∷ names
     by_test true is none further = ap (λ b. cond b (n ∷ texts_of names) (texts_of names)) is ∙ ap (λ ns. n ∷ ns) (further none)
     by_test false is none further = absurd (omega (arith, ap length none))
 
@@ -123,7 +124,8 @@ no_moved_nil : (x : Text) (xs : List Text) → IsPermutation (x ∷ xs) [] → �
 no_moved_nil x xs moved = omega (arith, length_permutation (x ∷ xs) [] moved)
 
 module _ (f : FileSystem) (w : is_content f.content ≡ true) (path : Text) (left : Option (List ℕ)) (fault : Option ErrorKind)
-    (opened : is_direct f (join path []) ≡ true → IsOpened (list_result f.content (join path [])) (strays_found f (join path [])) left fault) where
+    (opened : is_direct f (join path []) ≡ true
+    → IsOpened (list_result f.content (join path [])) (strays_found f (join path [])) left fault) where
   -- what was opened, where the path leads to a directory
   opened_there : (k : Key) → LeadsTo f.content path k → IsOpened (list_result f.content path) (strays_found f path) left fault
   unfolding strays_found
@@ -134,13 +136,16 @@ module _ (f : FileSystem) (w : is_content f.content ≡ true) (path : Text) (lef
       (subst (λ o. IsOpened (list_result f.content (join path [])) (strays_at f o) left fault) same (opened (direct_itself f w path k at)))
 
   -- the texts among the names that were read are those of entries
-  texts_there : (es : List DirEntry) → list_result f.content path ≡ Entries es → (names : List Text) → IsPermutation (names_of es) (texts_of names)
+  texts_there : (es : List DirEntry) → list_result f.content path ≡ Entries es → (names : List Text)
+      → IsPermutation (names_of es) (texts_of names)
       → are_text_names (texts_of names) ≡ true
   texts_there es from names moved = texts_read f.content w path es from (texts_of names) moved
 
   -- the entries of a listing where links are followed
   pub followed_answer : {A : Type 0} (kinds : Kinds) (v : Vec (Entry A) A) → IfSome left (λ bytes. are_text_names (names_in bytes) ≡ true)
-      → (AreDirect f (join path []) → IfSome left (λ bytes. entries_of v.items ≡ said_entries (is_said_dir f kinds (join path [])) (names_in bytes))) → (IsSome left → fault ≡ None)
+      → (AreDirect f (join path [])
+      → IfSome left (λ bytes. entries_of v.items ≡ said_entries (is_said_dir f kinds (join path [])) (names_in bytes)))
+      → (IsSome left → fault ≡ None)
       → IsEntriesAnswer (are_looked_up kinds) (list_followed f path) (entries_of v.items)
   unfolding list_followed
   followed_answer {A} kinds v texts is whole = by_leads (leads_or_not f.content path)
@@ -149,11 +154,14 @@ module _ (f : FileSystem) (w : is_content f.content ≡ true) (path : Text) (lef
       nothing LookedUp = tt
       nothing LeftOut = tt
 
-      by_answer : (k : Key) → LeadsTo f.content path k → (a : ListAnswer) (ss : List Text) → list_result f.content path ≡ a → IsOpened a ss left fault
+      by_answer : (k : Key) → LeadsTo f.content path k → (a : ListAnswer) (ss : List Text) → list_result f.content path ≡ a
+          → IsOpened a ss left fault
           → IsEntriesAnswer (are_looked_up kinds) (answer_followed f path a ss) (entries_of v.items)
       by_answer k at (Entries es) [] from (bytes, known, end, (moved, strays)) =
           let all = subst (λ o. IfSome o (λ bs. are_text_names (names_in bs) ≡ true)) known texts in
-          let said = subst (λ o. IfSome o (λ bs. entries_of v.items ≡ said_entries (is_said_dir f kinds (join path [])) (names_in bs))) known (is (direct_names f w path k at)) in
+          let said = subst (λ o. IfSome o
+          (λ bs. entries_of v.items ≡ said_entries (is_said_dir f kinds (join path [])) (names_in bs))) known
+          (is (direct_names f w path k at)) in
           subst (IsEntriesAnswer (are_looked_up kinds) (Entries (map (entry_followed f path) es))) (sym said)
           (entries_followed f path kinds es (names_in bytes) (subst (IsPermutation (names_of es)) (texts_same (names_in bytes) all) moved))
       by_answer k at (Entries es) (s ∷ ss) from (bytes, known, end, (moved, strays)) =
@@ -162,46 +170,59 @@ module _ (f : FileSystem) (w : is_content f.content ≡ true) (path : Text) (lef
       by_answer k at (Fails kind) ss from (known, ends) = absurd (none-some kind (sym (whole known) ∙ ends))
       by_answer k at NoDirectory ss from opened = nothing kinds
 
-      by_leads : LeadsOrNot f.content path → IsEntriesAnswer (are_looked_up kinds) (answer_followed f path (list_result f.content path) (strays_found f path)) (entries_of v.items)
-      by_leads (Not none) = subst (λ a. IsEntriesAnswer (are_looked_up kinds) (answer_followed f path a (strays_found f path)) (entries_of v.items)) (sym none) (nothing kinds)
+      by_leads : LeadsOrNot f.content path
+          → IsEntriesAnswer (are_looked_up kinds) (answer_followed f path (list_result f.content path) (strays_found f path))
+          (entries_of v.items)
+      by_leads (Not none) = subst
+          (λ a. IsEntriesAnswer (are_looked_up kinds) (answer_followed f path a (strays_found f path)) (entries_of v.items)) (sym none)
+          (nothing kinds)
       by_leads (Leads k at) = by_answer k at (list_result f.content path) (strays_found f path) refl (opened_there k at)
 
   -- and its error where the names were read
-  pub followed_fault : (e : ListError) → IfSome left (λ bytes. IsEntriesError (are_text_names (names_in bytes)) fault e) → IsListError (list_followed f path) e
+  pub followed_fault : (e : ListError) → IfSome left (λ bytes. IsEntriesError (are_text_names (names_in bytes)) fault e)
+      → IsListError (list_followed f path) e
   unfolding list_followed
   followed_fault Memory of = tt
   followed_fault (Read x) of = by_leads (leads_or_not f.content path)
     where
-      by_known : (kind : ErrorKind) (l : Option (List ℕ)) → IsSome l → fault ≡ Some kind → IfSome l (λ bytes. IsEntriesError (are_text_names (names_in bytes)) fault (Read x)) → error_kind x ≡ kind
+      by_known : (kind : ErrorKind) (l : Option (List ℕ)) → IsSome l → fault ≡ Some kind
+          → IfSome l (λ bytes. IsEntriesError (are_text_names (names_in bytes)) fault (Read x)) → error_kind x ≡ kind
       by_known kind None known ends of = absurd (both_ways false refl known)
       by_known kind (Some bytes) known ends of =
           ⊎_elim (λ same. same_Some (error_kind x) kind (sym same ∙ ends)) (λ other. absurd (none-some kind (sym other.0 ∙ ends))) of
 
-      by_answer : (a : ListAnswer) (ss : List Text) → list_result f.content path ≡ a → IsOpened a ss left fault → IsListError (answer_followed f path a ss) (Read x)
+      by_answer : (a : ListAnswer) (ss : List Text) → list_result f.content path ≡ a → IsOpened a ss left fault
+          → IsListError (answer_followed f path a ss) (Read x)
       by_answer (Entries es) [] from (bytes, known, end, (moved, strays)) =
           let error = subst (λ o. IfSome o (λ bs. IsEntriesError (are_text_names (names_in bs)) fault (Read x))) known of in
           let texts = all_texts (names_in bytes) (moved_nil (strays_of (names_in bytes)) strays) in
           let all = subst (λ ns. are_text_names ns ≡ true) texts (texts_there es from (names_in bytes) moved) in
-          absurd (⊎_elim (λ same. none-some (error_kind x) (sym end ∙ same)) (λ other. both_ways (are_text_names (names_in bytes)) other.1 all) error)
+          absurd (⊎_elim (λ same. none-some (error_kind x) (sym end ∙ same))
+          (λ other. both_ways (are_text_names (names_in bytes)) other.1 all) error)
       by_answer (Entries es) (s ∷ ss) from (bytes, known, end, (moved, strays)) =
           let error = subst (λ o. IfSome o (λ bs. IsEntriesError (are_text_names (names_in bs)) fault (Read x))) known of in
           ⊎_elim (λ same. absurd (none-some (error_kind x) (sym end ∙ same))) (λ other. other.2) error
       by_answer (Fails kind) ss from (known, ends) = by_known kind left known ends of
       by_answer NoDirectory ss from opened = tt
 
-      by_leads : LeadsOrNot f.content path → IsListError (answer_followed f path (list_result f.content path) (strays_found f path)) (Read x)
+      by_leads : LeadsOrNot f.content path
+          → IsListError (answer_followed f path (list_result f.content path) (strays_found f path)) (Read x)
       by_leads (Not none) = subst (λ a. IsListError (answer_followed f path a (strays_found f path)) (Read x)) (sym none) tt
       by_leads (Leads k at) = by_answer (list_result f.content path) (strays_found f path) refl (opened_there k at)
 
   -- the entries where the content has each link
   pub kept_answer : {A : Type 0} (v : Vec (Entry A) A)
-      → (AreDirect f (join path []) → IfSome left (λ bytes. entries_of v.items ≡ said_entries (is_dir_in f.content (join path [])) (texts_of (names_in bytes))))
+      → (AreDirect f (join path [])
+      → IfSome left (λ bytes. entries_of v.items ≡ said_entries (is_dir_in f.content (join path [])) (texts_of (names_in bytes))))
       → (IsSome left → fault ≡ None) → IsListAnswer (list_result f.content path) (entries_of v.items)
   kept_answer {A} v is whole = by_leads (leads_or_not f.content path)
     where
-      by_answer : (k : Key) → LeadsTo f.content path k → (a : ListAnswer) → list_result f.content path ≡ a → IsOpened a (strays_found f path) left fault → IsListAnswer a (entries_of v.items)
+      by_answer : (k : Key) → LeadsTo f.content path k → (a : ListAnswer) → list_result f.content path ≡ a
+          → IsOpened a (strays_found f path) left fault → IsListAnswer a (entries_of v.items)
       by_answer k at (Entries es) from (bytes, known, end, (moved, strays)) =
-          let said = subst (λ o. IfSome o (λ bs. entries_of v.items ≡ said_entries (is_dir_in f.content (join path [])) (texts_of (names_in bs)))) known (is (direct_names f w path k at)) in
+          let said = subst (λ o. IfSome o
+          (λ bs. entries_of v.items ≡ said_entries (is_dir_in f.content (join path [])) (texts_of (names_in bs)))) known
+          (is (direct_names f w path k at)) in
           subst (IsPermutation es) (sym said) (entries_kept f.content w path es from (texts_of (names_in bytes)) moved)
       by_answer k at (Fails kind) from (known, ends) = absurd (none-some kind (sym (whole known) ∙ ends))
       by_answer k at NoDirectory from opened = tt
@@ -211,11 +232,13 @@ module _ (f : FileSystem) (w : is_content f.content ≡ true) (path : Text) (lef
       by_leads (Leads k at) = by_answer k at (list_result f.content path) refl (opened_there k at)
 
   -- and the error
-  pub kept_fault : (e : ListError) → IfSome left (λ bytes. IsEntriesError (are_text_names (texts_of (names_in bytes))) fault e) → IsListError (list_result f.content path) e
+  pub kept_fault : (e : ListError) → IfSome left (λ bytes. IsEntriesError (are_text_names (texts_of (names_in bytes))) fault e)
+      → IsListError (list_result f.content path) e
   kept_fault Memory of = tt
   kept_fault (Read x) of = by_leads (leads_or_not f.content path)
     where
-      by_known : (kind : ErrorKind) (l : Option (List ℕ)) → IsSome l → fault ≡ Some kind → IfSome l (λ bytes. IsEntriesError (are_text_names (texts_of (names_in bytes))) fault (Read x))
+      by_known : (kind : ErrorKind) (l : Option (List ℕ)) → IsSome l → fault ≡ Some kind
+          → IfSome l (λ bytes. IsEntriesError (are_text_names (texts_of (names_in bytes))) fault (Read x))
           → error_kind x ≡ kind
       by_known kind None known ends of = absurd (both_ways false refl known)
       by_known kind (Some bytes) known ends of =
@@ -238,7 +261,8 @@ module _ (f : FileSystem) (w : is_content f.content ≡ true) (path : Text) (lef
       → IsReceived (list_result f.content path) (strays_found f path) old new
   kept_strays old new is = by_leads (leads_or_not f.content path)
     where
-      by_answer : (a : ListAnswer) → list_result f.content path ≡ a → IsOpened a (strays_found f path) left fault → IsReceived a (strays_found f path) old new
+      by_answer : (a : ListAnswer) → list_result f.content path ≡ a → IsOpened a (strays_found f path) left fault
+          → IsReceived a (strays_found f path) old new
       by_answer (Entries es) from (bytes, known, end, (moved, strays)) =
           (strays_of (names_in bytes), subst (λ o. IfSome o (λ bs. new ≡ and_then old (strays_of (names_in bs)))) known is, strays)
       by_answer (Fails kind) from opened = tt
@@ -251,7 +275,8 @@ module _ (f : FileSystem) (w : is_content f.content ≡ true) (path : Text) (lef
 -- the error where the directory was not opened
 module _ (f : FileSystem) (w : is_content f.content ≡ true) (path : Text) (e : Error) (made : ListError)
     (fault : is_direct f (join path []) ≡ true → IsOpenFault (list_result f.content (join path [])) e) (of : IsListErrorOf e made) where
-  unopened : (a : ListAnswer) (b : ListAnswer) → ((kind : ErrorKind) → IsListFault a kind → IsListFault b kind) → IsOpenFault a e → IsListError b made
+  unopened : (a : ListAnswer) (b : ListAnswer) → ((kind : ErrorKind) → IsListFault a kind → IsListFault b kind) → IsOpenFault a e
+      → IsListError b made
   unopened a b onto closed = made_of (IsListError b) e tt (λ non. onto (error_kind e) (closed non)) made of
 
   pub kept_unopened : IsListError (list_result f.content path) made
@@ -260,20 +285,24 @@ module _ (f : FileSystem) (w : is_content f.content ≡ true) (path : Text) (e :
       by_leads : LeadsOrNot f.content path → IsListError (list_result f.content path) made
       by_leads (Not none) = subst (λ a. IsListError a made) (sym none) (unopened NoDirectory NoDirectory (λ kind is. is) (λ non. tt))
       by_leads (Leads k at) =
-          unopened (list_result f.content path) (list_result f.content path) (λ kind is. is) (subst (λ a. IsOpenFault a e) (list_result-join f.content path) (fault (direct_itself f w path k at)))
+          unopened (list_result f.content path) (list_result f.content path) (λ kind is. is)
+          (subst (λ a. IsOpenFault a e) (list_result-join f.content path) (fault (direct_itself f w path k at)))
 
   pub followed_unopened : IsListError (list_followed f path) made
   unfolding list_followed
   followed_unopened = by_leads (leads_or_not f.content path)
     where
-      as_followed : (a : ListAnswer) (ss : List Text) (kind : ErrorKind) → IsListFault a kind → IsListFault (answer_followed f path a ss) kind
+      as_followed : (a : ListAnswer) (ss : List Text) (kind : ErrorKind) → IsListFault a kind
+          → IsListFault (answer_followed f path a ss) kind
       as_followed (Entries es) ss kind is = absurd is
       as_followed (Fails wanted) ss kind is = is
       as_followed NoDirectory ss kind is = tt
 
       by_leads : LeadsOrNot f.content path → IsListError (answer_followed f path (list_result f.content path) (strays_found f path)) made
       by_leads (Not none) =
-          subst (λ a. IsListError (answer_followed f path a (strays_found f path)) made) (sym none) (unopened NoDirectory NoDirectory (λ kind is. is) (λ non. tt))
+          subst (λ a. IsListError (answer_followed f path a (strays_found f path)) made) (sym none)
+          (unopened NoDirectory NoDirectory (λ kind is. is) (λ non. tt))
       by_leads (Leads k at) =
-          unopened (list_result f.content path) (answer_followed f path (list_result f.content path) (strays_found f path)) (as_followed (list_result f.content path) (strays_found f path))
+          unopened (list_result f.content path) (answer_followed f path (list_result f.content path) (strays_found f path))
+          (as_followed (list_result f.content path) (strays_found f path))
           (subst (λ a. IsOpenFault a e) (list_result-join f.content path) (fault (direct_itself f w path k at)))

@@ -21,7 +21,8 @@ read_or e (Read x) = x
 read_or e Memory = e
 
 -- what is so of a failed allocation, and of each other error of the system, is so of what a listing makes of it
-pub made_of : (Q : ListError → Type 0) (e : Error) → Q Memory → (error_kind e ≢ OutOfMemory → Q (Read e)) → (made : ListError) → IsListErrorOf e made → Q made
+pub made_of : (Q : ListError → Type 0) (e : Error) → Q Memory → (error_kind e ≢ OutOfMemory → Q (Read e)) → (made : ListError)
+    → IsListErrorOf e made → Q made
 unfolding is_memory read_or
 made_of Q e memory read Memory of = memory
 made_of Q e memory read (Read x) of =

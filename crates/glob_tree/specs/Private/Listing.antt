@@ -1,5 +1,5 @@
 -- How a disk makes entries of names.
-use Rattle.std.specs.Prelude.{◌≡◌, Bool, true, false, ◌&&◌, ◌++◌, ◌⊎◌, List, map, Option, None, Some, ⊤}
+use Rattle.std.specs.Prelude.{◌≡◌, Bool, true, false, ◌&&◌, ◌++◌, ◌⊎◌, ℕ, List, [], ◌∷◌, map, Option, None, Some, ⊤}
 use Rattle.std.specs.IoError.{error_kind}
 use Rattle.std.specs.List.{list_all}
 use Rattle.std.specs.Str.{is_utf8}
@@ -7,14 +7,16 @@ use Rattle.std.specs.declared.io.ErrorKind.{ErrorKind}
 use Rattle.std.specs.declared.io.ErrorKind.TheVariants.{InvalidFilename}
 use Rattle.glob_text.specs.Text.{Text}
 use Rattle.glob_tree.specs.Content.{Content, DirEntry, look_result}
-use Rattle.glob_tree.specs.FileSystems.{FileSystem, stat_found}
+use Rattle.glob_tree.specs.FileSystems.{FileSystem, Found, Directory, File, stat_found}
 use Rattle.glob_tree.specs.Followed.{is_found_directory}
 use Rattle.glob_tree.specs.Looks.{is_directory}
-use Rattle.glob_tree.specs.Paths.{is_proper}
+use Rattle.glob_tree.specs.Paths.{is_proper, nul}
 use Rattle.glob_tree.specs.declared.disk.Kinds.{Kinds}
 use Rattle.glob_tree.specs.declared.disk.Kinds.TheVariants.{LookedUp, LeftOut}
 use Rattle.glob_tree.specs.declared.tree.ListError.{ListError}
 use Rattle.glob_tree.specs.declared.tree.ListError.TheVariants.{Read, Memory}
+use Rattle.glob_tree.specs.declared.tree.Look.{Look}
+use Rattle.glob_tree.specs.declared.tree.Look.TheVariants as look
 
 abbrev pub are_looked_up : Kinds → Bool
 are_looked_up LookedUp = true
@@ -53,3 +55,14 @@ abbrev pub IsEntriesError : (all : Bool) → (fault : Option ErrorKind) → List
 IsEntriesError all fault (Read e) =
     (fault ≡ Some (error_kind e)) ⊎ ((fault ≡ None) × (all ≡ false) × (error_kind e ≡ InvalidFilename))
 IsEntriesError all fault Memory = ⊤
+
+-- names, each with a NUL after it
+abbrev pub name_bytes : List Text → List ℕ
+name_bytes [] = []
+name_bytes (n ∷ ns) = n ++ nul ∷ name_bytes ns
+
+-- what a look reports, without symbolic links
+abbrev pub found_by : Look → Option Found
+found_by look.Dir = Some Directory
+found_by look.Other = Some File
+found_by look.Missing = None

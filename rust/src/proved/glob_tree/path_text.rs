@@ -58,3 +58,14 @@ pub fn stays(piece: &str) -> bool {
 pub fn begins_with_dot(name: &str) -> bool {
     name.starts_with('.')
 }
+
+/// Whether a directory is the last one on a way, or above it; the empty path is above each.
+pub(crate) fn is_on_way(directory: &str, way: &str) -> bool {
+    if directory.is_empty() {
+        return true;
+    }
+    match way.strip_prefix(directory) {
+        Some(rest) => rest.is_empty() || rest.starts_with('/'),
+        None => false,
+    }
+}

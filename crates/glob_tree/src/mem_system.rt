@@ -1,0 +1,114 @@
+//! A system in memory.
+ghost use Rattle.std.specs.Prelude.{◌≡◌, IfOk};
+ghost use Rattle.glob_tree.specs.Answers.{entries_of, names_of};
+ghost use Rattle.glob_tree.specs.Content.{look_result};
+ghost use Rattle.glob_tree.specs.FileSystems.{IsStatAnswer, plain_files};
+ghost use Rattle.glob_tree.specs.Private.Listing.{found_by, name_bytes};
+
+use crate::mem_tree::MemTree;
+use crate::system::{Directory, System};
+use crate::tree::{Entry, ListError, Look};
+use std::alloc::{AllocError, Allocator, Global};
+use std::collections::VecDeque;
+use std::fs::Metadata;
+use std::io::{self, ErrorKind, Read};
+use std::marker::Model;
+
+/// A system that holds the files of a tree in memory, without symbolic links: what a disk answers over it is known, so
+/// that disks can be tried without a disk. Its directories are read in pieces, as real ones may be.
+#[derive(Drop)]
+pub struct MemSystem<A: Allocator = Global> {
+    tree: MemTree<A>,
+    piece: usize,
+}
+
+/// Its files.
+impl<A: Allocator> Model for MemSystem<A> {
+    ghost use Rattle.glob_tree.specs.Content.{Content};
+
+    ghost Value = { Content };
+
+    ghost view = { λ system. system.tree.content };
+}
+
+impl<A: Allocator + Copy> MemSystem<A> {
+    /// The system that holds the files of `tree`. A read of a directory gives at most `piece` bytes, or one if that is
+    /// 0: with 2, the names `a` and `bc` come as `a\0`, `bc`, and `\0`.
+    pub fn new(tree: MemTree<A>, piece: usize) -> Self
+        ensures { result ≡ tree.content }
+    {
+        MemSystem { tree, piece }
+    }
+
+    /// The metadata of what is at a path.
+    fn metadata(&self, path: &str) -> io::Result<Metadata>
+        ensures { IsStatAnswer (found_by (look_result self.now path.now)) result }
+    {
+        match self.tree.seen(path) {
+            Look::Dir => Ok(Metadata::of_dir()),
+            Look::Other => Ok(Metadata::of_file(0)),
+            Look::Missing => Err(ErrorKind::NotFound.into()),
+        }
+    }
+}
+
+impl<A: Allocator + Copy> System for MemSystem<A> {
+    type Dir = MemDirectory<A>;
+
+    ghost use Rattle.std.specs.Prelude.{Some};
+
+    ghost holds = { λ system. Some (plain_files system) };
+
+    fn lstat(&self, path: &str) -> io::Result<Metadata> {
+        self.metadata(path)
+    }
+
+    fn stat(&self, path: &str) -> io::Result<Metadata> {
+        self.metadata(path)
+    }
+
+    fn open(&self, path: &str) -> io::Result<MemDirectory<A>> {
+        let piece = self.piece;
+        match self.tree.entries(path) {
+            Ok(entries) => {
+                let bytes = bytes_of(*entries.allocator(), entries.as_slice())?;
+                let names = VecDeque::from(bytes);
+                Ok(MemDirectory { names, piece })
+            }
+            Err(ListError::Read(error)) => Err(error),
+            Err(ListError::Memory) => Err(ErrorKind::OutOfMemory.into()),
+        }
+    }
+}
+
+/// The names of entries, each with a NUL after it.
+fn bytes_of<A: Allocator + Copy>(alloc: A, entries: &[Entry<A>]) -> Result<Vec<u8, A>, AllocError>
+    ensures { IfOk result (λ bytes. bytes.items ≡ name_bytes (names_of (entries_of entries.now))) }
+{
+    let mut bytes = Vec::new(alloc);
+    for entry in entries {
+        bytes.extend_from_slice(entry.name.as_str().as_bytes())?;
+        bytes.push(0)?;
+    }
+    Ok(bytes)
+}
+
+/// A directory that a [`MemSystem`] has opened.
+#[derive(Drop)]
+pub struct MemDirectory<A: Allocator = Global> {
+    names: VecDeque<u8, A>,
+    piece: usize,
+}
+
+impl<A: Allocator> Directory for MemDirectory<A> {
+    ghost use Rattle.std.specs.Prelude.{None, Some};
+
+    ghost left = { λ directory. Some directory.names.items };
+
+    ghost fault = { λ _. None };
+
+    fn read(&mut self, block: &mut [u8]) -> io::Result<usize> {
+        let room = block.len().min(self.piece.max(1));
+        self.names.read(&mut block[..room])
+    }
+}
