@@ -15,14 +15,13 @@ use std::alloc::Allocator;
 pub struct Meter {
     pub limit: u64,
     pub spent: u64,
+    ghost within: { spent ≤ limit },
 }
 
 impl Meter {
     /// Charges one unit, if one is left.
     pub fn charge(&mut self) -> bool
-        requires { self.old.spent ≤ self.old.limit }
         ensures limit { self.new.limit ≡ self.old.limit }
-        ensures within { self.new.spent ≤ self.new.limit }
         ensures charged { result ≡ true → self.new.spent ≡ self.old.spent + 1 }
         ensures refused { result ≡ false
             → (self.new.spent ≡ self.old.spent) × (self.old.spent ≡ self.old.limit) }
@@ -36,9 +35,7 @@ impl Meter {
 
     /// Charges a unit for each of `count` entries. Where they pass the limit, all of it is spent.
     pub fn charge_entries(&mut self, count: usize) -> bool
-        requires { self.old.spent ≤ self.old.limit }
         ensures limit { self.new.limit ≡ self.old.limit }
-        ensures within { self.new.spent ≤ self.new.limit }
         ensures charged { result ≡ true → self.new.spent ≡ self.old.spent + count }
         ensures refused { result ≡ false
             → (self.new.spent ≡ self.old.limit) × (self.old.limit < self.old.spent + count) }

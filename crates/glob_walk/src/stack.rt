@@ -8,9 +8,9 @@
 //! more, and not the chain.
 ghost use Rattle.std.specs.Prelude.{◌≡◌, ◌+◌, ◌<◌, ◌≤◌, ◌++◌, true, false, [], None, Ok, IfOk, OnOk, vec_len};
 ghost use Rattle.glob_tree.specs.Content.{Content};
-ghost use Rattle.glob_walk.specs.Private.Frames.{frame_marks, unmet, IsFrameSound};
+ghost use Rattle.std.specs.List.{All};
+ghost use Rattle.glob_walk.specs.Private.Frames.{frame_marks, is_done, unmet, IsFrameSound};
 ghost use Rattle.glob_walk.specs.Private.Tasks.{question_of};
-ghost use Rattle.glob_walk.specs.Private.Stacks.{left, weight, ready, IsWithin, IsSound};
 
 use crate::frame::Frame;
 use crate::plan::Plan;
@@ -27,14 +27,17 @@ pub struct Stack<A: Allocator> {
     pub next: Option<Task<A>>,
     /// The directories, each reached by way of the one before it. Something is left in each of them.
     pub frames: Vec<Frame<A>, A>,
+    ghost components: { All (λ f. f.component < vec_len plan.components) frames.items },
+    ghost going: { All (λ f. is_done f ≡ false) frames.items },
 }
 
 impl<A: Allocator + Copy> Stack<A> {
+    ghost use Rattle.glob_walk.specs.Private.Stacks.{left, weight, ready, IsSound};
+
     /// Takes one step in the last directory, which may leave a task, and lets the directory go if that was its last
     /// step. The answer is `false` where there is no directory. The weight falls by the step, so steps come to an end.
     pub fn step(&mut self) -> Result<bool, AllocError>
         requires none { self.old.next ≡ None }
-        requires within { IsWithin self.old }
         ensures plan { self.new.plan ≡ self.old.plan }
         ensures left { OnOk result ((c : Content) → left c self.old ≡ left c self.new) }
         ensures over { IfOk result
@@ -43,13 +46,17 @@ impl<A: Allocator + Copy> Stack<A> {
         ensures falls { IfOk result (λ more. more ≡ true → weight self.new < weight self.old) }
         ensures ready { OnOk result (ready self.new ≤ ready self.old) }
         ensures free { OnOk result (question_of self.new.next ≡ None) }
-        ensures within { OnOk result (IsWithin self.new) }
         ensures sound { OnOk result ((c : Content) → IsSound c self.old → IsSound c self.new) }
     {
         let Some(frame) = self.frames.last_mut() else {
             return Ok(false);
         };
-        self.next = frame.step(&self.plan)?;
+        let Ok(task) = frame.step(&self.plan) else {
+            // The step may have been its last.
+            self.frames.pop();
+            return Err(AllocError);
+        };
+        self.next = task;
         if frame.is_done() {
             self.frames.pop();
         }
@@ -69,14 +76,12 @@ impl<A: Allocator + Copy> Stack<A> {
     /// Puts a directory on top, unless nothing is left in it.
     pub fn open(&mut self, frame: Frame<A>) -> Result<(), AllocError>
         requires none { self.old.next ≡ None }
-        requires within { IsWithin self.old }
         requires component { frame.component < vec_len self.old.plan.components }
         ensures plan { self.new.plan ≡ self.old.plan }
         ensures next { self.new.next ≡ None }
         ensures left { OnOk result ((c : Content)
             → left c self.new ≡ frame_marks c self.old.plan frame ++ left c self.old) }
         ensures ready { OnOk result (ready self.new ≤ ready self.old + unmet frame) }
-        ensures within { IsWithin self.new }
         ensures sound { OnOk result ((c : Content) → IsFrameSound c frame → IsSound c self.old
             → IsSound c self.new) }
     {

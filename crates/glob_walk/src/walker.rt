@@ -29,7 +29,7 @@ ghost use Rattle.glob_walk.specs.Components.{is_literal};
 ghost use Rattle.glob_tree.specs.Answers.{entry_count};
 ghost use Rattle.glob_walk.specs.Questions.{IsSomeContent, IsSeenIn, IsListedIn, ListAt, LookAt, question_path};
 ghost use Rattle.glob_walk.specs.Private.Tasks.{task_marks, enter_from, IsListedFor, IsOpened, next_ready, IsNextSound, IsNextOpened, question_of};
-ghost use Rattle.glob_walk.specs.Private.Stacks.{next_weight, weight, IsWithin};
+ghost use Rattle.glob_walk.specs.Private.Stacks.{next_weight, weight};
 ghost use Rattle.glob_walk.specs.Private.Walking.{is_last_turn, turn_saying};
 ghost use Rattle.glob_walk.specs.Answers.{IfFailed, IsAnswer, IsAnswered, answer_count};
 ghost use Rattle.glob_walk.specs.Private.Turns.{TurnsTo, with_task, AreListedAt, IsQuestion};
@@ -55,9 +55,7 @@ pub struct Walker<A: Allocator> {
 impl<A: Allocator + Copy> Walker<A> {
     /// Asks for a look at a path, for one unit.
     fn look(&mut self, path: String<A>, component: usize, accepted: Accepted) -> Turn<A>
-        requires limit { self.old.meter.spent ≤ self.old.meter.limit }
         requires none { self.old.stack.next ≡ None }
-        requires within { IsWithin self.old.stack }
         ensures asks { IsQuestion result }
         ensures stops { result ≢ Turn.Continue }
         ensures turn { TurnsTo IsSomeContent 0
@@ -79,9 +77,7 @@ impl<A: Allocator + Copy> Walker<A> {
     /// Asks for the listing of a directory for a component, which is `**` or has wildcards, for one unit. Where no
     /// entry's kind matters, names alone are asked for.
     fn list(&mut self, path: String<A>, component: usize, recursive: bool) -> Turn<A>
-        requires limit { self.old.meter.spent ≤ self.old.meter.limit }
         requires none { self.old.stack.next ≡ None }
-        requires within { IsWithin self.old.stack }
         requires component { component < vec_len self.old.stack.plan.components }
         requires opens { IsOpened recursive (drop component self.old.stack.plan.components.items) }
         ensures asks { IsQuestion result }
@@ -113,9 +109,7 @@ impl<A: Allocator + Copy> Walker<A> {
         kinds: bool,
         mut entries: Vec<Entry<A>, A>,
     ) -> Turn<A>
-        requires limit { self.old.meter.spent ≤ self.old.meter.limit }
         requires none { self.old.stack.next ≡ None }
-        requires within { IsWithin self.old.stack }
         requires listed { IsListedFor self.old.stack.plan component recursive kinds }
         ensures { TurnsTo (AreListedAt kinds (string_bytes path) entries.items) (vec_len entries)
             self.old.meter
@@ -149,24 +143,23 @@ impl<A: Allocator + Copy> Walker<A> {
     /// one is joined to the path, and to look that up is the next task. For `**` and for a component with wildcards the
     /// directory is listed; nothing comes of what is no directory.
     fn enter(&mut self, path: String<A>, number: usize, is_dir: bool) -> Turn<A>
-        requires limit { self.old.meter.spent ≤ self.old.meter.limit }
         requires none { self.old.stack.next ≡ None }
-        requires within { IsWithin self.old.stack }
         ensures falls { result ≡ Turn.Continue → weight self.new.stack < weight self.old.stack + 2 }
         ensures past { vec_len self.old.stack.plan.components ≤ number → result ≢ Turn.Memory }
         ensures turn { TurnsTo IsSomeContent 0
             self.old.meter (with_task path number (TaskState.Seen is_dir) self.old.stack) result
             self.new.meter self.new.stack }
     {
-        let Some(component) = self.stack.plan.component(number) else {
-            if is_dir || !self.stack.plan.directories {
+        let plan = &self.stack.plan;
+        let Some(component) = plan.component(number) else {
+            if is_dir || !plan.directories {
                 return Turn::Path(path);
             }
             return Turn::Continue;
         };
         if component.is_literal() {
             let path = path.as_str();
-            let Ok(task) = literal_task(&self.stack.plan, component, path, number, is_dir) else {
+            let Ok(task) = literal_task(plan, component, path, number, is_dir) else {
                 return Turn::Memory;
             };
             self.stack.next = Some(task);
@@ -182,8 +175,6 @@ impl<A: Allocator + Copy> Walker<A> {
     /// One turn: does the task if there is one, and else takes one step in the directory on top. Where there is
     /// neither, the walk is done. It calls nothing that calls it.
     fn turn(&mut self) -> Turn<A>
-        requires limit { self.old.meter.spent ≤ self.old.meter.limit }
-        requires within { IsWithin self.old.stack }
         requires free { question_of self.old.stack.next ≡ None }
         ensures falls { result ≡ Turn.Continue → weight self.new.stack < weight self.old.stack }
         ensures idle { self.old.stack.next ≡ None → self.old.stack.frames.items ≡ []
@@ -213,8 +204,6 @@ impl<A: Allocator + Copy> Walker<A> {
 
     /// Turns until there is a question or an item, or nothing is left.
     fn turns(&mut self) -> Turn<A>
-        requires limit { self.old.meter.spent ≤ self.old.meter.limit }
-        requires within { IsWithin self.old.stack }
         requires free { question_of self.old.stack.next ≡ None }
         ensures stops { result ≢ Turn.Continue }
         ensures turn { TurnsTo IsSomeContent 0
@@ -231,8 +220,6 @@ impl<A: Allocator + Copy> Walker<A> {
 
     /// Takes the answer to the question that is open, and the task that asked it: what comes of it at once.
     fn take_answer(&mut self, answer: Answer<A>) -> Turn<A>
-        requires limit { self.old.meter.spent ≤ self.old.meter.limit }
-        requires within { IsWithin self.old.stack }
         requires opened { IsNextOpened self.old.stack.plan self.old.stack.next }
         requires answer { IsAnswer (question_of self.old.stack.next) answer }
         ensures failed { IfFailed answer (question_path (question_of self.old.stack.next))
@@ -272,9 +259,7 @@ impl<A: Allocator + Copy> Walker<A> {
         accepted: Accepted,
         answer: Result<Look, AllocError>,
     ) -> Turn<A>
-        requires limit { self.old.meter.spent ≤ self.old.meter.limit }
         requires none { self.old.stack.next ≡ None }
-        requires within { IsWithin self.old.stack }
         ensures failed { IfErr answer (λ _. turn_saying result ≡ Says NoMemory) }
         ensures seen { IfOk answer (λ _. result ≡ Turn.Continue) }
         ensures turn { TurnsTo (IsSeenIn (Some (LookAt (string_bytes path))) answer) 0
@@ -297,9 +282,7 @@ impl<A: Allocator + Copy> Walker<A> {
         kinds: bool,
         answer: Result<Vec<Entry<A>, A>, ListError>,
     ) -> Turn<A>
-        requires limit { self.old.meter.spent ≤ self.old.meter.limit }
         requires none { self.old.stack.next ≡ None }
-        requires within { IsWithin self.old.stack }
         requires listed { IsListedFor self.old.stack.plan component recursive kinds }
         ensures failed { IfErr answer
             (λ e. turn_saying result ≡ Says (list_error_outcome (string_bytes path) e)) }
@@ -319,8 +302,6 @@ impl<A: Allocator + Copy> Walker<A> {
     /// Takes the answer to the question that is open, or `Nothing` where none is, and goes on to the next question or
     /// item.
     fn take_turns(&mut self, answer: Answer<A>) -> Turn<A>
-        requires limit { self.old.meter.spent ≤ self.old.meter.limit }
-        requires within { IsWithin self.old.stack }
         requires opened { IsNextOpened self.old.stack.plan self.old.stack.next }
         requires answer { IsAnswer (question_of self.old.stack.next) answer }
         ensures failed { IfFailed answer (question_path (question_of self.old.stack.next))
@@ -340,8 +321,6 @@ impl<A: Allocator + Copy> Walker<A> {
     /// The turn that [`take_turns`](Walker::take_turns) ends with. Where no item follows it, as after a refusal,
     /// nothing stays on the stack, since a walk that is over may be kept for long.
     pub fn proceed(&mut self, answer: Answer<A>) -> Turn<A>
-        requires limit { self.old.meter.spent ≤ self.old.meter.limit }
-        requires within { IsWithin self.old.stack }
         requires opened { IsNextOpened self.old.stack.plan self.old.stack.next }
         requires answer { IsAnswer (question_of self.old.stack.next) answer }
         ensures failed { IfFailed answer (question_path (question_of self.old.stack.next))

@@ -1,7 +1,8 @@
 -- What is left where nothing was charged, and turns after one another.
-use Rattle.std.proofs.Common.{◌≡◌, ℕ, ◌+◌, ◌≤◌, Bool, true, false, cond, List, [], ◌∷◌, ◌++◌, Option, None, Some, refl, ap, sym, subst, ◌∙◌, arith}
+use Rattle.std.proofs.Common.{◌≡◌, ℕ, ◌+◌, ◌<◌, ◌≤◌, Bool, true, false, cond, List, [], ◌∷◌, ◌++◌, Option, None, Some, refl, ap, sym, subst, ◌∙◌, arith}
 use Rattle.std.proofs.lemmas.Bool.{cond-true, cond-false}
-use Rattle.std.specs.Prelude.{string_bytes}
+use Rattle.std.specs.Prelude.{string_bytes, vec_len}
+use Rattle.std.specs.List.{All}
 use Rattle.std.specs.IoError.{error_kind}
 use Rattle.std.proofs.lemmas.List.{append_assoc, length-append, map-append}
 use Rattle.glob_text.specs.Text.{Text}
@@ -20,7 +21,8 @@ use Rattle.glob_walk.specs.declared.machine.Answer.TheVariants as answer
 use Rattle.glob_walk.specs.Questions.{Question, LookAt, ListAt, IsLook, IsSomeContent, question_path}
 use Rattle.glob_walk.specs.Machines.{AsksNext}
 use Rattle.glob_walk.specs.Private.Tasks.{question_of, state_question, IsNextOpened, IsStateOpened}
-use Rattle.glob_walk.specs.Private.Stacks.{left, ready, IsWithin}
+use Rattle.glob_walk.specs.Private.Frames.{is_done}
+use Rattle.glob_walk.specs.Private.Stacks.{left, ready}
 use Rattle.glob_walk.specs.Answers.{IsAnswered}
 use Rattle.glob_walk.specs.Private.Turns.{TurnOf, TurnCounts, IfGoing, TurnsTo, listed_items, with_task}
 use Rattle.glob_walk.specs.Walks.{Charges, BreaksOff, works}
@@ -86,13 +88,11 @@ IfGoing-map turn.Memory f h = tt
 IfGoing-map turn.Done f h = f h
 
 -- no turn at all
-pub TurnsTo-none : {A : Type 0} (Fits : Content → Type 0) (m : Meter) (s : Stack A) → m.spent ≤ m.limit → IsWithin s → question_of s.next ≡ None → TurnsTo Fits 0 m s turn.Continue m s
-TurnsTo-none Fits m s fits within free = record {
+pub TurnsTo-none : {A : Type 0} (Fits : Content → Type 0) (m : Meter) (s : Stack A) → question_of s.next ≡ None → TurnsTo Fits 0 m s turn.Continue m s
+TurnsTo-none Fits m s free = record {
   limit = refl;
-  fits = fits;
   counts = omega arith;
   plan = refl;
-  within = within;
   asks = free;
   ready = omega arith;
   sound = λ c f h. h;
@@ -104,33 +104,39 @@ pub TurnsTo-fits : {A : Type 0} (Fits Fits' : Content → Type 0) (n : ℕ) (a b
     → ((c : Content) → Fits' c → Fits c) → TurnsTo Fits n a s t b s' → TurnsTo Fits' n a s t b s'
 TurnsTo-fits Fits Fits' n a b s s' t fit h = record {
   limit = h.limit;
-  fits = h.fits;
   counts = h.counts;
   plan = h.plan;
-  within = h.within;
   asks = h.asks;
   ready = h.ready;
   sound = IfGoing-map t (λ going c w. going c (fit c w)) h.sound;
   takes = λ c w x. h.takes c (fit c w) x;
 }
 
--- the turn of a task that was taken off is one of the stack
-pub TurnsTo-task : {A : Type 0} (Fits : Option Question → Content → Type 0) (n : ℕ) (a b : Meter) (s s' : Stack A) (t : Task A) (x : TaskState) (r : Turn A)
-    → s.next ≡ Some t → t.state ≡ x
-    → TurnsTo (Fits (state_question (string_bytes t.path) x)) n a (with_task t.path t.component x s) r b s' → TurnsTo (Fits (question_of s.next)) n a s r b s'
-TurnsTo-task {A} Fits n a b s s' t x r next is h =
+-- the turn of a task that was taken off is one of the stack, whatever shows that the stack is within its bounds
+pub TurnsTo-task : {A : Type 0} (Fits : Option Question → Content → Type 0) (n : ℕ) (a b : Meter) (s s' : Stack A)
+    (below : All (λ f. f.component < vec_len s.plan.components) s.frames.items) (going : All (λ f. is_done f ≡ false) s.frames.items)
+    (t : Task A) (x : TaskState) (r : Turn A) → s.next ≡ Some t → t.state ≡ x
+    → TurnsTo (Fits (state_question (string_bytes t.path) x)) n a (with_task t.path t.component x (record s { components = below; going = going })) r b s'
+    → TurnsTo (Fits (question_of s.next)) n a s r b s'
+TurnsTo-task {A} Fits n a b s s' below going t x r next is h =
     let same : with_task t.path t.component x s ≡ s =
-    ap (λ y. with_task t.path t.component y s) (sym is) ∙ ap (λ o. record { plan = s.plan; next = o; frames = s.frames }) (sym next) in
-    subst (λ (z : Stack A). TurnsTo (Fits (question_of z.next)) n a z r b s') same h
+    ap (λ y. with_task t.path t.component y s) (sym is) ∙ ap (λ o. record s { next = o }) (sym next) in
+    subst (λ (z : Stack A). TurnsTo (Fits (question_of z.next)) n a z r b s') same (record {
+      limit = h.limit;
+      counts = h.counts;
+      plan = h.plan;
+      asks = h.asks;
+      ready = h.ready;
+      sound = IfGoing-map r (λ keeps c w u. keeps c w (record { next = u.next; frames = u.frames })) h.sound;
+      takes = λ c w u. h.takes c w (record { next = u.next; frames = u.frames });
+    })
 
 -- memory was not found, and nothing was charged
-pub TurnsTo-memory : {A : Type 0} (Fits : Content → Type 0) (n : ℕ) (m : Meter) (s s' : Stack A) → m.spent ≤ m.limit → n ≡ 0 → s'.plan ≡ s.plan → TurnsTo Fits n m s turn.Memory m s'
-TurnsTo-memory Fits n m s s' fits none plan = record {
+pub TurnsTo-memory : {A : Type 0} (Fits : Content → Type 0) (n : ℕ) (m : Meter) (s s' : Stack A) → n ≡ 0 → s'.plan ≡ s.plan → TurnsTo Fits n m s turn.Memory m s'
+TurnsTo-memory Fits n m s s' none plan = record {
   limit = refl;
-  fits = fits;
   counts = omega (arith, none);
   plan = plan;
-  within = tt;
   asks = tt;
   ready = tt;
   sound = tt;
@@ -142,10 +148,8 @@ pub TurnsTo-after : {A : Type 0} (Fits : Content → Type 0) (Fits' : Content �
     → ((c : Content) → Fits c → Fits' c) → TurnsTo Fits n a s turn.Continue b s1 → TurnsTo Fits' 0 b s1 t d s2 → TurnsTo Fits n a s t d s2
 TurnsTo-after Fits Fits' n a b d s s1 s2 t fit h k = record {
   limit = k.limit ∙ h.limit;
-  fits = k.fits;
   counts = TurnCounts-after n a b d t (omega (arith, h.counts)) k.counts;
   plan = k.plan ∙ h.plan;
-  within = k.within;
   asks = k.asks;
   ready = let more = h.ready in IfGoing-map t (λ (r : ready s2 + listed_items t + b.spent ≤ ready s1 + d.spent). omega (arith, r, more)) k.ready;
   sound = IfGoing-map t (λ f c w u. f c (fit c w) (h.sound c w u)) k.sound;

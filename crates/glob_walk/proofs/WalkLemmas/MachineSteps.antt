@@ -1,5 +1,5 @@
 -- What a step takes.
-use Rattle.std.proofs.Common.{◌≡◌, ◌≢◌, ℕ, ◌+◌, ◌≤◌, ◌<◌, ◌^◌, length, Bool, true, false, cond, [], ◌++◌, Option, Some, None, Ok, Err, refl, ap, sym, subst, ◌∙◌, arith}
+use Rattle.std.proofs.Common.{◌≡◌, ◌≢◌, ℕ, ◌+◌, ◌≤◌, ◌<◌, ◌^◌, length, Bool, true, false, cond, List, [], ◌++◌, Option, Some, None, Ok, Err, refl, ap, sym, subst, ◌∙◌, arith}
 use Rattle.std.specs.Prelude.{string_bytes, sum_by, nat_le}
 use Rattle.std.specs.List.{All}
 use Rattle.std.specs.Path.{root_dir, cur_dir}
@@ -13,14 +13,16 @@ use Rattle.glob_walk.specs.Questions.{Question}
 use Rattle.glob_walk.specs.Machines.{MachineState, Saying, IsAskedAfter, IsCharged, StepCounts, StepGoes, Says, Ends, is_last_step, step_outcome}
 use Rattle.glob_walk.specs.Walks.{Outcome, Charges, item_number}
 use Rattle.glob_walk.specs.declared.meter.Meter.{Meter}
+use Rattle.glob_walk.specs.declared.frame.Frame.{Frame}
+use Rattle.glob_walk.specs.declared.plan.Plan.{Plan}
 use Rattle.glob_walk.specs.declared.stack.Stack.{Stack}
 use Rattle.glob_walk.specs.declared.turn.Turn.{Turn}
 use Rattle.glob_walk.specs.declared.turn.Turn.TheVariants as turn
 use Rattle.glob_walk.specs.declared.machine.Answer.{Answer}
 use Rattle.glob_walk.specs.declared.machine.Answer.TheVariants as answer
-use Rattle.glob_walk.specs.Private.Stacks.{aim_of, frames_marks, left, ready, IsWithin, IsSound}
+use Rattle.glob_walk.specs.Private.Stacks.{aim_of, frames_marks, left, ready, IsSound}
 use Rattle.glob_walk.specs.Private.Tasks.{enter_from, state_marks, task_marks, next_marks, next_ready, state_ready, question_of, IsNextSound, IsStateSound, IsNextOpened, IsStateOpened}
-use Rattle.glob_walk.specs.Private.Frames.{unmet, is_done, IsFrameSound}
+use Rattle.glob_walk.specs.Private.Frames.{unmet, IsFrameSound}
 use Rattle.glob_walk.specs.declared.task.Task.{Task}
 use Rattle.glob_walk.specs.declared.task.TaskState.TheVariants.{Unseen}
 use Rattle.glob_walk.specs.declared.task.Accepted.TheVariants.{Any}
@@ -65,19 +67,17 @@ cleared_sound c s h = record {
 }
 
 module _ {A : Type 0} (Fits : Content → Type 0) (n : ℕ) (m m' : Meter) (s s' : Stack A) (given : ℕ) (fits : m.limit < 2 ^ 64) (w : IsUnderWay m s given) where
-  going : (t : Turn A) (k : ℕ) → m'.limit ≡ m.limit → m'.spent ≤ m'.limit → IsWithin s' → ready s' + k + m.spent ≤ ready s + m'.spent → IsNextOpened s'.plan s'.next
+  going : (t : Turn A) (k : ℕ) → m'.limit ≡ m.limit → ready s' + k + m.spent ≤ ready s + m'.spent → IsNextOpened s'.plan s'.next
       → IsGood m' s' (given + k) false
-  going t k same within in' more opened = record {
-    limit = within;
+  going t k same more opened = record {
     fits = subst (λ n. n < 2 ^ 64) (sym same) fits;
     few = omega (arith, w.ready, more);
-    going = λ _. record { within = in'; ready = omega (arith, w.ready, more); opened = opened };
+    going = λ _. record { ready = omega (arith, w.ready, more); opened = opened };
     ended = λ yes'. absurd (both_ways false refl yes');
   }
 
-  over : (k : ℕ) → k ≤ 1 → m'.limit ≡ m.limit → m.spent ≤ m'.spent → m'.spent ≤ m'.limit → question_of s'.next ≡ None → IsGood m' s' (given + k) true
-  over k one same more limit free = record {
-    limit = limit;
+  over : (k : ℕ) → k ≤ 1 → m'.limit ≡ m.limit → m.spent ≤ m'.spent → question_of s'.next ≡ None → IsGood m' s' (given + k) true
+  over k one same more free = record {
     fits = subst (λ n. n < 2 ^ 64) (sym same) fits;
     few = omega (arith, w.ready, one, more);
     going = λ h. absurd (both_ways true h refl);
@@ -87,13 +87,13 @@ module _ {A : Type 0} (Fits : Content → Type 0) (n : ℕ) (m m' : Meter) (s s'
   pub IsGood-after : (t : Turn A) → t ≢ turn.Continue → TurnsTo Fits n m s t m' s' → (is_last_turn t ≡ true → IsCleared s')
       → IsGood m' s' (given + item_number (turn_outcome t)) (is_last_turn t)
   IsGood-after turn.Continue stops r cleared = absurd (stops refl)
-  IsGood-after turn.Look stops r cleared = going turn.Look 0 r.limit r.fits r.within r.ready (opened-look s'.plan s'.next r.asks)
-  IsGood-after (turn.List kinds) stops r cleared = going (turn.List kinds) 0 r.limit r.fits r.within r.ready r.asks.1
-  IsGood-after (turn.Path p) stops r cleared = going (turn.Path p) 1 r.limit r.fits r.within r.ready (opened-free s'.plan s'.next r.asks)
-  IsGood-after (turn.Unread p e) stops r cleared = going (turn.Unread p e) 1 r.limit r.fits r.within r.ready (opened-free s'.plan s'.next r.asks)
-  IsGood-after (turn.Limit p) stops r cleared = over 1 (omega arith) r.limit (grows n m m' (turn.Limit p) r.counts) r.fits (ap question_of (cleared refl).0)
-  IsGood-after turn.Memory stops r cleared = over 1 (omega arith) r.limit (grows {A = A} n m m' turn.Memory r.counts) r.fits (ap question_of (cleared refl).0)
-  IsGood-after turn.Done stops r cleared = over 0 (omega arith) r.limit (grows {A = A} n m m' turn.Done r.counts) r.fits r.asks
+  IsGood-after turn.Look stops r cleared = going turn.Look 0 r.limit r.ready (opened-look s'.plan s'.next r.asks)
+  IsGood-after (turn.List kinds) stops r cleared = going (turn.List kinds) 0 r.limit r.ready r.asks.1
+  IsGood-after (turn.Path p) stops r cleared = going (turn.Path p) 1 r.limit r.ready (opened-free s'.plan s'.next r.asks)
+  IsGood-after (turn.Unread p e) stops r cleared = going (turn.Unread p e) 1 r.limit r.ready (opened-free s'.plan s'.next r.asks)
+  IsGood-after (turn.Limit p) stops r cleared = over 1 (omega arith) r.limit (grows n m m' (turn.Limit p) r.counts) (ap question_of (cleared refl).0)
+  IsGood-after turn.Memory stops r cleared = over 1 (omega arith) r.limit (grows {A = A} n m m' turn.Memory r.counts) (ap question_of (cleared refl).0)
+  IsGood-after turn.Done stops r cleared = over 0 (omega arith) r.limit (grows {A = A} n m m' turn.Done r.counts) r.asks
 
   -- the counts of a turn are those of its step
   counted : (t : Turn A) → t ≢ turn.Continue → TurnsTo Fits n m s t m' s' → (is_last_turn t ≡ true → IsCleared s')
@@ -104,7 +104,7 @@ module _ {A : Type 0} (Fits : Content → Type 0) (n : ℕ) (m m' : Meter) (s s'
     limit = r.limit;
     aim = ap aim_of r.plan;
     grows = grows n m m' t r.counts;
-    within = r.fits;
+    within = m'.within;
     charged = charged;
     given = ap (λ o. given + item_number o) outcome;
     few = (IsGood-after t stops r cleared).few;
@@ -193,7 +193,7 @@ goes_over m s given over' yes' a v e good answers =
         limit = refl;
         aim = refl;
         grows = omega arith;
-        within = good.limit;
+        within = m.within;
         charged = omega (arith, none);
         given = omega arith;
         few = good.few;
@@ -210,29 +210,24 @@ IsGood-fresh m s t none fits next unseen empty =
     let none_ready : next_ready s.plan s.next ≡ 0 = ap (next_ready s.plan) next ∙ ap (state_ready (nat_le (length s.plan.components.items) t.component)) unseen in
     let none_unmet : sum_by unmet s.frames.items ≡ 0 = ap (sum_by unmet) empty in
     record {
-      limit = omega (arith, none);
       fits = fits;
       few = omega arith;
       going = λ _. record {
-        within = record {
-          components = subst (All (λ f. f.component < length s.plan.components.items)) (sym empty) (All-from_recursion (λ f. f.component < length s.plan.components.items) [] tt);
-          going = subst (All (λ f. is_done f ≡ false)) (sym empty) (All-from_recursion (λ f. is_done f ≡ false) [] tt);
-        };
         ready = omega (arith, none_ready, none_unmet);
         opened = subst (IsNextOpened s.plan) (sym next) (subst (IsStateOpened s.plan t.component) (sym unseen) tt);
       };
       ended = λ yes'. absurd (both_ways false refl yes');
     }
 
-pub left-fresh : {A : Type 0} (c : Content) (s : Stack A) (t : Task A) → s.next ≡ Some t → t.state ≡ Unseen Any → t.component ≡ 0 → s.frames.items ≡ []
-    → string_bytes t.path ≡ cond s.plan.rooted root_dir cur_dir → left c s ≡ listing_of c (aim_of s.plan)
-left-fresh c s t next unseen component empty at =
-    ap (λ n. next_marks c s.plan n ++ frames_marks c s.plan s.frames.items) next
-    ∙ ap (λ fs. task_marks c s.plan t ++ frames_marks c s.plan fs) empty
-    ∙ append-nil (task_marks c s.plan t)
-    ∙ ap (λ x. state_marks c s.plan t.component (string_bytes t.path) x) unseen
-    ∙ ap (λ n. look_up c (λ seen. true) (enter_from c s.plan n) (string_bytes t.path)) component
-    ∙ ap (look_up c (λ seen. true) (enter c s.plan.options s.plan.directories s.plan.components.items)) at
+pub left-fresh : {A : Type 0} (c : Content) (plan : Plan A) (t : Task A) (frames : List (Frame A)) → t.state ≡ Unseen Any → t.component ≡ 0
+    → frames ≡ [] → string_bytes t.path ≡ cond plan.rooted root_dir cur_dir
+    → next_marks c plan (Some t) ++ frames_marks c plan frames ≡ listing_of c (aim_of plan)
+left-fresh c plan t frames unseen component empty at =
+    ap (λ fs. task_marks c plan t ++ frames_marks c plan fs) empty
+    ∙ append-nil (task_marks c plan t)
+    ∙ ap (λ x. state_marks c plan t.component (string_bytes t.path) x) unseen
+    ∙ ap (λ n. look_up c (λ seen. true) (enter_from c plan n) (string_bytes t.path)) component
+    ∙ ap (look_up c (λ seen. true) (enter c plan.options plan.directories plan.components.items)) at
 
 pub sound-fresh : {A : Type 0} (c : Content) (s : Stack A) (t : Task A) → s.next ≡ Some t → t.state ≡ Unseen Any → s.frames.items ≡ [] → IsSound c s
 sound-fresh c s t next unseen empty = record {

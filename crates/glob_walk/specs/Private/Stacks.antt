@@ -1,5 +1,5 @@
 -- What a walk has still to do, as a part of the written listing.
-use Rattle.std.specs.Prelude.{◌≡◌, false, ℕ, ◌+◌, ◌*◌, ◌<◌, List, ◌++◌, length, reverse, flat_map, Option, Some, None, sum_by}
+use Rattle.std.specs.Prelude.{ℕ, ◌+◌, ◌*◌, List, ◌++◌, reverse, flat_map, Option, Some, None, sum_by}
 use Rattle.std.specs.List.{All}
 use Rattle.glob_walk.specs.Aims.{Aim}
 use Rattle.glob_walk.specs.Marks.{Mark}
@@ -11,7 +11,7 @@ use Rattle.glob_walk.specs.declared.task.TaskState.TheVariants as state
 use Rattle.glob_walk.specs.declared.frame.Frame.{Frame}
 use Rattle.glob_walk.specs.declared.stack.Stack.{Stack}
 use Rattle.glob_walk.specs.Private.Tasks.{next_marks, next_ready, IsNextSound}
-use Rattle.glob_walk.specs.Private.Frames.{frame_marks, is_done, steps_left, unmet, IsFrameSound}
+use Rattle.glob_walk.specs.Private.Frames.{frame_marks, steps_left, unmet, IsFrameSound}
 
 -- what a walk by the plan looks for
 abbrev pub aim_of : {A : Type 0} → Plan A → Aim
@@ -50,11 +50,6 @@ weight s = next_weight s.next + sum_by frame_weight s.frames.items
 -- how many items may come before the next unit
 abbrev pub ready : {A : Type 0} → Stack A → ℕ
 ready s = next_ready s.plan s.next + sum_by unmet s.frames.items
-
--- each directory is one of a component, and something is left in it
-pub record IsWithin {A : Type 0} (s : Stack A) : Type 0 where
-  pub components : All (λ f. f.component < length s.plan.components.items) s.frames.items
-  pub going : All (λ f. is_done f ≡ false) s.frames.items
 
 -- what is said to be a directory is looked at as one
 pub record IsSound {A : Type 0} (c : Content) (s : Stack A) : Type 0 where

@@ -15,7 +15,7 @@ use Rattle.glob_tree.specs.declared.tree.Entry.{Entry}
 use Rattle.glob_walk.specs.declared.stack.Stack.{Stack}
 use Rattle.glob_walk.specs.declared.task.TaskState.{TaskState}
 use Rattle.glob_walk.specs.Private.Tasks.{question_of, IsNextOpened}
-use Rattle.glob_walk.specs.Private.Stacks.{left, ready, IsWithin, IsSound}
+use Rattle.glob_walk.specs.Private.Stacks.{left, ready, IsSound}
 
 -- what a turn takes from the front of what was left, and what is then asked for
 abbrev pub TurnOf : {A : Type 0} → List Mark → ℕ → Turn A → Option Question → List Mark → ℕ → Type 0
@@ -72,10 +72,8 @@ IsAskedBy _ s = question_of s.next ≡ None
 pub record TurnsTo {A : Type 0} (Fits : Content → Type 0) (n : ℕ) (old : Meter) (s : Stack A) (t : Turn A) (new : Meter)
     (s' : Stack A) : Type 0 where
   pub limit : new.limit ≡ old.limit
-  pub fits : new.spent ≤ new.limit
   pub counts : TurnCounts n old t new
   pub plan : s'.plan ≡ s.plan
-  pub within : IfGoing t (IsWithin s')
   pub asks : IsAskedBy t s'
   -- the items that may come before the next unit are as many as before, and one more for each unit that was charged
   pub ready : IfGoing t (ready s' + listed_items t + old.spent ≤ ready s + new.spent)

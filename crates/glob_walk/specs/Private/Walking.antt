@@ -8,19 +8,17 @@ use Rattle.glob_walk.specs.declared.stack.Stack.{Stack}
 use Rattle.glob_walk.specs.declared.turn.Turn.{Turn}
 use Rattle.glob_walk.specs.declared.turn.Turn.TheVariants as turn
 use Rattle.glob_walk.specs.Private.Tasks.{question_of, IsNextOpened}
-use Rattle.glob_walk.specs.Private.Stacks.{ready, IsWithin}
+use Rattle.glob_walk.specs.Private.Stacks.{ready}
 use Rattle.glob_walk.specs.declared.machine.Step.{Step}
 use Rattle.glob_walk.specs.Machines.{Saying, AsksLook, AsksList, Says, Ends, saying}
 
 -- what is true of a walk that is not over
 pub record IsUnderWay {A : Type 0} (meter : Meter) (stack : Stack A) (given : ℕ) : Type 0 where
-  pub within : IsWithin stack
   pub ready : given + ready stack ≤ meter.spent
   pub opened : IsNextOpened stack.plan stack.next
 
 -- what is true of a walk between two steps, over or not
 pub record IsGood {A : Type 0} (meter : Meter) (stack : Stack A) (given : ℕ) (over : Bool) : Type 0 where
-  pub limit : meter.spent ≤ meter.limit
   pub fits : meter.limit < 2 ^ 64
   pub few : given ≤ meter.spent + 1
   pub going : over ≡ false → IsUnderWay meter stack given

@@ -1,4 +1,4 @@
-use Rattle.std.proofs.Common.{rules, refl, Some}
+use Rattle.std.proofs.Common.{rules, refl}
 use Rattle.glob_walk.specs.declared.task.TaskState.TheVariants.{Unseen}
 use Rattle.glob_walk.specs.declared.task.Accepted.TheVariants.{Any}
 use Rattle.glob_walk.proofs.WalkLemmas.MachineSteps.{IsGood-fresh, sound-fresh, left-fresh}
@@ -15,5 +15,6 @@ returns-clause-fresh g c = record {
   over = refl;
   asked = refl;
   agrees = λ c'. sound-fresh c' _ _ refl refl (search rules);
-  whole = λ c'. left-fresh c' (record { plan = c.args.plan; next = Some (record { path = c.args.start; component = 0; state = Unseen Any }); frames = c.new-frames.result }) (record { path = c.args.start; component = 0; state = Unseen Any }) refl refl refl (search rules) c.requires.start;
+  whole = λ c'. left-fresh c' c.args.plan (record { path = c.args.start; component = 0; state = Unseen Any }) c.new-frames.result.items
+      refl refl (search rules) c.requires.start;
 }

@@ -22,9 +22,6 @@ pub returns-then-self-clause-driven : goal.returns-then-self-clause-driven
 returns-then-self-clause-driven g c = λ x all given fits h.
     gives_next (IsAnswered c.args.self.now.asked c.args.answer) (answer_count c.args.answer) all x given c.args.self.now Ends c.args.self.now (returns-then-self-clause-steps g c) fits h
 
-pub proceed-turn-requires-clause-within : goal.proceed-turn-requires-clause-within
-proceed-turn-requires-clause-within g c = (c.self.invariant.going c.if-self.false).within
-
 pub proceed-turn-requires-clause-opened : goal.proceed-turn-requires-clause-opened
 proceed-turn-requires-clause-opened g c = (c.self.invariant.going c.if-self.false).opened
 
@@ -36,7 +33,7 @@ overflow_add-self g c =
     let one : c.item_count.result ≤ 1 = subst (λ n. n ≤ 1) (sym c.item_count.ensures) (one_item c.proceed-turn.result) in
     let few = c.self.invariant.few in
     let fits = c.self.invariant.fits in
-    let limit = c.self.invariant.limit in
+    let limit = c.self.inside.walker.meter.within in
     let small : c.self.inside.given + c.item_count.result ≤ 2 ^ 64 + 1 = omega (arith, one, few, fits, limit) in
     search rules
 

@@ -1,9 +1,10 @@
-use Rattle.std.proofs.Common.{refl, ◌≡◌, ◌+◌, ◌<◌, ◌++◌, ◌∙◌, true, false, length, subst, sym, ap, arith, rules}
+use Rattle.std.proofs.Common.{refl, ◌≡◌, ◌+◌, ◌++◌, ◌∙◌, true, subst, sym, ap, arith}
 use Rattle.std.specs.List.{All, sum_by}
 use Rattle.std.proofs.lemmas.List.Elements.{All-push}
 use Rattle.std.proofs.lemmas.Result.{err_from_is_err_and}
 use Rattle.std.proofs.lemmas.List.Sums.{sum_by_push}
 use Rattle.glob_walk.specs.Private.Frames.{frame_marks, is_done, unmet, IsFrameSound}
+use Rattle.glob_walk.specs.Private.Tasks.{next_marks}
 use Rattle.glob_walk.specs.Private.Stacks.{left, frames_marks}
 use Rattle.glob_walk.proofs.WalkLemmas.Stacking.{done_marks, left_none, frames_last}
 use Rattle.glob_walk.proofs.stack.Stack.open.Goals as goal
@@ -21,7 +22,7 @@ returns-then-is_done-clause-sound g c = λ c' f s. s
 
 pub returns-clause-left : goal.returns-clause-left
 returns-clause-left g c = λ c'.
-    sym (left_none c' (record { plan = c.args.self.now.plan; next = c.args.self.now.next; frames = c.push.new.self }) c.requires.none)
+    ap (λ n. next_marks c' c.args.self.now.plan n ++ frames_marks c' c.args.self.now.plan c.push.new.self.items) c.requires.none
     ∙ ap (frames_marks c' c.args.self.now.plan) c.in_ok-push.ensures.items
     ∙ frames_last c' c.args.self.now.plan c.args.self.now.frames.items c.args.frame
     ∙ ap (λ ms. frame_marks c' c.args.self.now.plan c.args.frame ++ ms) (left_none c' c.args.self.now c.requires.none)
@@ -32,16 +33,6 @@ returns-clause-ready g c =
     ap (sum_by unmet) c.in_ok-push.ensures.items ∙ sum_by_push unmet c.args.self.now.frames.items c.args.frame in
     omega (arith, more)
 
-pub returns-clause-within : goal.returns-clause-within
-returns-clause-within g c =
-    let going : is_done c.args.frame ≡ false = sym c.is_done.ensures ∙ c.if-is_done.false in
-    record {
-      components = subst (All (λ f. f.component < length c.args.self.now.plan.components.items)) (sym c.in_ok-push.ensures.items)
-          (All-push (λ f. f.component < length c.args.self.now.plan.components.items) c.args.self.now.frames.items c.args.frame c.requires.within.components (search rules));
-      going = subst (All (λ f. is_done f ≡ false)) (sym c.in_ok-push.ensures.items)
-          (All-push (λ f. is_done f ≡ false) c.args.self.now.frames.items c.args.frame c.requires.within.going going);
-    }
-
 pub returns-clause-sound : goal.returns-clause-sound
 returns-clause-sound g c = λ c' f h. record { next = h.next; frames = subst (All (IsFrameSound c')) (sym c.in_ok-push.ensures.items) (All-push (IsFrameSound c') c.args.self.now.frames.items c.args.frame h.frames f) }
 
@@ -50,9 +41,6 @@ returns-then-is_done-clause-plan g c = refl
 
 pub returns-then-is_done-clause-next : goal.returns-then-is_done-clause-next
 returns-then-is_done-clause-next g c = c.requires.none
-
-pub returns-then-is_done-clause-within : goal.returns-then-is_done-clause-within
-returns-then-is_done-clause-within g c = record { components = c.requires.within.components; going = c.requires.within.going }
 
 pub returns-in_err-push-clause-plan : goal.returns-in_err-push-clause-plan
 returns-in_err-push-clause-plan g c = refl

@@ -37,79 +37,58 @@ last-holds P xs n x h is all = subst P (sym is) (All-get_or P xs n x (omega (ari
 pub returns-else-is_done-clause-left : goal.returns-else-is_done-clause-left
 returns-else-is_done-clause-left g c = λ c'.
     ap (λ n. next_marks c' c.args.self.now.plan n ++ frames_marks c' c.args.self.now.plan c.args.self.now.frames.items) c.requires.none
-    ∙ step_left c' c.args.self.now.plan c.args.self.now.frames.items (vec_len c.args.self.now.frames - 1) c.in-Some.frame.now c.step.new.self (next_marks c' c.args.self.now.plan c.in_ok-self.field-0)
-    (omega (arith, c.in-Some.ensures.variant.0 refl, c.args.self.now.frames.ok.0)) c.in-Some.ensures.value (c.in_ok-self.ensures.marks c')
+    ∙ step_left c' c.args.self.now.plan c.args.self.now.frames.items (vec_len c.args.self.now.frames - 1) c.in-Some.frame.now c.step.new.self (next_marks c' c.args.self.now.plan c.in-Ok.task)
+    (omega (arith, c.in-Some.ensures.variant.0 refl, c.args.self.now.frames.ok.0)) c.in-Some.ensures.value (c.in-Ok.ensures.marks c')
 
 pub returns-then-is_done-clause-left : goal.returns-then-is_done-clause-left
 returns-then-is_done-clause-left g c = λ c'.
     let done : is_done c.step.new.self ≡ true = sym c.is_done.ensures ∙ c.if-is_done.true in
     ap (λ n. next_marks c' c.args.self.now.plan n ++ frames_marks c' c.args.self.now.plan c.args.self.now.frames.items) c.requires.none
-    ∙ last_step_left c' c.args.self.now.plan c.args.self.now.frames.items c.pop.new.self.items (vec_len c.args.self.now.frames - 1) c.in-Some.frame.now c.step.new.self (next_marks c' c.args.self.now.plan c.in_ok-self.field-0)
-    (omega (arith, c.in-Some.ensures.variant.0 refl, c.args.self.now.frames.ok.0)) c.in-Some.ensures.value (c.in_ok-self.ensures.marks c') done c.pop.ensures.rest
-
-pub returns-then-is_done-clause-within : goal.returns-then-is_done-clause-within
-returns-then-is_done-clause-within g c =
-    let n = vec_len c.args.self.now.frames - 1 in
-    record {
-      components = All-front (λ f. f.component < length c.args.self.now.plan.components.items) c.args.self.now.frames.items c.pop.new.self.items n c.step.new.self (omega (arith, c.in-Some.ensures.variant.0 refl, c.args.self.now.frames.ok.0)) c.pop.ensures.rest c.requires.within.components;
-      going = All-front (λ f. is_done f ≡ false) c.args.self.now.frames.items c.pop.new.self.items n c.step.new.self (omega (arith, c.in-Some.ensures.variant.0 refl, c.args.self.now.frames.ok.0)) c.pop.ensures.rest c.requires.within.going;
-    }
+    ∙ last_step_left c' c.args.self.now.plan c.args.self.now.frames.items c.pop-then-is_done.new.self.items (vec_len c.args.self.now.frames - 1) c.in-Some.frame.now c.step.new.self (next_marks c' c.args.self.now.plan c.in-Ok.task)
+    (omega (arith, c.in-Some.ensures.variant.0 refl, c.args.self.now.frames.ok.0)) c.in-Some.ensures.value (c.in-Ok.ensures.marks c') done c.pop-then-is_done.ensures.rest
 
 pub returns-then-is_done-clause-sound : goal.returns-then-is_done-clause-sound
 returns-then-is_done-clause-sound g c = λ c' h.
     let frame : IsFrameSound c' c.in-Some.frame.now =
     last-holds (IsFrameSound c') c.args.self.now.frames.items (vec_len c.args.self.now.frames - 1) c.in-Some.frame.now (omega (arith, c.in-Some.ensures.variant.0 refl, c.args.self.now.frames.ok.0)) c.in-Some.ensures.value h.frames in
     record {
-      next = c.in_ok-self.ensures.sound c' frame;
-      frames = All-front (IsFrameSound c') c.args.self.now.frames.items c.pop.new.self.items (vec_len c.args.self.now.frames - 1) c.step.new.self (omega (arith, c.in-Some.ensures.variant.0 refl, c.args.self.now.frames.ok.0)) c.pop.ensures.rest h.frames;
+      next = c.in-Ok.ensures.sound c' frame;
+      frames = All-front (IsFrameSound c') c.args.self.now.frames.items c.pop-then-is_done.new.self.items (vec_len c.args.self.now.frames - 1) c.step.new.self (omega (arith, c.in-Some.ensures.variant.0 refl, c.args.self.now.frames.ok.0)) c.pop-then-is_done.ensures.rest h.frames;
     }
 
 pub returns-else-is_done-clause-falls : goal.returns-else-is_done-clause-falls
 returns-else-is_done-clause-falls g c = λ _.
     let n = vec_len c.args.self.now.frames - 1 in
     let sums = sum-at frame_weight c.args.self.now.frames.items n c.in-Some.frame.now c.step.new.self (omega (arith, c.in-Some.ensures.variant.0 refl, c.args.self.now.frames.ok.0)) c.in-Some.ensures.value in
-    omega (arith, sums, next-light c.in_ok-self.field-0, c.in_ok-self.ensures.falls)
+    omega (arith, sums, next-light c.in-Ok.task, c.in-Ok.ensures.falls)
 
 pub returns-else-is_done-clause-ready : goal.returns-else-is_done-clause-ready
 returns-else-is_done-clause-ready g c =
     let n = vec_len c.args.self.now.frames - 1 in
     let sums = sum-at unmet c.args.self.now.frames.items n c.in-Some.frame.now c.step.new.self (omega (arith, c.in-Some.ensures.variant.0 refl, c.args.self.now.frames.ok.0)) c.in-Some.ensures.value in
-    omega (arith, sums, c.in_ok-self.ensures.ready)
+    omega (arith, sums, c.in-Ok.ensures.ready)
 
 pub returns-then-is_done-clause-falls : goal.returns-then-is_done-clause-falls
 returns-then-is_done-clause-falls g c = λ _.
     let n = vec_len c.args.self.now.frames - 1 in
-    let sums = sum-front frame_weight c.args.self.now.frames.items c.pop.new.self.items n c.in-Some.frame.now c.step.new.self (omega (arith, c.in-Some.ensures.variant.0 refl, c.args.self.now.frames.ok.0)) c.in-Some.ensures.value c.pop.ensures.rest in
-    omega (arith, sums, next-light c.in_ok-self.field-0, c.in_ok-self.ensures.falls)
+    let sums = sum-front frame_weight c.args.self.now.frames.items c.pop-then-is_done.new.self.items n c.in-Some.frame.now c.step.new.self (omega (arith, c.in-Some.ensures.variant.0 refl, c.args.self.now.frames.ok.0)) c.in-Some.ensures.value c.pop-then-is_done.ensures.rest in
+    omega (arith, sums, next-light c.in-Ok.task, c.in-Ok.ensures.falls)
 
 pub returns-then-is_done-clause-ready : goal.returns-then-is_done-clause-ready
 returns-then-is_done-clause-ready g c =
     let n = vec_len c.args.self.now.frames - 1 in
-    let sums = sum-front unmet c.args.self.now.frames.items c.pop.new.self.items n c.in-Some.frame.now c.step.new.self (omega (arith, c.in-Some.ensures.variant.0 refl, c.args.self.now.frames.ok.0)) c.in-Some.ensures.value c.pop.ensures.rest in
-    omega (arith, sums, c.in_ok-self.ensures.ready)
+    let sums = sum-front unmet c.args.self.now.frames.items c.pop-then-is_done.new.self.items n c.in-Some.frame.now c.step.new.self (omega (arith, c.in-Some.ensures.variant.0 refl, c.args.self.now.frames.ok.0)) c.in-Some.ensures.value c.pop-then-is_done.ensures.rest in
+    omega (arith, sums, c.in-Ok.ensures.ready)
 
 pub step-requires-clause-going : goal.step-requires-clause-going
 step-requires-clause-going g c =
     last-holds (λ f. is_done f ≡ false) c.args.self.now.frames.items (vec_len c.args.self.now.frames - 1) c.in-Some.frame.now
-    (omega (arith, c.in-Some.ensures.variant.0 refl, c.args.self.now.frames.ok.0)) c.in-Some.ensures.value c.requires.within.going
+    (omega (arith, c.in-Some.ensures.variant.0 refl, c.args.self.now.frames.ok.0)) c.in-Some.ensures.value c.args.self.now.going
 
 pub step-requires-clause-within : goal.step-requires-clause-within
 step-requires-clause-within g c =
-    let below = last-holds (λ f. f.component < length c.args.self.now.plan.components.items) c.args.self.now.frames.items (vec_len c.args.self.now.frames - 1) c.in-Some.frame.now
-    (omega (arith, c.in-Some.ensures.variant.0 refl, c.args.self.now.frames.ok.0)) c.in-Some.ensures.value c.requires.within.components in
-    omega (arith, below, c.args.self.now.plan.components.ok.0)
-
-pub returns-else-is_done-clause-within : goal.returns-else-is_done-clause-within
-returns-else-is_done-clause-within g c =
-    let n = vec_len c.args.self.now.frames - 1 in
-    let going : is_done c.step.new.self ≡ false = sym c.is_done.ensures ∙ c.if-is_done.false in
-    let frame = last-holds (λ f. f.component < length c.args.self.now.plan.components.items) c.args.self.now.frames.items n c.in-Some.frame.now
-    (omega (arith, c.in-Some.ensures.variant.0 refl, c.args.self.now.frames.ok.0)) c.in-Some.ensures.value c.requires.within.components in
-    let component = subst (λ f. f.component < length c.args.self.now.plan.components.items) (sym c.in_ok-self.ensures.same) frame in
-    record {
-      components = All-set (λ f. f.component < length c.args.self.now.plan.components.items) c.args.self.now.frames.items n c.step.new.self component c.requires.within.components;
-      going = All-set (λ f. is_done f ≡ false) c.args.self.now.frames.items n c.step.new.self going c.requires.within.going;
-    }
+    last-holds (λ f. f.component < vec_len c.args.self.now.plan.components) c.args.self.now.frames.items (vec_len c.args.self.now.frames - 1) c.in-Some.frame.now
+    (omega (arith, c.in-Some.ensures.variant.0 refl, c.args.self.now.frames.ok.0)) c.in-Some.ensures.value c.args.self.now.components
 
 pub returns-else-is_done-clause-sound : goal.returns-else-is_done-clause-sound
 returns-else-is_done-clause-sound g c = λ c' h.
@@ -117,6 +96,6 @@ returns-else-is_done-clause-sound g c = λ c' h.
     let frame : IsFrameSound c' c.in-Some.frame.now =
     last-holds (IsFrameSound c') c.args.self.now.frames.items n c.in-Some.frame.now (omega (arith, c.in-Some.ensures.variant.0 refl, c.args.self.now.frames.ok.0)) c.in-Some.ensures.value h.frames in
     record {
-      next = c.in_ok-self.ensures.sound c' frame;
-      frames = All-set (IsFrameSound c') c.args.self.now.frames.items n c.step.new.self (subst (IsFrameSound c') (sym c.in_ok-self.ensures.same) (record { entries = frame.entries })) h.frames;
+      next = c.in-Ok.ensures.sound c' frame;
+      frames = All-set (IsFrameSound c') c.args.self.now.frames.items n c.step.new.self (subst (IsFrameSound c') (sym c.in-Ok.ensures.same) (record { entries = frame.entries })) h.frames;
     }

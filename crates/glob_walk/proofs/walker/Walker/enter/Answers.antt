@@ -9,7 +9,7 @@ use Rattle.glob_walk.proofs.WalkLemmas.Naming.{ended, opened_none}
 use Rattle.glob_walk.proofs.WalkLemmas.Merging.{opened_for}
 use Rattle.glob_walk.proofs.WalkLemmas.Stacking.{left_none}
 use Rattle.glob_walk.proofs.walker.Walker.enter.Goals as goal
-use Rattle.glob_walk.proofs.walker.Walker.enter.Goals.{then-is_dir-via-then-is_dir, then-is_dir-via-else-is_dir+then-not-self}
+use Rattle.glob_walk.proofs.walker.Walker.enter.Goals.{then-is_dir-via-then-is_dir, then-is_dir-via-else-is_dir+then-not-plan}
 
 -- a directory is given, and anything else where directories are not wanted
 gives-directory : (directories d : Bool) → d ≡ true → (not directories || d) ≡ true
@@ -35,10 +35,8 @@ ready_none r before rest spent none = omega arith
 pub returns-then-is_literal-clause-turn : goal.returns-then-is_literal-clause-turn
 returns-then-is_literal-clause-turn g c = record {
   limit = refl;
-  fits = c.requires.limit;
   counts = unchanged c.args.self.now.meter.spent;
   plan = refl;
-  within = record { components = c.requires.within.components; going = c.requires.within.going };
   asks = search rules;
   ready = search rules;
   sound = λ c' w h. record { next = c.in-Ok.ensures.sound c'; frames = h.frames };
@@ -61,10 +59,8 @@ returns-then-not-is_dir-clause-turn g c =
     opened_for plan.components.items c.args.number c.in-Some.component.now plan.merged c.in-Some.ensures.rest other (is_recursive c.in-Some.component.now) refl in
     record {
       limit = refl;
-      fits = c.requires.limit;
       counts = unchanged c.args.self.now.meter.spent;
       plan = refl;
-      within = record { components = c.requires.within.components; going = c.requires.within.going };
       asks = ap question_of c.requires.none;
       ready = ready_none _ _ _ _ (ap (next_ready c.args.self.now.stack.plan) c.requires.none);
       sound = λ c' w h. record { next = subst (IsNextSound c') (sym c.requires.none) tt; frames = h.frames };
@@ -75,13 +71,11 @@ returns-then-not-is_dir-clause-turn g c =
 pub returns-then-is_dir-clause-turn : goal.returns-then-is_dir-clause-turn
 returns-then-is_dir-clause-turn g c =
     let given : (not c.args.self.now.stack.plan.directories || c.args.is_dir) ≡ true =
-    elim c.then-is_dir.branch [ then-is_dir-via-then-is_dir w ↦ gives-directory c.args.self.now.stack.plan.directories c.args.is_dir (search rules) | then-is_dir-via-else-is_dir+then-not-self w ↦ gives-any c.args.self.now.stack.plan.directories c.args.is_dir (search rules) ] in
+    elim c.then-is_dir.branch [ then-is_dir-via-then-is_dir w ↦ gives-directory c.args.self.now.stack.plan.directories c.args.is_dir (search rules) | then-is_dir-via-else-is_dir+then-not-plan w ↦ gives-any c.args.self.now.stack.plan.directories c.args.is_dir (search rules) ] in
     record {
       limit = refl;
-      fits = c.requires.limit;
       counts = unchanged c.args.self.now.meter.spent;
       plan = refl;
-      within = record { components = c.requires.within.components; going = c.requires.within.going };
       asks = ap question_of c.requires.none;
       ready = search rules;
       sound = λ c' w h. record { next = subst (IsNextSound c') (sym c.requires.none) tt; frames = h.frames };
@@ -96,10 +90,8 @@ returns-in_default-clause-turn g c =
     let kept : (not c.args.self.now.stack.plan.directories || c.args.is_dir) ≡ false = gives-none c.args.self.now.stack.plan.directories c.args.is_dir (search rules) (search rules) in
     record {
       limit = refl;
-      fits = c.requires.limit;
       counts = unchanged c.args.self.now.meter.spent;
       plan = refl;
-      within = record { components = c.requires.within.components; going = c.requires.within.going };
       asks = ap question_of c.requires.none;
       ready = ready_none _ _ _ _ (ap (next_ready c.args.self.now.stack.plan) c.requires.none);
       sound = λ c' w h. record { next = subst (IsNextSound c') (sym c.requires.none) tt; frames = h.frames };
@@ -110,4 +102,4 @@ returns-in_default-clause-turn g c =
     }
 
 pub returns-in_default-literal_task-clause-turn : goal.returns-in_default-literal_task-clause-turn
-returns-in_default-literal_task-clause-turn g c = TurnsTo-memory _ _ _ _ _ c.requires.limit refl refl
+returns-in_default-literal_task-clause-turn g c = TurnsTo-memory _ _ _ _ _ refl refl

@@ -8,10 +8,8 @@ use Rattle.glob_walk.proofs.walker.Walker.list.Goals as goal
 pub returns-then-not-charge-clause-turn : goal.returns-then-not-charge-clause-turn
 returns-then-not-charge-clause-turn g c = record {
   limit = c.charge.ensures.limit;
-  fits = c.charge.ensures.within;
   counts = search rules;
   plan = refl;
-  within = tt;
   asks = tt;
   ready = tt;
   sound = tt;
@@ -29,10 +27,8 @@ returns-then-not-charge-clause-turn g c = record {
 pub returns-clause-turn : goal.returns-clause-turn
 returns-clause-turn g c = record {
   limit = c.charge.ensures.limit;
-  fits = c.charge.ensures.within;
   counts = search rules;
   plan = refl;
-  within = record { components = c.requires.within.components; going = c.requires.within.going };
   asks = (refl, record { within = search rules; opens = c.requires.opens; names = c.needs_kinds-kinds.ensures });
   ready = search rules;
   sound = λ c' w h. record { next = h.next refl; frames = h.frames };

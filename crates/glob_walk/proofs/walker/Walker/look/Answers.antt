@@ -4,10 +4,8 @@ use Rattle.glob_walk.proofs.walker.Walker.look.Goals as goal
 pub returns-then-not-charge-clause-turn : goal.returns-then-not-charge-clause-turn
 returns-then-not-charge-clause-turn g c = record {
   limit = c.charge.ensures.limit;
-  fits = c.charge.ensures.within;
   counts = search rules;
   plan = refl;
-  within = tt;
   asks = tt;
   ready = tt;
   sound = tt;
@@ -17,10 +15,8 @@ returns-then-not-charge-clause-turn g c = record {
 pub returns-clause-turn : goal.returns-clause-turn
 returns-clause-turn g c = record {
   limit = c.charge.ensures.limit;
-  fits = c.charge.ensures.within;
   counts = search rules;
   plan = refl;
-  within = record { components = c.requires.within.components; going = c.requires.within.going };
   asks = tt;
   ready = search rules;
   sound = λ c' w h. record { next = tt; frames = h.frames };

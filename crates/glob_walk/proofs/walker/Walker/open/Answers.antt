@@ -34,21 +34,19 @@ returns-then-not-charge_entries g c =
     omega (arith, (c.charge_entries.ensures.refused c.if-not-charge_entries.true).1, c.len.ensures, c.args.entries.ok.0) in
     record {
       limit = c.charge_entries.ensures.limit;
-      fits = c.charge_entries.ensures.within;
       counts = (
         at ∙ sym c.charge_entries.ensures.limit,
         omega (arith, few, c.charge_entries.ensures.limit, c.args.entries.ok.0),
-        omega (arith, at, c.requires.limit),
+        omega (arith, at, c.args.self.now.meter.within),
       );
       plan = refl;
-      within = tt;
       asks = tt;
       ready = tt;
       sound = tt;
       takes = λ c' w h.
           subst (λ n. StopsAt (drop 1 (enter_from c' c.args.self.now.stack.plan c.args.component (string_bytes c.args.path) true) ++ frames_marks c' c.args.self.now.stack.plan c.args.self.now.stack.frames.items) c.args.self.now.meter.spent (string_bytes c.args.path) n) (sym at)
           (opened_cut c' (IsContent-from_test c' w.0) c.args.self.now.stack.plan c.args.recursive c.args.component (string_bytes c.args.path) c.requires.listed.opens h.next
-          (frames_marks c' c.args.self.now.stack.plan c.args.self.now.stack.frames.items) c.args.self.now.meter.spent c.args.self.now.meter.limit c.requires.limit
+          (frames_marks c' c.args.self.now.stack.plan c.args.self.now.stack.frames.items) c.args.self.now.meter.spent c.args.self.now.meter.limit c.args.self.now.meter.within
           (is_cut c' (string_bytes c.args.path) c.args.kinds c.args.entries.items c.args.self.now.meter.spent c.args.self.now.meter.limit w.1 few));
     }
 
@@ -59,10 +57,8 @@ returns-in-Ok g c =
     c.charge_entries.ensures.charged c.if-not-charge_entries.false ∙ ap (λ n. c.args.self.now.meter.spent + n) c.len.ensures in
     record {
       limit = c.charge_entries.ensures.limit;
-      fits = c.charge_entries.ensures.within;
       counts = counted _ _ _ charged;
       plan = c.open.ensures.plan;
-      within = c.in-Ok.ensures.within;
       asks = ap question_of c.open.ensures.next;
       ready = let r = c.in-Ok.ensures.ready in let f = first_unmet (length c.sort_entries.new.entries.items) c.is_dotted.result c.if-is_dotted.cursor cursor in let l = c.sort_entries.ensures.len in
           let none : next_ready c.args.self.now.stack.plan c.args.self.now.stack.next ≡ 0 = ap (next_ready c.args.self.now.stack.plan) c.requires.none in
@@ -89,10 +85,8 @@ returns-in-Err g c =
     c.charge_entries.ensures.charged c.if-not-charge_entries.false ∙ ap (λ n. c.args.self.now.meter.spent + n) c.len.ensures in
     record {
       limit = c.charge_entries.ensures.limit;
-      fits = c.charge_entries.ensures.within;
       counts = counted _ _ _ charged;
       plan = c.open.ensures.plan;
-      within = tt;
       asks = tt;
       ready = tt;
       sound = tt;

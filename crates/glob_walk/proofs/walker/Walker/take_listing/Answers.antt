@@ -38,10 +38,8 @@ returns-in-Err-Read-clause-turn g c =
     let t : Task _ = record { path = c.args.path; component = c.args.component; state = Listing c.args.recursive c.args.kinds } in
     record {
       limit = refl;
-      fits = c.requires.limit;
       counts = search rules;
       plan = refl;
-      within = record { components = c.requires.within.components; going = c.requires.within.going };
       asks = ap question_of c.requires.none;
       ready = search rules;
       sound = λ c' w h. record { next = subst (IsNextSound c') (sym c.requires.none) tt; frames = h.frames };
@@ -53,4 +51,4 @@ returns-in-Err-Read-clause-turn g c =
     }
 
 pub returns-in-Err-Memory-clause-turn : goal.returns-in-Err-Memory-clause-turn
-returns-in-Err-Memory-clause-turn g c = TurnsTo-memory _ _ _ _ _ c.requires.limit (search rules) refl
+returns-in-Err-Memory-clause-turn g c = TurnsTo-memory _ _ _ _ _ (search rules) refl

@@ -3,4 +3,4 @@ use Rattle.glob_walk.proofs.WalkLemmas.Charging.{TurnsTo-memory}
 use Rattle.glob_walk.proofs.walker.Walker.take_look.Goals as goal
 
 pub returns-in_default-clause-turn : goal.returns-in_default-clause-turn
-returns-in_default-clause-turn g c = TurnsTo-memory _ _ _ _ _ c.requires.limit refl refl
+returns-in_default-clause-turn g c = TurnsTo-memory _ _ _ _ _ refl refl

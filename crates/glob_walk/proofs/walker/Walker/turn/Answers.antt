@@ -6,29 +6,14 @@ use Rattle.glob_walk.specs.Private.Stacks.{frames_marks, next_weight, state_weig
 use Rattle.glob_walk.proofs.WalkLemmas.Charging.{TurnsTo-memory, TurnsTo-task, uncharged}
 use Rattle.glob_walk.proofs.walker.Walker.turn.Goals as goal
 
-pub step-requires-clause-none : goal.step-requires-clause-none
-step-requires-clause-none g c = c.take.ensures.after
+pub step-requires : goal.step-requires
+step-requires g c = record { none = c.take.ensures.after }
 
-pub step-requires-clause-within : goal.step-requires-clause-within
-step-requires-clause-within g c = record { components = c.requires.within.components; going = c.requires.within.going }
+pub look-requires : goal.look-requires
+look-requires g c = record { none = c.take.ensures.after }
 
-pub look-requires-clause-limit : goal.look-requires-clause-limit
-look-requires-clause-limit g c = c.requires.limit
-
-pub look-requires-clause-none : goal.look-requires-clause-none
-look-requires-clause-none g c = c.take.ensures.after
-
-pub look-requires-clause-within : goal.look-requires-clause-within
-look-requires-clause-within g c = record { components = c.requires.within.components; going = c.requires.within.going }
-
-pub enter-requires-clause-limit : goal.enter-requires-clause-limit
-enter-requires-clause-limit g c = c.requires.limit
-
-pub enter-requires-clause-none : goal.enter-requires-clause-none
-enter-requires-clause-none g c = c.take.ensures.after
-
-pub enter-requires-clause-within : goal.enter-requires-clause-within
-enter-requires-clause-within g c = record { components = c.requires.within.components; going = c.requires.within.going }
+pub enter-requires : goal.enter-requires
+enter-requires g c = record { none = c.take.ensures.after }
 
 pub returns-in-Ok-true-clause-falls : goal.returns-in-Ok-true-clause-falls
 returns-in-Ok-true-clause-falls g c = λ _. omega (arith, c.in-Ok-true.ensures.falls c.in-Ok-true.field-0-test, ap next_weight c.take.ensures.after)
@@ -41,7 +26,7 @@ returns-in-Unseen-clause-idle g c = λ none _. let next : c.args.self.now.stack.
 
 pub returns-in-Unseen-clause-turn : goal.returns-in-Unseen-clause-turn
 returns-in-Unseen-clause-turn g c =
-    TurnsTo-task (λ _. IsSomeContent) 0 c.args.self.now.meter c.look.new.self.meter c.args.self.now.stack c.look.new.self.stack c.in-Some.task (Unseen c.in-Unseen.accepted)
+    TurnsTo-task (λ _. IsSomeContent) 0 c.args.self.now.meter c.look.new.self.meter c.args.self.now.stack c.look.new.self.stack _ _ c.in-Some.task (Unseen c.in-Unseen.accepted)
     c.look.result (sym c.take.ensures.value ∙ c.in-Some.is) c.in-Unseen.is c.look.ensures.turn
 
 pub returns-in-Seen-clause-falls : goal.returns-in-Seen-clause-falls
@@ -55,7 +40,7 @@ returns-in-Seen-clause-idle g c = λ none _. let next : c.args.self.now.stack.ne
 
 pub returns-in-Seen-clause-turn : goal.returns-in-Seen-clause-turn
 returns-in-Seen-clause-turn g c =
-    TurnsTo-task (λ _. IsSomeContent) 0 c.args.self.now.meter c.enter.new.self.meter c.args.self.now.stack c.enter.new.self.stack c.in-Some.task (Seen c.in-Seen.is_dir)
+    TurnsTo-task (λ _. IsSomeContent) 0 c.args.self.now.meter c.enter.new.self.meter c.args.self.now.stack c.enter.new.self.stack _ _ c.in-Some.task (Seen c.in-Seen.is_dir)
     c.enter.result (sym c.take.ensures.value ∙ c.in-Some.is) c.in-Seen.is c.enter.ensures.turn
 
 pub returns-in-Ok-true-clause-turn : goal.returns-in-Ok-true-clause-turn
@@ -63,10 +48,8 @@ returns-in-Ok-true-clause-turn g c =
     let none : c.args.self.now.stack.next ≡ None = sym c.take.ensures.value ∙ c.in_default.is in
     record {
       limit = refl;
-      fits = c.requires.limit;
       counts = omega arith;
       plan = c.step.ensures.plan;
-      within = c.in-Ok-true.ensures.within;
       asks = c.in-Ok-true.ensures.free;
       ready = search rules;
       sound = λ c' w h. c.in-Ok-true.ensures.sound c' (record { next = subst (IsNextSound c') (sym c.take.ensures.after) tt; frames = h.frames });
@@ -80,10 +63,8 @@ returns-in-Ok-false-clause-turn g c =
     let none : c.args.self.now.stack.next ≡ None = sym c.take.ensures.value ∙ c.in_default.is in
     record {
       limit = refl;
-      fits = c.requires.limit;
       counts = omega arith;
       plan = c.step.ensures.plan;
-      within = c.in-Ok-false.ensures.within;
       asks = c.in-Ok-false.ensures.free;
       ready = search rules;
       sound = λ c' w h. c.in-Ok-false.ensures.sound c' (record { next = subst (IsNextSound c') (sym c.take.ensures.after) tt; frames = h.frames });
@@ -96,4 +77,4 @@ returns-in-Ok-false-clause-turn g c =
     }
 
 pub returns-in-Err-clause-turn : goal.returns-in-Err-clause-turn
-returns-in-Err-clause-turn g c = TurnsTo-memory _ _ _ _ _ c.requires.limit refl c.step.ensures.plan
+returns-in-Err-clause-turn g c = TurnsTo-memory _ _ _ _ _ refl c.step.ensures.plan

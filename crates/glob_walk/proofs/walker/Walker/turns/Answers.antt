@@ -3,7 +3,7 @@ use Rattle.glob_walk.proofs.WalkLemmas.Charging.{TurnsTo-none, TurnsTo-after}
 use Rattle.glob_walk.proofs.walker.Walker.turns.Goals as goal
 
 pub loop-turn-init : goal.loop-turn-init
-loop-turn-init g c = TurnsTo-none IsSomeContent c.args.self.now.meter c.args.self.now.stack c.requires.limit c.requires.within c.requires.free
+loop-turn-init g c = TurnsTo-none IsSomeContent c.args.self.now.meter c.args.self.now.stack c.requires.free
 
 pub loop-turn-preserved : goal.loop-turn-preserved
 loop-turn-preserved g c =
