@@ -1,5 +1,5 @@
 //! Laws that tie calls of patterns.
-ghost use Rattle.std.specs.Prelude.{◌≡◌, IsTrue, IfOk};
+ghost use Rattle.std.specs.Prelude.{◌≡◌, IsTrue, IfErr, IfOk};
 
 use crate::laws::patterns::accepted_has_no_fault;
 use glob_pattern::{MatchOptions, Pattern, PatternRefusal};
@@ -11,15 +11,12 @@ use std::path::Path;
 pub fn text_is_an_equal_pattern<A: Allocator + Copy, B: Allocator>(
     alloc: A,
     pattern: &Pattern<B>,
-) -> Result<Pattern<A>, AllocError>
-    ensures { IfOk result (λ p. p ≡ pattern.now) }
+) -> Result<Pattern<A>, PatternRefusal>
+    ensures same { IfOk result (λ p. p ≡ pattern.now) }
+    ensures accepted { IfErr result (λ refusal. refusal ≡ PatternRefusal.Memory) }
 {
     accepted_has_no_fault();
-    match Pattern::new(alloc, pattern.as_str()) {
-        Ok(again) => Ok(again),
-        Err(PatternRefusal::Memory) => Err(AllocError),
-        Err(PatternRefusal::Syntax(_)) => unreachable!(),
-    }
+    Pattern::new(alloc, pattern.as_str())
 }
 
 /// Whether `matches_path_with` answers on a path as `matches_with` does on its text. It always does. The error is a
