@@ -7,10 +7,10 @@ use Rattle.glob_tree.specs.declared.tree.ListError.{ListError}
 use Rattle.glob_tree.specs.declared.tree.ListError.TheVariants.{Read, Memory}
 use Rattle.glob_walk.specs.Aims.{Aim, listing_of}
 use Rattle.glob_walk.specs.Marks.{Mark, Work, Unread}
-use Rattle.glob_walk.specs.Private.Stacks.{left, IsSound}
+use Rattle.glob_walk.specs.Private.Walkers.{walk_left, IsWalkSound}
 use Rattle.glob_walk.specs.Questions.{Question, IsLook, IsListWith, question_path}
 use Rattle.glob_walk.specs.Walks.{Outcome, Gives, LimitAt, NoMemory, Charges, TakesFront, outcome, is_last, item_number}
-use Rattle.glob_walk.specs.declared.stack.Stack.{Stack}
+use Rattle.glob_walk.specs.declared.walker.Walker.{Walker}
 use Rattle.glob_walk.specs.declared.machine.Step.{Step}
 use Rattle.glob_walk.specs.declared.machine.Step.TheVariants as step
 
@@ -28,15 +28,15 @@ pub record MachineState (A : Type 0) : Type 0 where
   -- what it looks for
   pub aim : Aim
   -- what is still to do
-  pub todo : Stack A
+  pub todo : Walker A
 
 -- what is left of the written listing over a content; of an open question the unit is charged
 abbrev pub left_of : {A : Type 0} → Content → MachineState A → List Mark
-left_of c walk = left c walk.todo
+left_of c walk = walk_left c walk.todo
 
 -- It holds of each content at first, and each answer that is that of a content keeps it of that content.
 abbrev pub Agrees : {A : Type 0} → Content → MachineState A → Type 0
-Agrees c walk = IsSound c walk.todo
+Agrees c walk = IsWalkSound c walk.todo
 
 -- a walk that has done nothing yet
 pub record IsFreshMachine {A : Type 0} (most : ℕ) (walk : MachineState A) : Type 0 where
@@ -79,8 +79,7 @@ step_outcome Ends = None
 abbrev pub is_last_step : Saying → Bool
 is_last_step AsksLook = false
 is_last_step (AsksList kinds) = false
-is_last_step (Says o) = is_last (Some o)
-is_last_step Ends = true
+is_last_step s = is_last (step_outcome s)
 
 -- the unit of a question
 abbrev pub step_units : Saying → ℕ

@@ -1,5 +1,5 @@
 -- A walk as contracts see it: what it holds, what its items say, and what its calls take from the written listing.
-use Rattle.std.specs.Prelude.{◌≡◌, ℕ, ◌+◌, ◌≤◌, ◌<◌, Bool, true, false, List, [], ◌∷◌, ◌++◌, length, map, Option, Some, None, Result, Ok, Err, ⊤}
+use Rattle.std.specs.Prelude.{◌≡◌, ℕ, ◌+◌, ◌≤◌, ◌<◌, Bool, true, false, List, [], ◌∷◌, ◌++◌, length, map, Option, Some, None, is_some, Result, Ok, Err, ⊤}
 use Rattle.std.specs.IoError.{error_kind}
 use Rattle.std.specs.Path.{path_buf_bytes}
 use Rattle.std.specs.declared.path.buf.PathBuf.{PathBuf}
@@ -79,9 +79,7 @@ pub record IsFresh {X : Type 0} (of : X) (most : ℕ) (walk : Walking X) : Type 
 -- a refusal, or `None`, is the last answer before `None` for good
 abbrev pub is_last : Option Outcome → Bool
 is_last None = true
-is_last (Some (Gives item)) = false
-is_last (Some (LimitAt path)) = true
-is_last (Some NoMemory) = true
+is_last (Some o) = is_some (refusal_end o)
 
 abbrev pub item_number : Option Outcome → ℕ
 item_number None = 0

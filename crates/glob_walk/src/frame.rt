@@ -8,7 +8,7 @@
 //! then, if it is a directory, the `**` goes on in it.
 ghost use Rattle.std.specs.Prelude.{◌≡◌, ◌+◌, ◌<◌, ◌≤◌, ◌++◌, false, IfOk, None, OnOk, vec_len};
 ghost use Rattle.glob_tree.specs.Content.{Content};
-ghost use Rattle.glob_walk.specs.Private.Tasks.{next_marks, next_ready, question_of, IsNextSound};
+ghost use Rattle.glob_walk.specs.Private.Tasks.{next_marks, next_ready, IsNextSound};
 ghost use Rattle.glob_walk.specs.Private.Frames.{frame_marks, is_done as is_done_frame, steps_left, unmet, IsFrameSound};
 
 mod tasks;
@@ -69,7 +69,6 @@ impl<A: Allocator + Copy> Frame<A> {
             ≡ next_marks c plan.now task ++ frame_marks c plan.now self.new) }
         ensures same { self.new ≡ record self.old { cursor = self.new.cursor } }
         ensures falls { OnOk result (steps_left self.new < steps_left self.old) }
-        ensures free { IfOk result (λ task. question_of task ≡ None) }
         ensures ready { IfOk result
             (λ task. next_ready plan.now task + unmet self.new ≤ unmet self.old) }
         ensures sound { IfOk result

@@ -10,9 +10,10 @@ mod machine;
 mod meter;
 mod plain;
 mod plan;
+mod query;
 mod stack;
+mod step;
 mod task;
-mod turn;
 mod walker;
 
 pub use component::is_recursive;

@@ -17,6 +17,7 @@ ghost use Rattle.glob_walk.specs.Questions.{IsLook, IsList, IsListedIn, IsSeenIn
 use crate::error::GlobResult;
 use crate::meter::Meter;
 use crate::plan::Plan;
+use crate::query::QueryKind;
 use crate::stack::Stack;
 use crate::task::{Accepted, Task, TaskState};
 use crate::walker::Walker;
@@ -84,7 +85,7 @@ impl<A: Allocator> Model for WalkMachine<A> {
     ghost use Rattle.glob_walk.specs.Machines.{MachineState};
     ghost use Rattle.glob_walk.specs.Private.Walking.{IsGood};
     ghost use Rattle.glob_walk.specs.Private.Stacks.{aim_of};
-    ghost use Rattle.glob_walk.specs.Private.Tasks.{question_of};
+    ghost use Rattle.glob_walk.specs.Private.Queries.{question_of};
 
     ghost Value = { MachineState A };
 
@@ -93,12 +94,12 @@ impl<A: Allocator> Model for WalkMachine<A> {
       spent = w.walker.meter.spent;
       given = w.given;
       over = w.over;
-      asked = question_of w.walker.stack.next;
+      asked = question_of w.walker.query;
       aim = aim_of w.walker.stack.plan;
-      todo = w.walker.stack;
+      todo = w.walker;
     } };
 
-    ghost invariant = { λ w. IsGood w.walker.meter w.walker.stack w.given w.over };
+    ghost invariant = { λ w. IsGood w.walker w.given w.over };
 }
 
 impl<A: Allocator + Copy> WalkMachine<A> {
@@ -143,7 +144,11 @@ impl<A: Allocator + Copy> WalkMachine<A> {
         let stack = Stack { plan, next, frames };
         let meter = Meter { limit, spent: 0 };
         WalkMachine {
-            walker: Walker { meter, stack },
+            walker: Walker {
+                meter,
+                query: None,
+                stack,
+            },
             given: 0,
             over: false,
         }
@@ -189,15 +194,14 @@ impl<A: Allocator + Copy> WalkMachine<A> {
         ensures answered { (c : Content) → IsTold (T.tells tree.old) c
             → IsAnswered self.now.asked result c }
     {
-        let Some(task) = &self.walker.stack.next else {
+        let Some(query) = &self.walker.query else {
             return Answer::Nothing;
         };
-        let path = task.path.as_str();
-        match task.state {
-            TaskState::Looking(_) => Answer::Look(tree.look(path)),
-            TaskState::Listing { kinds: true, .. } => Answer::List(tree.list(path)),
-            TaskState::Listing { kinds: false, .. } => Answer::List(tree.list_names(path)),
-            TaskState::Unseen(_) | TaskState::Seen(_) => Answer::Nothing,
+        let path = query.path.as_str();
+        match query.kind {
+            QueryKind::Look(_) => Answer::Look(tree.look(path)),
+            QueryKind::List { kinds: true, .. } => Answer::List(tree.list(path)),
+            QueryKind::List { kinds: false, .. } => Answer::List(tree.list_names(path)),
         }
     }
 
@@ -249,10 +253,10 @@ impl<A: Allocator + Copy> WalkMachine<A> {
         if self.over {
             return Step::Done;
         }
-        let turn = self.walker.proceed(answer);
-        self.given += turn.item_count();
-        self.over = turn.is_last();
-        turn.into_step(self.walker.stack.plan.alloc)
+        let step = self.walker.proceed(answer);
+        self.given += step.item_count();
+        self.over = step.is_last();
+        step
     }
 }
 
@@ -262,11 +266,8 @@ impl<A: Allocator> WalkMachine<A> {
     pub fn path(&self) -> &str
         ensures { result.now ≡ question_path self.now.asked }
     {
-        match &self.walker.stack.next {
-            Some(task) => match task.state {
-                TaskState::Looking(_) | TaskState::Listing { .. } => task.path.as_str(),
-                TaskState::Unseen(_) | TaskState::Seen(_) => "",
-            },
+        match &self.walker.query {
+            Some(query) => query.path.as_str(),
             None => "",
         }
     }

@@ -10,7 +10,6 @@ ghost use Rattle.std.specs.Prelude.{◌≡◌, ◌+◌, ◌<◌, ◌≤◌, ◌+
 ghost use Rattle.glob_tree.specs.Content.{Content};
 ghost use Rattle.std.specs.List.{All};
 ghost use Rattle.glob_walk.specs.Private.Frames.{frame_marks, is_done, unmet, IsFrameSound};
-ghost use Rattle.glob_walk.specs.Private.Tasks.{question_of};
 
 use crate::frame::Frame;
 use crate::plan::Plan;
@@ -45,7 +44,6 @@ impl<A: Allocator + Copy> Stack<A> {
         ensures idle { self.old.frames.items ≡ [] → result ≡ Ok false }
         ensures falls { IfOk result (λ more. more ≡ true → weight self.new < weight self.old) }
         ensures ready { OnOk result (ready self.new ≤ ready self.old) }
-        ensures free { OnOk result (question_of self.new.next ≡ None) }
         ensures sound { OnOk result ((c : Content) → IsSound c self.old → IsSound c self.new) }
     {
         let Some(frame) = self.frames.last_mut() else {

@@ -7,7 +7,7 @@ ghost use Rattle.glob_tree.specs.declared.tree.Look.{Look as LookOf};
 ghost use Rattle.glob_walk.specs.Marks.{Work};
 ghost use Rattle.glob_walk.specs.declared.plan.Plan.{Plan as PlanOf};
 ghost use Rattle.glob_walk.specs.Private.Stacks.{next_weight};
-ghost use Rattle.glob_walk.specs.Private.Tasks.{is_accepted as is_accepted_look, next_marks, next_ready, question_of, state_marks, IsNextSound};
+ghost use Rattle.glob_walk.specs.Private.Tasks.{is_accepted as is_accepted_look, next_marks, next_ready, state_marks, IsNextSound};
 
 use glob_tree::Look;
 use std::alloc::Allocator;
@@ -24,22 +24,13 @@ pub enum Accepted {
     Nothing,
 }
 
-/// What is known of a task's path, and so what the task is.
+/// What is known of a task's path, and so what the task is: to ask for a look, or to go on at the path.
 #[derive(Clone, Copy)]
 pub enum TaskState {
     /// Nothing: it is to be looked up.
     Unseen(Accepted),
-    /// Nothing yet: its look was charged and is asked for, and the answer is awaited.
-    Looking(Accepted),
     /// It is there, and this says whether it is a directory: it is to be entered, or given.
     Seen(bool),
-    /// It is a directory, and its listing was charged and is asked for.
-    Listing {
-        /// For `**`, and not for a component with wildcards.
-        recursive: bool,
-        /// With the kinds of its entries, and not for their names alone.
-        kinds: bool,
-    },
 }
 
 /// One thing to do: a path, and the number of the component that is met at it. Past the last component none is left,
@@ -100,7 +91,6 @@ pub fn task_after_look<A: Allocator>(
         → IsNextSound c result }
     ensures weight { next_weight result ≤ 2 }
     ensures ready { (plan : PlanOf A) → next_ready plan result ≤ 1 }
-    ensures free { question_of result ≡ None }
 {
     if !accepted.accepts(seen) {
         return None;

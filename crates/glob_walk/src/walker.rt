@@ -3,7 +3,8 @@
 //! A walk has a [`Stack`]: one [`Task`] or none, and below it the directories that it is in, one [`Frame`] for each. A
 //! turn does the task: it asks for a look at one path, or for the listing of one directory, or gives one path. Where
 //! there is no task, a turn takes one step in the directory on top, and that step may make the next task. What a turn
-//! asks for, the [`Meter`] is charged for first. The task that asks stays on the stack until it is answered.
+//! asks for, the [`Meter`] is charged for first. A task that asks makes way for a [`Query`], which is open until it is
+//! answered: a turn is taken only while none is.
 //!
 //! Nothing here reads a file: whoever drives the walk answers. And nothing calls itself: a walk is a loop of turns. It
 //! comes to a question or an item because a turn that does neither leaves less weight in the stack.
@@ -12,36 +13,36 @@
 //! proceed               takes an answer, goes on to the next question or item, and clears a walk that is over
 //!   take_turns
 //!     take_answer       take_look: the task that follows
-//!                       take_listing, open: a frame more
+//!                       take_listing, enter_listed: a frame more
 //!     turns             until there is a question or an item
 //!       turn            a task: look, or enter, which may list or give a path
 //!                       none: Stack::step, to the next task
 //! ```
 //!
 //! The written listing is what a walk does, mark by mark. Each method of [`Walker`] has the same contract, `TurnsTo`:
-//! what was left of the listing begins with what the turn charged and gave, and what the stack then stands for is the
-//! rest.
+//! what was left of the listing begins with what the turn charged and gave, and what the walk then stands for is the
+//! rest. A turn that returns no [`Step`] goes on.
 ghost use Rattle.std.specs.Prelude.{◌≡◌, ◌≢◌, ◌+◌, ◌<◌, ◌≤◌, ◌∷◌, true, false, [], None, string_bytes, vec_len, drop, not, ◌||◌, IfOk, IfErr, Some, if◌then◌else◌};
 ghost use Rattle.glob_tree.specs.Content.{Content};
-ghost use Rattle.glob_walk.specs.Machines.{Says, list_error_outcome};
+ghost use Rattle.glob_walk.specs.Machines.{Ends, Says, is_last_step, list_error_outcome, saying};
 ghost use Rattle.glob_walk.specs.Walks.{NoMemory};
 ghost use Rattle.glob_walk.specs.Components.{is_literal};
 ghost use Rattle.glob_tree.specs.Answers.{entry_count};
 ghost use Rattle.glob_walk.specs.Questions.{IsSomeContent, IsSeenIn, IsListedIn, ListAt, LookAt, question_path};
-ghost use Rattle.glob_walk.specs.Private.Tasks.{task_marks, enter_from, IsListedFor, IsOpened, next_ready, IsNextSound, IsNextOpened, question_of};
+ghost use Rattle.glob_walk.specs.Private.Tasks.{task_marks, enter_from, IsListedFor, IsOpened, next_ready, IsNextSound};
+ghost use Rattle.glob_walk.specs.Private.Queries.{question_of, IsQueryOpened};
 ghost use Rattle.glob_walk.specs.Private.Stacks.{next_weight, weight};
-ghost use Rattle.glob_walk.specs.Private.Walking.{is_last_turn, turn_saying};
 ghost use Rattle.glob_walk.specs.Answers.{IfFailed, IsAnswer, IsAnswered, answer_count};
-ghost use Rattle.glob_walk.specs.Private.Turns.{TurnsTo, with_task, AreListedAt, IsQuestion};
+ghost use Rattle.glob_walk.specs.Private.Turns.{TurnsTo, said, with_query, with_task, AreListedAt, IsIdle};
 
 use crate::component::{Component, is_current_or_parent};
 use crate::frame::{Cursor, Frame};
-use crate::machine::Answer;
+use crate::machine::{Answer, Step};
 use crate::meter::{Meter, sort_entries};
 use crate::plan::Plan;
+use crate::query::{Query, QueryKind};
 use crate::stack::Stack;
 use crate::task::{Accepted, Task, TaskState, task_after_look};
-use crate::turn::Turn;
 use glob_tree::{Entry, ListError, Look, child};
 use std::alloc::{AllocError, Allocator};
 
@@ -49,75 +50,69 @@ use std::alloc::{AllocError, Allocator};
 #[derive(Drop)]
 pub struct Walker<A: Allocator> {
     pub meter: Meter,
+    /// The question that is open. It goes before the stack.
+    pub query: Option<Query<A>>,
     pub stack: Stack<A>,
 }
 
 impl<A: Allocator + Copy> Walker<A> {
     /// Asks for a look at a path, for one unit.
-    fn look(&mut self, path: String<A>, component: usize, accepted: Accepted) -> Turn<A>
-        requires none { self.old.stack.next ≡ None }
-        ensures asks { IsQuestion result }
-        ensures stops { result ≢ Turn.Continue }
-        ensures turn { TurnsTo IsSomeContent 0
-            self.old.meter (with_task path component (TaskState.Unseen accepted) self.old.stack) result
-            self.new.meter self.new.stack }
+    fn look(&mut self, path: String<A>, component: usize, accepted: Accepted) -> Step<A>
+        requires idle { IsIdle self.old }
+        ensures { TurnsTo IsSomeContent 0
+            (with_task path component (TaskState.Unseen accepted) self.old) (said (Some result)) self.new }
     {
         if !self.meter.charge() {
-            return Turn::Limit(path);
+            return Step::limit(path);
         }
-        let state = TaskState::Looking(accepted);
-        self.stack.next = Some(Task {
+        let kind = QueryKind::Look(accepted);
+        self.query = Some(Query {
             path,
             component,
-            state,
+            kind,
         });
-        Turn::Look
+        Step::Look
     }
 
     /// Asks for the listing of a directory for a component, which is `**` or has wildcards, for one unit. Where no
     /// entry's kind matters, names alone are asked for.
-    fn list(&mut self, path: String<A>, component: usize, recursive: bool) -> Turn<A>
-        requires none { self.old.stack.next ≡ None }
+    fn list(&mut self, path: String<A>, component: usize, recursive: bool) -> Step<A>
+        requires idle { IsIdle self.old }
         requires component { component < vec_len self.old.stack.plan.components }
         requires opens { IsOpened recursive (drop component self.old.stack.plan.components.items) }
-        ensures asks { IsQuestion result }
-        ensures stops { result ≢ Turn.Continue }
-        ensures turn { TurnsTo IsSomeContent 0
-            self.old.meter (with_task path component (TaskState.Seen true) self.old.stack) result
-            self.new.meter self.new.stack }
+        ensures { TurnsTo IsSomeContent 0
+            (with_task path component (TaskState.Seen true) self.old) (said (Some result)) self.new }
     {
         if !self.meter.charge() {
-            return Turn::Limit(path);
+            return Step::limit(path);
         }
         let kinds = self.stack.plan.needs_kinds(component, recursive);
-        let state = TaskState::Listing { recursive, kinds };
-        self.stack.next = Some(Task {
+        let kind = QueryKind::List { recursive, kinds };
+        self.query = Some(Query {
             path,
             component,
-            state,
+            kind,
         });
-        Turn::List { kinds }
+        Step::list(kinds)
     }
 
     /// Charges the entries of a directory that was listed, and puts it on the stack with its first cursor. Where names
     /// alone were asked for, the entries' kinds are not used.
-    fn open(
+    fn enter_listed(
         &mut self,
         path: String<A>,
         component: usize,
         recursive: bool,
         kinds: bool,
         mut entries: Vec<Entry<A>, A>,
-    ) -> Turn<A>
-        requires none { self.old.stack.next ≡ None }
+    ) -> Option<Step<A>>
+        requires idle { IsIdle self.old }
         requires listed { IsListedFor self.old.stack.plan component recursive kinds }
         ensures { TurnsTo (AreListedAt kinds (string_bytes path) entries.items) (vec_len entries)
-            self.old.meter
-            (with_task path component (TaskState.Listing recursive kinds) self.old.stack) result
-            self.new.meter self.new.stack }
+            (with_query path component (QueryKind.List recursive kinds) self.old) (said result) self.new }
     {
         if !self.meter.charge_entries(entries.len()) {
-            return Turn::Limit(path);
+            return Some(Step::limit(path));
         }
         sort_entries(&mut entries);
         // Before `..` if the component begins with a dot, as `**` never does.
@@ -133,8 +128,8 @@ impl<A: Allocator + Copy> Walker<A> {
             entries,
             cursor,
         }) {
-            Ok(()) => Turn::Continue,
-            Err(_) => Turn::Memory,
+            Ok(()) => None,
+            Err(_) => Some(Step::memory(self.stack.plan.alloc)),
         }
     }
 
@@ -142,52 +137,51 @@ impl<A: Allocator + Copy> Walker<A> {
     /// directory always, and of anything else unless the pattern ends in a separator. That takes no memory. A literal
     /// one is joined to the path, and to look that up is the next task. For `**` and for a component with wildcards the
     /// directory is listed; nothing comes of what is no directory.
-    fn enter(&mut self, path: String<A>, number: usize, is_dir: bool) -> Turn<A>
-        requires none { self.old.stack.next ≡ None }
-        ensures falls { result ≡ Turn.Continue → weight self.new.stack < weight self.old.stack + 2 }
-        ensures past { vec_len self.old.stack.plan.components ≤ number → result ≢ Turn.Memory }
+    fn enter(&mut self, path: String<A>, number: usize, is_dir: bool) -> Option<Step<A>>
+        requires idle { IsIdle self.old }
+        ensures falls { result ≡ None → weight self.new.stack < weight self.old.stack + 2 }
+        ensures past { vec_len self.old.stack.plan.components ≤ number
+            → said result ≢ Some (Says NoMemory) }
         ensures turn { TurnsTo IsSomeContent 0
-            self.old.meter (with_task path number (TaskState.Seen is_dir) self.old.stack) result
-            self.new.meter self.new.stack }
+            (with_task path number (TaskState.Seen is_dir) self.old) (said result) self.new }
     {
         let plan = &self.stack.plan;
         let Some(component) = plan.component(number) else {
             if is_dir || !plan.directories {
-                return Turn::Path(path);
+                return Some(Step::found(path));
             }
-            return Turn::Continue;
+            return None;
         };
         if component.is_literal() {
             let path = path.as_str();
             let Ok(task) = literal_task(plan, component, path, number, is_dir) else {
-                return Turn::Memory;
+                return Some(Step::memory(self.stack.plan.alloc));
             };
             self.stack.next = Some(task);
-            return Turn::Continue;
+            return None;
         }
         if !is_dir {
-            return Turn::Continue;
+            return None;
         }
         let recursive = component.is_recursive();
-        self.list(path, number, recursive)
+        Some(self.list(path, number, recursive))
     }
 
     /// One turn: does the task if there is one, and else takes one step in the directory on top. Where there is
     /// neither, the walk is done. It calls nothing that calls it.
-    fn turn(&mut self) -> Turn<A>
-        requires free { question_of self.old.stack.next ≡ None }
-        ensures falls { result ≡ Turn.Continue → weight self.new.stack < weight self.old.stack }
+    fn turn(&mut self) -> Option<Step<A>>
+        requires free { self.old.query ≡ None }
+        ensures falls { result ≡ None → weight self.new.stack < weight self.old.stack }
         ensures idle { self.old.stack.next ≡ None → self.old.stack.frames.items ≡ []
-            → result ≡ Turn.Done }
+            → said result ≡ Some Ends }
         ensures turn { TurnsTo IsSomeContent 0
-            self.old.meter self.old.stack result
-            self.new.meter self.new.stack }
+            self.old (said result) self.new }
     {
         let Some(task) = self.stack.next.take() else {
             return match self.stack.step() {
-                Ok(true) => Turn::Continue,
-                Ok(false) => Turn::Done,
-                Err(_) => Turn::Memory,
+                Ok(true) => None,
+                Ok(false) => Some(Step::Done),
+                Err(_) => Some(Step::memory(self.stack.plan.alloc)),
             };
         };
         let Task {
@@ -196,55 +190,48 @@ impl<A: Allocator + Copy> Walker<A> {
             state,
         } = task;
         match state {
-            TaskState::Unseen(accepted) => self.look(path, component, accepted),
+            TaskState::Unseen(accepted) => Some(self.look(path, component, accepted)),
             TaskState::Seen(is_dir) => self.enter(path, component, is_dir),
-            TaskState::Looking(_) | TaskState::Listing { .. } => unreachable!(),
         }
     }
 
     /// Turns until there is a question or an item, or nothing is left.
-    fn turns(&mut self) -> Turn<A>
-        requires free { question_of self.old.stack.next ≡ None }
-        ensures stops { result ≢ Turn.Continue }
-        ensures turn { TurnsTo IsSomeContent 0
-            self.old.meter self.old.stack result
-            self.new.meter self.new.stack }
+    fn turns(&mut self) -> Step<A>
+        requires free { self.old.query ≡ None }
+        ensures { TurnsTo IsSomeContent 0 self.old (said (Some result)) self.new }
     {
         loop {
-            match self.turn() {
-                Turn::Continue => {}
-                turn => return turn,
+            if let Some(step) = self.turn() {
+                return step;
             }
         }
     }
 
-    /// Takes the answer to the question that is open, and the task that asked it: what comes of it at once.
-    fn take_answer(&mut self, answer: Answer<A>) -> Turn<A>
-        requires opened { IsNextOpened self.old.stack.plan self.old.stack.next }
-        requires answer { IsAnswer (question_of self.old.stack.next) answer }
-        ensures failed { IfFailed answer (question_path (question_of self.old.stack.next))
-            (λ o. turn_saying result ≡ Says o) }
-        ensures turn { TurnsTo (IsAnswered (question_of self.old.stack.next) answer)
-            (answer_count answer)
-            self.old.meter self.old.stack result
-            self.new.meter self.new.stack }
+    /// Takes the answer to the question that is open, if one is: what comes of it at once.
+    fn take_answer(&mut self, answer: Answer<A>) -> Option<Step<A>>
+        requires opened { IsQueryOpened self.old.stack self.old.query }
+        requires answer { IsAnswer (question_of self.old.query) answer }
+        ensures failed { IfFailed answer (question_path (question_of self.old.query))
+            (λ o. said result ≡ Some (Says o)) }
+        ensures turn { TurnsTo (IsAnswered (question_of self.old.query) answer)
+            (answer_count answer) self.old (said result) self.new }
     {
-        if let Answer::Nothing = answer {
-            return Turn::Continue;
-        }
-        let Some(task) = self.stack.next.take() else {
-            unreachable!()
+        let Some(query) = self.query.take() else {
+            let Answer::Nothing = answer else {
+                unreachable!()
+            };
+            return None;
         };
-        let Task {
+        let Query {
             path,
             component,
-            state,
-        } = task;
-        match (state, answer) {
-            (TaskState::Looking(accepted), Answer::Look(seen)) => {
+            kind,
+        } = query;
+        match (kind, answer) {
+            (QueryKind::Look(accepted), Answer::Look(seen)) => {
                 self.take_look(path, component, accepted, seen)
             }
-            (TaskState::Listing { recursive, kinds }, Answer::List(listed)) => {
+            (QueryKind::List { recursive, kinds }, Answer::List(listed)) => {
                 self.take_listing(path, component, recursive, kinds, listed)
             }
             _ => unreachable!(),
@@ -258,19 +245,18 @@ impl<A: Allocator + Copy> Walker<A> {
         component: usize,
         accepted: Accepted,
         answer: Result<Look, AllocError>,
-    ) -> Turn<A>
-        requires none { self.old.stack.next ≡ None }
-        ensures failed { IfErr answer (λ _. turn_saying result ≡ Says NoMemory) }
-        ensures seen { IfOk answer (λ _. result ≡ Turn.Continue) }
+    ) -> Option<Step<A>>
+        requires idle { IsIdle self.old }
+        ensures failed { IfErr answer (λ _. said result ≡ Some (Says NoMemory)) }
+        ensures seen { IfOk answer (λ _. result ≡ None) }
         ensures turn { TurnsTo (IsSeenIn (Some (LookAt (string_bytes path))) answer) 0
-            self.old.meter (with_task path component (TaskState.Looking accepted) self.old.stack) result
-            self.new.meter self.new.stack }
+            (with_query path component (QueryKind.Look accepted) self.old) (said result) self.new }
     {
         let Ok(seen) = answer else {
-            return Turn::Memory;
+            return Some(Step::memory(self.stack.plan.alloc));
         };
         self.stack.next = task_after_look(path, component, accepted, seen);
-        Turn::Continue
+        None
     }
 
     /// Takes the answer to a listing.
@@ -281,63 +267,55 @@ impl<A: Allocator + Copy> Walker<A> {
         recursive: bool,
         kinds: bool,
         answer: Result<Vec<Entry<A>, A>, ListError>,
-    ) -> Turn<A>
-        requires none { self.old.stack.next ≡ None }
+    ) -> Option<Step<A>>
+        requires idle { IsIdle self.old }
         requires listed { IsListedFor self.old.stack.plan component recursive kinds }
         ensures failed { IfErr answer
-            (λ e. turn_saying result ≡ Says (list_error_outcome (string_bytes path) e)) }
+            (λ e. said result ≡ Some (Says (list_error_outcome (string_bytes path) e))) }
         ensures turn { TurnsTo (IsListedIn (Some (ListAt kinds (string_bytes path))) answer)
             (entry_count answer)
-            self.old.meter
-            (with_task path component (TaskState.Listing recursive kinds) self.old.stack) result
-            self.new.meter self.new.stack }
+            (with_query path component (QueryKind.List recursive kinds) self.old) (said result) self.new }
     {
         match answer {
-            Ok(entries) => self.open(path, component, recursive, kinds, entries),
-            Err(ListError::Read(e)) => Turn::Unread(path, e),
-            Err(ListError::Memory) => Turn::Memory,
+            Ok(entries) => self.enter_listed(path, component, recursive, kinds, entries),
+            Err(ListError::Read(e)) => Some(Step::unread(path, e)),
+            Err(ListError::Memory) => Some(Step::memory(self.stack.plan.alloc)),
         }
     }
 
     /// Takes the answer to the question that is open, or `Nothing` where none is, and goes on to the next question or
     /// item.
-    fn take_turns(&mut self, answer: Answer<A>) -> Turn<A>
-        requires opened { IsNextOpened self.old.stack.plan self.old.stack.next }
-        requires answer { IsAnswer (question_of self.old.stack.next) answer }
-        ensures failed { IfFailed answer (question_path (question_of self.old.stack.next))
-            (λ o. turn_saying result ≡ Says o) }
-        ensures stops { result ≢ Turn.Continue }
-        ensures turn { TurnsTo (IsAnswered (question_of self.old.stack.next) answer)
-            (answer_count answer)
-            self.old.meter self.old.stack result
-            self.new.meter self.new.stack }
+    fn take_turns(&mut self, answer: Answer<A>) -> Step<A>
+        requires opened { IsQueryOpened self.old.stack self.old.query }
+        requires answer { IsAnswer (question_of self.old.query) answer }
+        ensures failed { IfFailed answer (question_path (question_of self.old.query))
+            (λ o. saying result ≡ Says o) }
+        ensures turn { TurnsTo (IsAnswered (question_of self.old.query) answer)
+            (answer_count answer) self.old (said (Some result)) self.new }
     {
         match self.take_answer(answer) {
-            Turn::Continue => self.turns(),
-            turn => turn,
+            Some(step) => step,
+            None => self.turns(),
         }
     }
 
-    /// The turn that [`take_turns`](Walker::take_turns) ends with. Where no item follows it, as after a refusal,
+    /// The step that [`take_turns`](Walker::take_turns) ends with. Where no item follows it, as after a refusal,
     /// nothing stays on the stack, since a walk that is over may be kept for long.
-    pub fn proceed(&mut self, answer: Answer<A>) -> Turn<A>
-        requires opened { IsNextOpened self.old.stack.plan self.old.stack.next }
-        requires answer { IsAnswer (question_of self.old.stack.next) answer }
-        ensures failed { IfFailed answer (question_path (question_of self.old.stack.next))
-            (λ o. turn_saying result ≡ Says o) }
-        ensures stops { result ≢ Turn.Continue }
-        ensures turn { TurnsTo (IsAnswered (question_of self.old.stack.next) answer)
-            (answer_count answer)
-            self.old.meter self.old.stack result
-            self.new.meter self.new.stack }
-        ensures cleared { is_last_turn result ≡ true
+    pub fn proceed(&mut self, answer: Answer<A>) -> Step<A>
+        requires opened { IsQueryOpened self.old.stack self.old.query }
+        requires answer { IsAnswer (question_of self.old.query) answer }
+        ensures failed { IfFailed answer (question_path (question_of self.old.query))
+            (λ o. saying result ≡ Says o) }
+        ensures turn { TurnsTo (IsAnswered (question_of self.old.query) answer)
+            (answer_count answer) self.old (said (Some result)) self.new }
+        ensures cleared { is_last_step (saying result) ≡ true
             → (self.new.stack.next ≡ None) × (self.new.stack.frames.items ≡ []) }
     {
-        let turn = self.take_turns(answer);
-        if turn.is_last() {
+        let step = self.take_turns(answer);
+        if step.is_last() {
             self.stack.clear();
         }
-        turn
+        step
     }
 }
 
@@ -359,7 +337,6 @@ fn literal_task<A: Allocator + Copy>(
         (λ task. (c : Content)
         → enter_from c plan.now number path.now is_dir ≡ task_marks c plan.now task) }
     ensures weight { IfOk result (λ task. next_weight (Some task) ≡ 1) }
-    ensures free { IfOk result (λ task. question_of (Some task) ≡ None) }
     ensures ready { IfOk result (λ task. next_ready plan.now (Some task) ≡ 0) }
     ensures sound { IfOk result (λ task. (c : Content) → IsNextSound c (Some task)) }
 {

@@ -1,5 +1,5 @@
 -- What a step takes.
-use Rattle.std.proofs.Common.{◌≡◌, ◌≢◌, ℕ, ◌+◌, ◌≤◌, ◌<◌, ◌^◌, length, Bool, true, false, cond, List, [], ◌++◌, Option, Some, None, Ok, Err, refl, ap, sym, subst, ◌∙◌, arith}
+use Rattle.std.proofs.Common.{◌≡◌, ℕ, ◌+◌, ◌≤◌, ◌<◌, ◌^◌, length, Bool, true, false, cond, List, [], ◌++◌, Option, Some, None, refl, ap, sym, subst, ◌∙◌, arith}
 use Rattle.std.specs.Prelude.{string_bytes, sum_by, nat_le}
 use Rattle.std.specs.List.{All}
 use Rattle.std.specs.Path.{root_dir, cur_dir}
@@ -10,155 +10,132 @@ use Rattle.glob_tree.specs.Content.{Content}
 use Rattle.glob_walk.specs.Aims.{listing_of}
 use Rattle.glob_walk.specs.Listing.{look_up, enter}
 use Rattle.glob_walk.specs.Questions.{Question}
-use Rattle.glob_walk.specs.Machines.{MachineState, Saying, IsAskedAfter, IsCharged, StepCounts, StepGoes, Says, Ends, is_last_step, step_outcome}
-use Rattle.glob_walk.specs.Walks.{Outcome, Charges, item_number}
-use Rattle.glob_walk.specs.declared.meter.Meter.{Meter}
+use Rattle.glob_walk.specs.Machines.{MachineState, Saying, AsksLook, AsksList, IsAskedAfter, IsCharged, StepCounts, StepGoes, Says, Ends, is_last_step, step_outcome}
+use Rattle.glob_walk.specs.Walks.{Outcome, Gives, LimitAt, NoMemory, item_number}
 use Rattle.glob_walk.specs.declared.frame.Frame.{Frame}
 use Rattle.glob_walk.specs.declared.plan.Plan.{Plan}
-use Rattle.glob_walk.specs.declared.stack.Stack.{Stack}
-use Rattle.glob_walk.specs.declared.turn.Turn.{Turn}
-use Rattle.glob_walk.specs.declared.turn.Turn.TheVariants as turn
+use Rattle.glob_walk.specs.declared.walker.Walker.{Walker}
 use Rattle.glob_walk.specs.declared.machine.Answer.{Answer}
 use Rattle.glob_walk.specs.declared.machine.Answer.TheVariants as answer
-use Rattle.glob_walk.specs.Private.Stacks.{aim_of, frames_marks, left, ready, IsSound}
-use Rattle.glob_walk.specs.Private.Tasks.{enter_from, state_marks, task_marks, next_marks, next_ready, state_ready, question_of, IsNextSound, IsStateSound, IsNextOpened, IsStateOpened}
+use Rattle.glob_walk.specs.Private.Stacks.{aim_of, frames_marks}
+use Rattle.glob_walk.specs.Private.Tasks.{enter_from, state_marks, task_marks, next_marks, next_ready, state_ready, IsNextSound, IsStateSound}
 use Rattle.glob_walk.specs.Private.Frames.{unmet, IsFrameSound}
+use Rattle.glob_walk.specs.Private.Queries.{question_of, query_ready, IsQueryOpened, IsQuerySound}
+use Rattle.glob_walk.specs.Private.Walkers.{walk_ready, IsWalkSound}
 use Rattle.glob_walk.specs.declared.task.Task.{Task}
 use Rattle.glob_walk.specs.declared.task.TaskState.TheVariants.{Unseen}
 use Rattle.glob_walk.specs.declared.task.Accepted.TheVariants.{Any}
 use Rattle.glob_walk.specs.Answers.{IfFailed, IsAnswer, IsAnswered, answer_count}
-use Rattle.glob_walk.specs.Private.Turns.{TurnsTo, TurnCounts}
-use Rattle.glob_walk.specs.Private.Walking.{IsUnderWay, IsGood, turn_outcome, turn_saying, is_last_turn}
+use Rattle.glob_walk.specs.Private.Turns.{TurnsTo}
+use Rattle.glob_walk.specs.Private.Walking.{IsUnderWay, IsGood}
 use Rattle.std.proofs.lemmas.List.{append-nil}
-use Rattle.glob_walk.proofs.WalkLemmas.Charging.{opened-free, opened-look}
 
-pub one_item : {A : Type 0} (t : Turn A) → item_number (turn_outcome t) ≤ 1
-one_item turn.Continue = omega arith
-one_item turn.Look = omega arith
-one_item (turn.List kinds) = omega arith
-one_item (turn.Path p) = omega arith
-one_item (turn.Unread p e) = omega arith
-one_item (turn.Limit p) = omega arith
-one_item turn.Memory = omega arith
-one_item turn.Done = omega arith
-
-pub grows : {A : Type 0} (n : ℕ) (m m' : Meter) (t : Turn A) → TurnCounts n m t m' → m.spent ≤ m'.spent
-grows n m m' turn.Continue h = omega (arith, h)
-grows n m m' turn.Look h = omega (arith, h)
-grows n m m' (turn.List kinds) h = omega (arith, h)
-grows n m m' (turn.Path p) h = omega (arith, h)
-grows n m m' (turn.Unread p e) h = omega (arith, h)
-grows n m m' (turn.Limit p) h = h.2
-grows n m m' turn.Memory h = omega (arith, h)
-grows n m m' turn.Done h = omega (arith, h)
+pub one_item : (s : Saying) → item_number (step_outcome s) ≤ 1
+one_item AsksLook = omega arith
+one_item (AsksList kinds) = omega arith
+one_item (Says o) = omega arith
+one_item Ends = omega arith
 
 -- what contracts see of it
-abbrev pub view : {A : Type 0} → Meter → Stack A → ℕ → Bool → MachineState A
-view m s given over = record { limit = m.limit; spent = m.spent; given = given; over = over; asked = question_of s.next; aim = aim_of s.plan; todo = s }
+abbrev pub view : {A : Type 0} → Walker A → ℕ → Bool → MachineState A
+view w given over = record { limit = w.meter.limit; spent = w.meter.spent; given = given; over = over; asked = question_of w.query; aim = aim_of w.stack.plan; todo = w }
 
 -- nothing is left on the stack
-abbrev pub IsCleared : {A : Type 0} → Stack A → Type 0
-IsCleared s = (s.next ≡ None) × (s.frames.items ≡ [])
+abbrev pub IsCleared : {A : Type 0} → Walker A → Type 0
+IsCleared w = (w.stack.next ≡ None) × (w.stack.frames.items ≡ [])
 
-cleared_sound : {A : Type 0} (c : Content) (s : Stack A) → IsCleared s → IsSound c s
-cleared_sound c s h = record {
-  next = subst (IsNextSound c) (sym h.0) tt;
-  frames = subst (All (IsFrameSound c)) (sym h.1) (All-from_recursion (IsFrameSound c) [] tt);
+cleared_sound : {A : Type 0} (c : Content) (w : Walker A) → w.query ≡ None → IsCleared w → IsWalkSound c w
+cleared_sound c w free h = record {
+  query = subst (IsQuerySound c) (sym free) tt;
+  stack = record {
+    next = subst (IsNextSound c) (sym h.0) tt;
+    frames = subst (All (IsFrameSound c)) (sym h.1) (All-from_recursion (IsFrameSound c) [] tt);
+  };
 }
 
-module _ {A : Type 0} (Fits : Content → Type 0) (n : ℕ) (m m' : Meter) (s s' : Stack A) (given : ℕ) (fits : m.limit < 2 ^ 64) (w : IsUnderWay m s given) where
-  going : (t : Turn A) (k : ℕ) → m'.limit ≡ m.limit → ready s' + k + m.spent ≤ ready s + m'.spent → IsNextOpened s'.plan s'.next
-      → IsGood m' s' (given + k) false
-  going t k same more opened = record {
-    fits = subst (λ n. n < 2 ^ 64) (sym same) fits;
-    few = omega (arith, w.ready, more);
-    going = λ _. record { ready = omega (arith, w.ready, more); opened = opened };
+module _ {A : Type 0} (Fits : Content → Type 0) (n : ℕ) (w w' : Walker A) (given : ℕ) (fits : w.meter.limit < 2 ^ 64) (u : IsUnderWay w given) where
+  going : (k : ℕ) → w'.meter.limit ≡ w.meter.limit → walk_ready w' + k + w.meter.spent ≤ walk_ready w + w'.meter.spent → IsQueryOpened w'.stack w'.query
+      → IsGood w' (given + k) false
+  going k same more opened = record {
+    fits = subst (λ l. l < 2 ^ 64) (sym same) fits;
+    few = omega (arith, u.ready, more);
+    going = λ _. record { ready = omega (arith, u.ready, more); opened = opened };
     ended = λ yes'. absurd (both_ways false refl yes');
   }
 
-  over : (k : ℕ) → k ≤ 1 → m'.limit ≡ m.limit → m.spent ≤ m'.spent → question_of s'.next ≡ None → IsGood m' s' (given + k) true
+  over : (k : ℕ) → k ≤ 1 → w'.meter.limit ≡ w.meter.limit → w.meter.spent ≤ w'.meter.spent → w'.query ≡ None → IsGood w' (given + k) true
   over k one same more free = record {
-    fits = subst (λ n. n < 2 ^ 64) (sym same) fits;
-    few = omega (arith, w.ready, one, more);
+    fits = subst (λ l. l < 2 ^ 64) (sym same) fits;
+    few = omega (arith, u.ready, one, more);
     going = λ h. absurd (both_ways true h refl);
     ended = λ _. free;
   }
 
-  pub IsGood-after : (t : Turn A) → t ≢ turn.Continue → TurnsTo Fits n m s t m' s' → (is_last_turn t ≡ true → IsCleared s')
-      → IsGood m' s' (given + item_number (turn_outcome t)) (is_last_turn t)
-  IsGood-after turn.Continue stops r cleared = absurd (stops refl)
-  IsGood-after turn.Look stops r cleared = going turn.Look 0 r.limit r.ready (opened-look s'.plan s'.next r.asks)
-  IsGood-after (turn.List kinds) stops r cleared = going (turn.List kinds) 0 r.limit r.ready r.asks.1
-  IsGood-after (turn.Path p) stops r cleared = going (turn.Path p) 1 r.limit r.ready (opened-free s'.plan s'.next r.asks)
-  IsGood-after (turn.Unread p e) stops r cleared = going (turn.Unread p e) 1 r.limit r.ready (opened-free s'.plan s'.next r.asks)
-  IsGood-after (turn.Limit p) stops r cleared = over 1 (omega arith) r.limit (grows n m m' (turn.Limit p) r.counts) (ap question_of (cleared refl).0)
-  IsGood-after turn.Memory stops r cleared = over 1 (omega arith) r.limit (grows {A = A} n m m' turn.Memory r.counts) (ap question_of (cleared refl).0)
-  IsGood-after turn.Done stops r cleared = over 0 (omega arith) r.limit (grows {A = A} n m m' turn.Done r.counts) r.asks
+  free-opened : w'.query ≡ None → IsQueryOpened w'.stack w'.query
+  free-opened free = subst (IsQueryOpened w'.stack) (sym free) tt
+
+  pub IsGood-after : (s : Saying) → TurnsTo Fits n w (Some s) w' → IsGood w' (given + item_number (step_outcome s)) (is_last_step s)
+  IsGood-after AsksLook r = going 0 r.limit r.ready r.asks.1
+  IsGood-after (AsksList kinds) r = going 0 r.limit r.ready r.asks.1
+  IsGood-after (Says (Gives item)) r = going 1 r.limit r.ready (free-opened r.asks)
+  IsGood-after (Says (LimitAt p)) r = over 1 (omega arith) r.limit r.grows r.asks
+  IsGood-after (Says NoMemory) r = over 1 (omega arith) r.limit r.grows r.asks
+  IsGood-after Ends r = over 0 (omega arith) r.limit r.grows r.asks
 
   -- the counts of a turn are those of its step
-  counted : (t : Turn A) → t ≢ turn.Continue → TurnsTo Fits n m s t m' s' → (is_last_turn t ≡ true → IsCleared s')
-      → IsCharged n (view m s given false) (turn_saying t) (view m' s' (given + item_number (turn_outcome t)) (is_last_turn t)) → IsAskedAfter (turn_saying t) (question_of s'.next)
-      → turn_outcome t ≡ step_outcome (turn_saying t) → is_last_turn t ≡ is_last_step (turn_saying t)
-      → StepCounts n (view m s given false) (turn_saying t) (view m' s' (given + item_number (turn_outcome t)) (is_last_turn t))
-  counted t stops r cleared charged asks outcome ends = record {
+  counted : (s : Saying) → TurnsTo Fits n w (Some s) w'
+      → IsCharged n (view w given false) s (view w' (given + item_number (step_outcome s)) (is_last_step s)) → IsAskedAfter s (question_of w'.query)
+      → StepCounts n (view w given false) s (view w' (given + item_number (step_outcome s)) (is_last_step s))
+  counted s r charged asks = record {
     limit = r.limit;
     aim = ap aim_of r.plan;
-    grows = grows n m m' t r.counts;
-    within = m'.within;
+    grows = r.grows;
+    within = w'.meter.within;
     charged = charged;
-    given = ap (λ o. given + item_number o) outcome;
-    few = (IsGood-after t stops r cleared).few;
+    given = refl;
+    few = (IsGood-after s r).few;
     asks = asks;
-    ends = ends;
+    ends = refl;
     stays = λ yes'. absurd (both_ways false refl yes');
   }
 
-  goes : (t : Turn A) → t ≢ turn.Continue → TurnsTo Fits n m s t m' s' → (is_last_turn t ≡ true → IsCleared s')
-      → StepGoes Fits n (view m s given false) (turn_saying t) (view m' s' (given + item_number (turn_outcome t)) (is_last_turn t))
-  goes turn.Continue stops r cleared = absurd (stops refl)
-  goes turn.Look stops r cleared = record {
-    counts = counted turn.Look stops r cleared r.counts r.asks refl refl;
+  goes : (s : Saying) → TurnsTo Fits n w (Some s) w' → (is_last_step s ≡ true → IsCleared w')
+      → StepGoes Fits n (view w given false) s (view w' (given + item_number (step_outcome s)) (is_last_step s))
+  goes AsksLook r cleared = record {
+    counts = counted AsksLook r r.counts r.asks.0;
     takes = λ c f no h. record { agrees = r.sound c f h; takes = r.takes c f h };
   }
-  goes (turn.List kinds) stops r cleared = record {
-    counts = counted (turn.List kinds) stops r cleared r.counts r.asks.0 refl refl;
+  goes (AsksList kinds) r cleared = record {
+    counts = counted (AsksList kinds) r r.counts r.asks.0;
     takes = λ c f no h. record { agrees = r.sound c f h; takes = r.takes c f h };
   }
-  goes (turn.Path p) stops r cleared = record {
-    counts = counted (turn.Path p) stops r cleared r.counts r.asks refl refl;
+  goes (Says (Gives item)) r cleared = record {
+    counts = counted (Says (Gives item)) r r.counts (ap question_of r.asks);
     takes = λ c f no h. record { agrees = r.sound c f h; takes = r.takes c f h };
   }
-  goes (turn.Unread p e) stops r cleared = record {
-    counts = counted (turn.Unread p e) stops r cleared r.counts r.asks refl refl;
+  goes (Says (LimitAt p)) r cleared = record {
+    counts = counted (Says (LimitAt p)) r r.counts (ap question_of r.asks);
+    takes = λ c f no h. record { agrees = cleared_sound c w' r.asks (cleared refl); takes = r.takes c f h };
+  }
+  goes (Says NoMemory) r cleared = record {
+    counts = counted (Says NoMemory) r r.counts (ap question_of r.asks);
+    takes = λ c f no h. record { agrees = cleared_sound c w' r.asks (cleared refl); takes = r.takes c f h };
+  }
+  goes Ends r cleared = record {
+    counts = counted Ends r r.counts (ap question_of r.asks);
     takes = λ c f no h. record { agrees = r.sound c f h; takes = r.takes c f h };
-  }
-  goes (turn.Limit p) stops r cleared = record {
-    counts = counted (turn.Limit p) stops r cleared (r.counts.0, r.counts.1) (ap question_of (cleared refl).0) refl refl;
-    takes = λ c f no h. record { agrees = cleared_sound c s' (cleared refl); takes = r.takes c f h };
-  }
-  goes turn.Memory stops r cleared = record {
-    counts = counted turn.Memory stops r cleared r.counts (ap question_of (cleared refl).0) refl refl;
-    takes = λ c f no h. record { agrees = cleared_sound c s' (cleared refl); takes = r.takes c f h };
-  }
-  goes turn.Done stops r cleared = record {
-    counts = counted turn.Done stops r cleared r.counts r.asks refl refl;
-    takes = λ c f no h. record {
-      agrees = r.sound c f h;
-      takes = let t = r.takes c f h in (subst (λ ms. Charges (left c s) m.spent ms m'.spent) t.1 t.0, t.1);
-    };
   }
 
 -- a step, with what is known of its parts
-pub goes_at : {A : Type 0} (n : ℕ) (m m' : Meter) (s s' : Stack A) (given : ℕ) (over' : Bool) (a : Answer A) (v : MachineState A) → view m s given over' ≡ v → over' ≡ false → m.limit < 2 ^ 64 → IsUnderWay m s given
-    → (t : Turn A) (x : Saying) (k : ℕ) (b : Bool) → x ≡ turn_saying t → k ≡ item_number (turn_outcome t) → b ≡ is_last_turn t → t ≢ turn.Continue
-    → TurnsTo (IsAnswered (question_of s.next) a) n m s t m' s' → (is_last_turn t ≡ true → IsCleared s') → StepGoes (IsAnswered v.asked a) n v x (view m' s' (given + k) b)
-goes_at {A} n m m' s s' given over' a v e going' fits w t x k b xs ks bs stops r cleared =
-    subst (λ u. StepGoes (IsAnswered u.asked a) n u x (view m' s' (given + k) b)) e
-    (subst (λ o. StepGoes (IsAnswered (question_of s.next) a) n (view m s given o) x (view m' s' (given + k) b)) (sym going')
-    (subst (λ y. StepGoes (IsAnswered (question_of s.next) a) n (view m s given false) y (view m' s' (given + k) b)) (sym xs)
-    (subst (λ y. StepGoes (IsAnswered (question_of s.next) a) n (view m s given false) (turn_saying t) (view m' s' (given + y) b)) (sym ks)
-    (subst (λ y. StepGoes (IsAnswered (question_of s.next) a) n (view m s given false) (turn_saying t) (view m' s' (given + item_number (turn_outcome t)) y)) (sym bs)
-    (goes (IsAnswered (question_of s.next) a) n m m' s s' given fits w t stops r cleared)))))
+pub goes_at : {A : Type 0} (n : ℕ) (w w' : Walker A) (given : ℕ) (over' : Bool) (a : Answer A) (v : MachineState A) → view w given over' ≡ v → over' ≡ false → w.meter.limit < 2 ^ 64 → IsUnderWay w given
+    → (x : Saying) (k : ℕ) (b : Bool) → k ≡ item_number (step_outcome x) → b ≡ is_last_step x
+    → TurnsTo (IsAnswered (question_of w.query) a) n w (Some x) w' → (is_last_step x ≡ true → IsCleared w') → StepGoes (IsAnswered v.asked a) n v x (view w' (given + k) b)
+goes_at {A} n w w' given over' a v e going' fits u x k b ks bs r cleared =
+    subst (λ y. StepGoes (IsAnswered y.asked a) n y x (view w' (given + k) b)) e
+    (subst (λ o. StepGoes (IsAnswered (question_of w.query) a) n (view w given o) x (view w' (given + k) b)) (sym going')
+    (subst (λ y. StepGoes (IsAnswered (question_of w.query) a) n (view w given false) x (view w' (given + y) b)) (sym ks)
+    (subst (λ y. StepGoes (IsAnswered (question_of w.query) a) n (view w given false) x (view w' (given + item_number (step_outcome x)) y)) (sym bs)
+    (goes (IsAnswered (question_of w.query) a) n w w' given fits u x r cleared))))
 
 -- without a question there is no answer
 none_answered : {A : Type 0} (q : Option Question) (a : Answer A) → q ≡ None → IsAnswer q a → answer_count a ≡ 0
@@ -172,28 +149,20 @@ none_failed q answer.Nothing path P free h = tt
 none_failed {A} q (answer.Look r) path P free h = absurd (subst (λ x. IsAnswer {A = A} x (answer.Look r)) free h)
 none_failed q (answer.List r) path P free h = absurd (subst (λ x. IsAnswer x (answer.List r)) free h)
 
--- what is said of an answer that failed is what the step says
-pub failed_said : {A : Type 0} (a : Answer A) (path : Text) (x y : Saying) → y ≡ x → IfFailed a path (λ o. x ≡ Says o) → IfFailed a path (λ o. y ≡ Says o)
-failed_said answer.Nothing path x y same h = tt
-failed_said (answer.Look (Ok seen)) path x y same h = tt
-failed_said (answer.Look (Err e)) path x y same h = same ∙ h
-failed_said (answer.List (Ok entries)) path x y same h = tt
-failed_said (answer.List (Err e)) path x y same h = same ∙ h
-
 -- a walk that is over stays as it is
-pub goes_over : {A : Type 0} (m : Meter) (s : Stack A) (given : ℕ) (over' : Bool) → over' ≡ true → (a : Answer A) (v : MachineState A) → view m s given over' ≡ v → IsGood m s given over' → IsAnswer v.asked a
+pub goes_over : {A : Type 0} (w : Walker A) (given : ℕ) (over' : Bool) → over' ≡ true → (a : Answer A) (v : MachineState A) → view w given over' ≡ v → IsGood w given over' → IsAnswer v.asked a
     → StepGoes (IsAnswered v.asked a) (answer_count a) v Ends v
-goes_over m s given over' yes' a v e good answers =
+goes_over w given over' yes' a v e good answers =
     subst (λ x. IsAnswer x.asked a → StepGoes (IsAnswered x.asked a) (answer_count a) x Ends x) e
     (λ fits.
-    let free = good.ended yes' in
-    let none = none_answered (question_of s.next) a free fits in
+    let free = ap question_of (good.ended yes') in
+    let none = none_answered (question_of w.query) a free fits in
     record {
       counts = record {
         limit = refl;
         aim = refl;
         grows = omega arith;
-        within = m.within;
+        within = w.meter.within;
         charged = omega (arith, none);
         given = omega arith;
         few = good.few;
@@ -205,17 +174,17 @@ goes_over m s given over' yes' a v e good answers =
     }) answers
 
 -- a walk that has done nothing yet
-pub IsGood-fresh : {A : Type 0} (m : Meter) (s : Stack A) (t : Task A) → m.spent ≡ 0 → m.limit < 2 ^ 64 → s.next ≡ Some t → t.state ≡ Unseen Any → s.frames.items ≡ [] → IsGood m s 0 false
-IsGood-fresh m s t none fits next unseen empty =
-    let none_ready : next_ready s.plan s.next ≡ 0 = ap (next_ready s.plan) next ∙ ap (state_ready (nat_le (length s.plan.components.items) t.component)) unseen in
-    let none_unmet : sum_by unmet s.frames.items ≡ 0 = ap (sum_by unmet) empty in
+pub IsGood-fresh : {A : Type 0} (w : Walker A) (t : Task A) → w.meter.spent ≡ 0 → w.meter.limit < 2 ^ 64 → w.query ≡ None → w.stack.next ≡ Some t → t.state ≡ Unseen Any
+    → w.stack.frames.items ≡ [] → IsGood w 0 false
+IsGood-fresh w t none fits free next unseen empty =
+    let none_asked : query_ready w.query ≡ 0 = ap query_ready free in
+    let none_ready : next_ready w.stack.plan w.stack.next ≡ 0 =
+    ap (next_ready w.stack.plan) next ∙ ap (state_ready (nat_le (length w.stack.plan.components.items) t.component)) unseen in
+    let none_unmet : sum_by unmet w.stack.frames.items ≡ 0 = ap (sum_by unmet) empty in
     record {
       fits = fits;
       few = omega arith;
-      going = λ _. record {
-        ready = omega (arith, none_ready, none_unmet);
-        opened = subst (IsNextOpened s.plan) (sym next) (subst (IsStateOpened s.plan t.component) (sym unseen) tt);
-      };
+      going = λ _. record { ready = omega (arith, none, none_asked, none_ready, none_unmet); opened = subst (IsQueryOpened w.stack) (sym free) tt };
       ended = λ yes'. absurd (both_ways false refl yes');
     }
 
@@ -229,8 +198,11 @@ left-fresh c plan t frames unseen component empty at =
     ∙ ap (λ n. look_up c (λ seen. true) (enter_from c plan n) (string_bytes t.path)) component
     ∙ ap (look_up c (λ seen. true) (enter c plan.options plan.directories plan.components.items)) at
 
-pub sound-fresh : {A : Type 0} (c : Content) (s : Stack A) (t : Task A) → s.next ≡ Some t → t.state ≡ Unseen Any → s.frames.items ≡ [] → IsSound c s
-sound-fresh c s t next unseen empty = record {
-  next = subst (IsNextSound c) (sym next) (subst (IsStateSound c (string_bytes t.path)) (sym unseen) tt);
-  frames = subst (All (IsFrameSound c)) (sym empty) (All-from_recursion (IsFrameSound c) [] tt);
+pub sound-fresh : {A : Type 0} (c : Content) (w : Walker A) (t : Task A) → w.query ≡ None → w.stack.next ≡ Some t → t.state ≡ Unseen Any → w.stack.frames.items ≡ [] → IsWalkSound c w
+sound-fresh c w t free next unseen empty = record {
+  query = subst (IsQuerySound c) (sym free) tt;
+  stack = record {
+    next = subst (IsNextSound c) (sym next) (subst (IsStateSound c (string_bytes t.path)) (sym unseen) tt);
+    frames = subst (All (IsFrameSound c)) (sym empty) (All-from_recursion (IsFrameSound c) [] tt);
+  };
 }

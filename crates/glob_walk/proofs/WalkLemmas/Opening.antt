@@ -1,6 +1,6 @@
 -- What comes of a directory that is listed.
 use Rattle.std.proofs.Common.{◌≡◌, ℕ, zero, suc, ◌+◌, ◌-◌, ◌<◌, ◌≤◌, Bool, true, false, cond, List, [], ◌∷◌, ◌++◌, length, drop, replicate, refl, ap, sym, subst, ◌∙◌, arith, append_assoc}
-use Rattle.std.specs.Prelude.{flat_map, Some, string_bytes}
+use Rattle.std.specs.Prelude.{flat_map}
 use Rattle.std.specs.Path.{cur_dir, parent_dir}
 use Rattle.std.specs.declared.io.ErrorKind.{ErrorKind}
 use Rattle.std.proofs.lemmas.List.{append-nil, length-replicate, map-append, replicate-append-replicate}
@@ -22,11 +22,7 @@ use Rattle.glob_walk.proofs.ListingLemmas.Descending.{enter-wild, enter-recursiv
 use Rattle.glob_walk.specs.declared.plan.Plan.{Plan}
 use Rattle.glob_walk.specs.declared.frame.Cursor.{Cursor}
 use Rattle.glob_walk.specs.declared.frame.Cursor.TheVariants.{Parent, At}
-use Rattle.glob_walk.specs.Private.Tasks.{enter_from, state_marks, next_marks, IsOpened, IsStateOpened, IsNextOpened, IsStateSound, IsNextSound}
-use Rattle.glob_walk.specs.Private.Stacks.{left, frames_marks}
-use Rattle.glob_walk.specs.declared.stack.Stack.{Stack}
-use Rattle.glob_walk.specs.declared.task.Task.{Task}
-use Rattle.glob_walk.specs.declared.task.TaskState.TheVariants.{Listing}
+use Rattle.glob_walk.specs.Private.Tasks.{enter_from, IsOpened}
 use Rattle.glob_walk.specs.Private.Frames.{take_at, first_of, entries_marks, special_marks, special_after, cursor_marks, cursor_unmet, first_cursor, IsEntrySound}
 use Rattle.glob_walk.specs.Private.Meters.{IsInOrder, IsHeld, IsCut}
 use Rattle.glob_tree.specs.Answers.{IsListFault}
@@ -225,15 +221,3 @@ first_unmet n false p is = subst (λ q. cursor_unmet n q ≤ n) (sym is) (omega 
 pub listed_fault : {A : Type 0} (c : Content) (w : IsContent c) (plan : Plan A) (recursive : Bool) (component : ℕ) (path : Text) (opens : IsOpened recursive (drop component plan.components.items))
     (d : is_directory (look_result c path) ≡ true) (kind : ErrorKind) → IsListFault (list_result c path) kind → drop 1 (enter_from c plan component path true) ≡ Give (Unread path kind) ∷ []
 listed_fault c w plan recursive component path opens d kind fault = ap (drop 1) (opened_fault c w plan recursive component path opens d kind fault)
-
--- the task of a stack awaits a listing
-module _ {A : Type 0} (c : Content) (s : Stack A) (t : Task A) (recursive kinds : Bool) (next : s.next ≡ Some t) (listing : t.state ≡ Listing recursive kinds) where
-  pub unread_left : IsContent c → IsNextOpened s.plan s.next → IsNextSound c s.next → (kind : ErrorKind) → IsListFault (list_result c (string_bytes t.path)) kind
-      → left c s ≡ Give (Unread (string_bytes t.path) kind) ∷ frames_marks c s.plan s.frames.items
-  unread_left w opened sound kind fault =
-      let rest = frames_marks c s.plan s.frames.items in
-      let o : IsStateOpened s.plan t.component (Listing recursive kinds) = subst (IsStateOpened s.plan t.component) listing (subst (IsNextOpened s.plan) next opened) in
-      let d : IsStateSound c (string_bytes t.path) (Listing recursive kinds) = subst (IsStateSound c (string_bytes t.path)) listing (subst (IsNextSound c) next sound) in
-      ap (λ n. next_marks c s.plan n ++ rest) next
-      ∙ ap (λ x. state_marks c s.plan t.component (string_bytes t.path) x ++ rest) listing
-      ∙ ap (λ ms. ms ++ rest) (listed_fault c w s.plan recursive t.component (string_bytes t.path) o.opens d kind fault)

@@ -1,5 +1,5 @@
 -- The last directory of a walk.
-use Rattle.std.proofs.Common.{◌≡◌, ℕ, suc, ◌+◌, ◌≤◌, true, false, None, List, [], ◌∷◌, ◌++◌, length, drop, take, get_or, set, subst, refl, ap, sym, ◌∙◌, arith, append_assoc}
+use Rattle.std.proofs.Common.{◌≡◌, ℕ, suc, ◌+◌, ◌≤◌, true, false, Option, None, List, [], ◌∷◌, ◌++◌, length, drop, take, get_or, set, subst, refl, ap, sym, ◌∙◌, arith, append_assoc}
 use Rattle.std.specs.Prelude.{flat_map, nat_le, string_bytes}
 use Rattle.std.specs.List.{All}
 use Rattle.std.proofs.lemmas.List.{take-append-drop, drop_more, set_split, take-set, reverse-append}
@@ -15,10 +15,14 @@ use Rattle.glob_walk.specs.declared.plan.Plan.{Plan}
 use Rattle.glob_walk.specs.declared.frame.Frame.{Frame}
 use Rattle.glob_walk.specs.declared.frame.Cursor.{Cursor}
 use Rattle.glob_walk.specs.declared.frame.Cursor.TheVariants.{Parent, Current, At, Inside}
-use Rattle.glob_walk.specs.Private.Frames.{frame_marks, cursor_marks, entries_marks, inside_marks, is_done, is_done_at}
+use Rattle.glob_walk.specs.Private.Frames.{frame_marks, cursor_marks, entries_marks, inside_marks, is_done, is_done_at, IsFrameSound}
 use Rattle.glob_walk.specs.declared.stack.Stack.{Stack}
-use Rattle.glob_walk.specs.Private.Tasks.{next_marks}
-use Rattle.glob_walk.specs.Private.Stacks.{left, frames_marks}
+use Rattle.glob_walk.specs.declared.query.Query.{Query}
+use Rattle.glob_walk.specs.declared.walker.Walker.{Walker}
+use Rattle.glob_walk.specs.Private.Tasks.{next_marks, IsNextSound}
+use Rattle.glob_walk.specs.Private.Queries.{query_marks, IsQuerySound}
+use Rattle.glob_walk.specs.Private.Stacks.{left, frames_marks, IsSound}
+use Rattle.glob_walk.specs.Private.Walkers.{IsWalkSound}
 
 nothing_past : {X : Type 0} (xs : List X) (n : ℕ) → length xs ≤ n → drop n xs ≡ []
 nothing_past xs n h = drop_of_length-le xs {i = n} h
@@ -59,6 +63,17 @@ done_marks {A} c plan f h = of_place f.cursor h
 -- with no task, what is left is that of the directories
 pub left_none : {A : Type 0} (c : Content) (s : Stack A) → s.next ≡ None → frames_marks c s.plan s.frames.items ≡ left c s
 left_none c s none = ap (λ n. next_marks c s.plan n ++ frames_marks c s.plan s.frames.items) (sym none)
+
+-- and with no question, what is left is that of the stack
+pub left_free : {A : Type 0} (c : Content) (plan : Plan A) (q : Option (Query A)) (ms : List Mark) → q ≡ None → ms ≡ query_marks c plan q ++ ms
+left_free c plan q ms free = ap (λ x. query_marks c plan x ++ ms) (sym free)
+
+-- with no task, the directories are sound
+pub sound_none : {A : Type 0} (c : Content) (s : Stack A) → s.next ≡ None → All (IsFrameSound c) s.frames.items → IsSound c s
+sound_none c s none frames = record { next = subst (IsNextSound c) (sym none) tt; frames = frames }
+
+pub sound_free : {A : Type 0} (c : Content) (w : Walker A) → w.query ≡ None → IsSound c w.stack → IsWalkSound c w
+sound_free c w free stack = record { query = subst (IsQuerySound c) (sym free) tt; stack = stack }
 
 module _ {A : Type 0} (c : Content) (plan : Plan A) where
   pub frames_last : (fs : List (Frame A)) (f : Frame A) → frames_marks c plan (fs ++ f ∷ []) ≡ frame_marks c plan f ++ frames_marks c plan fs

@@ -33,8 +33,6 @@ left c s = next_marks c s.plan s.next ++ frames_marks c s.plan s.frames.items
 abbrev pub state_weight : TaskState → ℕ
 state_weight (state.Unseen w) = 1
 state_weight (state.Seen d) = 2
-state_weight (state.Looking w) = 0
-state_weight (state.Listing recursive kinds) = 0
 
 abbrev pub next_weight : {A : Type 0} → Option (Task A) → ℕ
 next_weight None = 0

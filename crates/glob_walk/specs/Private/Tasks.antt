@@ -7,7 +7,6 @@ use Rattle.glob_walk.specs.Components.{Recursive, Wild, component_kind, begins_r
 use Rattle.glob_text.specs.Pieces.{begins_with}
 use Rattle.glob_text.specs.Characters.{dot}
 use Rattle.glob_walk.specs.Listing.{enter, look_up}
-use Rattle.glob_walk.specs.Questions.{Question, LookAt, ListAt}
 use Rattle.glob_tree.specs.Looks.{is_there, is_directory}
 use Rattle.glob_tree.specs.declared.tree.Look.{Look}
 use Rattle.glob_walk.specs.declared.plan.Plan.{Plan}
@@ -31,9 +30,6 @@ enter_from c plan component = enter c plan.options plan.directories (drop compon
 abbrev pub state_marks : {A : Type 0} → Content → Plan A → ℕ → Text → TaskState → List Mark
 state_marks c plan component path (state.Unseen w) = look_up c (is_accepted w) (enter_from c plan component) path
 state_marks c plan component path (state.Seen d) = enter_from c plan component path d
-state_marks c plan component path (state.Looking w) =
-    if is_accepted w (look_result c path) then enter_from c plan component path (is_directory (look_result c path)) else []
-state_marks c plan component path (state.Listing recursive kinds) = drop 1 (enter_from c plan component path true)
 
 abbrev pub task_marks : {A : Type 0} → Content → Plan A → Task A → List Mark
 task_marks c plan t = state_marks c plan t.component (string_bytes t.path) t.state
@@ -46,8 +42,6 @@ next_marks c plan (Some t) = task_marks c plan t
 abbrev pub IsStateSound : Content → Text → TaskState → Type 0
 IsStateSound c path (state.Unseen w) = Unit {0}
 IsStateSound c path (state.Seen d) = d ≡ true → is_directory (look_result c path) ≡ true
-IsStateSound c path (state.Looking w) = Unit {0}
-IsStateSound c path (state.Listing recursive kinds) = is_directory (look_result c path) ≡ true
 
 abbrev pub IsNextSound : {A : Type 0} → Content → Option (Task A) → Type 0
 IsNextSound c None = Unit {0}
@@ -57,8 +51,6 @@ IsNextSound c (Some t) = IsStateSound c (string_bytes t.path) t.state
 abbrev pub state_ready : Bool → TaskState → ℕ
 state_ready last (state.Unseen w) = 0
 state_ready last (state.Seen d) = if last then 1 else 0
-state_ready last (state.Looking w) = 1
-state_ready last (state.Listing recursive kinds) = 1
 
 abbrev pub next_ready : {A : Type 0} → Plan A → Option (Task A) → ℕ
 next_ready plan None = 0
@@ -69,17 +61,6 @@ abbrev pub IsOpened : Bool → List Text → Type 0
 IsOpened recursive [] = ⊥
 IsOpened false (t ∷ ts) = component_kind t ≡ Wild
 IsOpened true (t ∷ ts) = (component_kind t ≡ Recursive) × (begins_recursive ts ≡ false)
-
--- what is asked for, where a task awaits an answer
-abbrev pub state_question : Text → TaskState → Option Question
-state_question path (state.Unseen w) = None
-state_question path (state.Seen d) = None
-state_question path (state.Looking w) = Some (LookAt path)
-state_question path (state.Listing recursive kinds) = Some (ListAt kinds path)
-
-abbrev pub question_of : {A : Type 0} → Option (Task A) → Option Question
-question_of None = None
-question_of (Some t) = state_question (string_bytes t.path) t.state
 
 -- No entry's kind changes what follows: the component is no `**` and the last, and directories are not wanted.
 pub record IgnoresKinds {A : Type 0} (plan : Plan A) (component : ℕ) (recursive : Bool) : Type 0 where
@@ -92,17 +73,6 @@ pub record IsListedFor {A : Type 0} (plan : Plan A) (component : ℕ) (recursive
   pub within : component < length plan.components.items
   pub opens : IsOpened recursive (drop component plan.components.items)
   pub names : kinds ≡ false → IgnoresKinds plan component recursive
-
--- a directory whose listing is asked for is one of a component
-abbrev pub IsStateOpened : {A : Type 0} → Plan A → ℕ → TaskState → Type 0
-IsStateOpened plan component (state.Unseen w) = Unit {0}
-IsStateOpened plan component (state.Seen d) = Unit {0}
-IsStateOpened plan component (state.Looking w) = Unit {0}
-IsStateOpened plan component (state.Listing recursive kinds) = IsListedFor plan component recursive kinds
-
-abbrev pub IsNextOpened : {A : Type 0} → Plan A → Option (Task A) → Type 0
-IsNextOpened plan None = Unit {0}
-IsNextOpened plan (Some t) = IsStateOpened plan t.component t.state
 
 -- the first component begins with a dot
 abbrev pub is_dotted : List Text → Bool

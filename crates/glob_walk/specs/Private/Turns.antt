@@ -1,91 +1,85 @@
 -- One turn of a walk, against the written listing.
-use Rattle.std.specs.Prelude.{◌≡◌, ℕ, ◌+◌, ◌≤◌, Bool, Option, Some, None, List, [], ◌∷◌, String, string_bytes, ⊤}
-use Rattle.std.specs.IoError.{error_kind}
+use Rattle.std.specs.Prelude.{◌≡◌, ℕ, ◌+◌, ◌≤◌, Bool, Option, Some, None, List, String, ⊤}
 use Rattle.glob_text.specs.Text.{Text}
-use Rattle.glob_walk.specs.Marks.{Mark, Give, Found, Unread}
-use Rattle.glob_walk.specs.declared.meter.Meter.{Meter}
-use Rattle.glob_walk.specs.declared.turn.Turn.{Turn}
-use Rattle.glob_walk.specs.declared.turn.Turn.TheVariants as turn
-use Rattle.glob_walk.specs.Questions.{Question, IsLook, IsListWith, IsSomeContent, question_path}
-use Rattle.glob_walk.specs.Machines.{AsksNext}
-use Rattle.glob_walk.specs.Walks.{Charges, StopsAt, BreaksOff}
+use Rattle.glob_walk.specs.Marks.{Mark}
+use Rattle.glob_walk.specs.Questions.{Question, IsLook, IsListWith, IsSomeContent}
+use Rattle.glob_walk.specs.Machines.{Saying, AsksLook, AsksList, Says, TakesStep, saying, step_outcome, step_units}
+use Rattle.glob_walk.specs.Walks.{Charges, LimitAt, NoMemory, item_number}
 use Rattle.glob_tree.specs.Content.{Content, list_result}
 use Rattle.glob_tree.specs.Answers.{IsEntriesAnswer, entries_of}
 use Rattle.glob_tree.specs.declared.tree.Entry.{Entry}
+use Rattle.glob_walk.specs.declared.machine.Step.{Step}
+use Rattle.glob_walk.specs.declared.meter.Meter.{Meter}
+use Rattle.glob_walk.specs.declared.query.Query.{Query}
+use Rattle.glob_walk.specs.declared.query.QueryKind.{QueryKind}
 use Rattle.glob_walk.specs.declared.stack.Stack.{Stack}
 use Rattle.glob_walk.specs.declared.task.TaskState.{TaskState}
-use Rattle.glob_walk.specs.Private.Tasks.{question_of, IsNextOpened}
-use Rattle.glob_walk.specs.Private.Stacks.{left, ready, IsSound}
+use Rattle.glob_walk.specs.declared.walker.Walker.{Walker}
+use Rattle.glob_walk.specs.Private.Queries.{question_of, IsQueryOpened}
+use Rattle.glob_walk.specs.Private.Walkers.{walk_left, walk_ready, IsWalkSound}
+
+-- what a turn says, if the walk does not just go on
+abbrev pub said : {A : Type 0} → Option (Step A) → Option Saying
+said None = None
+said (Some s) = Some (saying s)
 
 -- what a turn takes from the front of what was left, and what is then asked for
-abbrev pub TurnOf : {A : Type 0} → List Mark → ℕ → Turn A → Option Question → List Mark → ℕ → Type 0
-TurnOf old spent turn.Continue q new spent' = Charges old spent new spent'
-TurnOf old spent turn.Look q new spent' = AsksNext old spent (question_path q) new spent'
-TurnOf old spent (turn.List kinds) q new spent' = AsksNext old spent (question_path q) new spent'
-TurnOf old spent (turn.Path p) q new spent' = Charges old spent (Give (Found (string_bytes p)) ∷ new) spent'
-TurnOf old spent (turn.Unread p e) q new spent' =
-    Charges old spent (Give (Unread (string_bytes p) (error_kind e)) ∷ new) spent'
-TurnOf old spent (turn.Limit p) q new spent' = StopsAt old spent (string_bytes p) spent'
-TurnOf old spent turn.Memory q new spent' = BreaksOff old spent spent'
-TurnOf old spent turn.Done q new spent' = Charges old spent new spent' × (new ≡ [])
-
--- the unit of a question
-abbrev pub turn_units : {A : Type 0} → Turn A → ℕ
-turn_units turn.Look = 1
-turn_units (turn.List kinds) = 1
-turn_units _ = 0
+abbrev pub TurnOf : List Mark → ℕ → Option Saying → Option Question → List Mark → ℕ → Type 0
+TurnOf old spent None q new spent' = Charges old spent new spent'
+TurnOf old spent (Some s) q new spent' = TakesStep old spent s q new spent'
 
 -- the counts of a turn, where so many entries were answered
-abbrev pub TurnCounts : {A : Type 0} → ℕ → Meter → Turn A → Meter → Type 0
-TurnCounts n old (turn.Limit p) new = (new.spent ≡ new.limit) × (new.limit ≤ old.spent + n) × (old.spent ≤ new.spent)
-TurnCounts n old t new = new.spent ≡ old.spent + n + turn_units t
+abbrev pub TurnCounts : ℕ → Meter → Option Saying → Meter → Type 0
+TurnCounts n old None new = new.spent ≡ old.spent + n
+TurnCounts n old (Some (Says (LimitAt path))) new = (new.spent ≡ new.limit) × (new.limit ≤ old.spent + n)
+TurnCounts n old (Some s) new = new.spent ≡ old.spent + n + step_units s
 
--- the items of the listing that a turn gives; a refusal is none
-abbrev pub listed_items : {A : Type 0} → Turn A → ℕ
-listed_items (turn.Path p) = 1
-listed_items (turn.Unread p e) = 1
-listed_items _ = 0
-
--- a question is asked, or the limit has no unit for it
-abbrev pub IsQuestion : {A : Type 0} → Turn A → Type 0
-IsQuestion turn.Look = ⊤
-IsQuestion (turn.List kinds) = ⊤
-IsQuestion (turn.Limit p) = ⊤
-IsQuestion _ = ⊥
+-- the items that a turn gives
+abbrev pub said_items : Option Saying → ℕ
+said_items None = 0
+said_items (Some s) = item_number (step_outcome s)
 
 -- the walk is not ended by a refusal
-abbrev pub IfGoing : {A : Type 0} → Turn A → Type 0 → Type 0
-IfGoing (turn.Limit p) P = ⊤
-IfGoing turn.Memory P = ⊤
+abbrev pub IfGoing : Option Saying → Type 0 → Type 0
+IfGoing (Some (Says (LimitAt path))) P = ⊤
+IfGoing (Some (Says NoMemory)) P = ⊤
 IfGoing _ P = P
 
 -- what is asked for after a turn
-abbrev pub IsAskedBy : {A : Type 0} → Turn A → Stack A → Type 0
-IsAskedBy turn.Look s = IsLook (question_of s.next)
-IsAskedBy (turn.List kinds) s = IsListWith kinds (question_of s.next) × IsNextOpened s.plan s.next
-IsAskedBy (turn.Limit p) s = ⊤
-IsAskedBy turn.Memory s = ⊤
-IsAskedBy _ s = question_of s.next ≡ None
+abbrev pub IsAskedBy : {A : Type 0} → Option Saying → Stack A → Option (Query A) → Type 0
+IsAskedBy (Some AsksLook) s q = IsLook (question_of q) × IsQueryOpened s q
+IsAskedBy (Some (AsksList kinds)) s q = IsListWith kinds (question_of q) × IsQueryOpened s q
+IsAskedBy _ s q = q ≡ None
 
--- A turn takes a walk from one meter and stack to others, where so many entries were answered. `sound` and `takes` are of
--- the contents that fit the answer, and the rest of every answer.
-pub record TurnsTo {A : Type 0} (Fits : Content → Type 0) (n : ℕ) (old : Meter) (s : Stack A) (t : Turn A) (new : Meter)
-    (s' : Stack A) : Type 0 where
-  pub limit : new.limit ≡ old.limit
-  pub counts : TurnCounts n old t new
-  pub plan : s'.plan ≡ s.plan
-  pub asks : IsAskedBy t s'
+-- A turn takes a walk from one state to another, where so many entries were answered. `sound` and `takes` are of the
+-- contents that fit the answer, and the rest of every answer.
+pub record TurnsTo {A : Type 0} (Fits : Content → Type 0) (n : ℕ) (old : Walker A) (t : Option Saying) (new : Walker A) : Type 0 where
+  pub limit : new.meter.limit ≡ old.meter.limit
+  pub grows : old.meter.spent ≤ new.meter.spent
+  pub counts : TurnCounts n old.meter t new.meter
+  pub plan : new.stack.plan ≡ old.stack.plan
+  pub asks : IsAskedBy t new.stack new.query
   -- the items that may come before the next unit are as many as before, and one more for each unit that was charged
-  pub ready : IfGoing t (ready s' + listed_items t + old.spent ≤ ready s + new.spent)
+  pub ready : IfGoing t (walk_ready new + said_items t + old.meter.spent ≤ walk_ready old + new.meter.spent)
   -- what is said to be a directory stays one
-  pub sound : IfGoing t ((c : Content) → Fits c → IsSound c s → IsSound c s')
+  pub sound : IfGoing t ((c : Content) → Fits c → IsWalkSound c old → IsWalkSound c new)
   -- what was left begins with what the turn takes
-  pub takes : (c : Content) → Fits c → IsSound c s
-      → TurnOf (left c s) old.spent t (question_of s'.next) (left c s') new.spent
+  pub takes : (c : Content) → Fits c → IsWalkSound c old
+      → TurnOf (walk_left c old) old.meter.spent t (question_of new.query) (walk_left c new) new.meter.spent
 
--- the stack, with this to do first
-abbrev pub with_task : {A : Type 0} → String A → ℕ → TaskState → Stack A → Stack A
-with_task path component state s = record s { next = Some (record { path = path; component = component; state = state }) }
+-- nothing is asked for, and there is no task
+abbrev pub IsIdle : {A : Type 0} → Walker A → Type 0
+IsIdle w = (w.query ≡ None) × (w.stack.next ≡ None)
+
+-- the walk, with this task, and no question open
+abbrev pub with_task : {A : Type 0} → String A → ℕ → TaskState → Walker A → Walker A
+with_task path component state w =
+    record w { query = None; stack = record w.stack { next = Some (record { path = path; component = component; state = state }) } }
+
+-- the walk, with this question open, and no task
+abbrev pub with_query : {A : Type 0} → String A → ℕ → QueryKind → Walker A → Walker A
+with_query path component kind w =
+    record w { query = Some (record { path = path; component = component; kind = kind }); stack = record w.stack { next = None } }
 
 -- the content lists these entries at the path, with their kinds or as names alone
 abbrev pub AreListedAt : {A : Type 0} → Bool → Text → List (Entry A) → Content → Type 0

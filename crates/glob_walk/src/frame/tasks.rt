@@ -6,7 +6,7 @@ ghost use Rattle.glob_tree.specs.Content.{Content};
 ghost use Rattle.glob_walk.specs.Listing.{is_entered as is_entered_entry};
 ghost use Rattle.glob_text.specs.Text.{Text};
 ghost use Rattle.glob_walk.specs.Private.Forms.{takes_name};
-ghost use Rattle.glob_walk.specs.Private.Tasks.{next_marks, next_ready, question_of, IsNextSound};
+ghost use Rattle.glob_walk.specs.Private.Tasks.{next_marks, next_ready, IsNextSound};
 ghost use Rattle.glob_walk.specs.Private.Frames.{first_part, first_marks, second_marks, met_marks, special_marks, IsEntrySound};
 
 use crate::component::Component;
@@ -28,7 +28,6 @@ impl<A: Allocator + Copy> Frame<A> {
             (λ task. (c : Content)
             → special_marks c plan.now self.now.component (string_bytes self.now.path) name.now
             ≡ next_marks c plan.now task) }
-        ensures free { IfOk result (λ task. question_of task ≡ None) }
         ensures ready { IfOk result (λ task. next_ready plan.now task ≡ 0) }
         ensures sound { IfOk result (λ task. (c : Content) → IsNextSound c task) }
     {
@@ -56,7 +55,6 @@ impl<A: Allocator + Copy> Frame<A> {
             (λ task. (c : Content)
             → first_marks c plan.now self.now (entry.now.name, entry.now.is_dir)
             ≡ next_marks c plan.now task) }
-        ensures free { IfOk result (λ task. question_of task ≡ None) }
         ensures sound { IfOk result
             (λ task. (c : Content)
             → IsEntrySound c (string_bytes self.now.path) (entry.now.name, entry.now.is_dir)
@@ -85,7 +83,6 @@ impl<A: Allocator + Copy> Frame<A> {
             (λ task. (c : Content)
             → second_marks c plan.now self.now (entry.now.name, entry.now.is_dir)
             ≡ next_marks c plan.now task) }
-        ensures free { IfOk result (λ task. question_of task ≡ None) }
         ensures ready { IfOk result (λ task. next_ready plan.now task ≡ 0) }
         ensures sound { IfOk result
             (λ task. (c : Content)

@@ -10,6 +10,7 @@ use crate::proved::glob_tree::{Entry, Look, Tree};
 use crate::proved::glob_walk::error::GlobResult;
 use crate::proved::glob_walk::meter::Meter;
 use crate::proved::glob_walk::plan::Plan;
+use crate::proved::glob_walk::query::QueryKind;
 use crate::proved::glob_walk::stack::Stack;
 use crate::proved::glob_walk::task::{Accepted, Task, TaskState};
 use crate::proved::glob_walk::walker::Walker;
@@ -82,7 +83,7 @@ impl WalkMachine {
         let next = Some(Task { path: start, component: 0, state: TaskState::Unseen(Accepted::Any) });
         let stack = Stack { plan, next, frames };
         let meter = Meter { limit, spent: 0 };
-        WalkMachine { walker: Walker { meter, stack }, given: 0, over: false }
+        WalkMachine { walker: Walker { meter, query: None, stack }, given: 0, over: false }
     }
 
     /// The next step, where no question is open: at first, and after an item. The first step of each walk is
@@ -103,15 +104,14 @@ impl WalkMachine {
     /// The answer of a tree to the question that is open, and `Nothing` where none is. [`resume`](WalkMachine::resume)
     /// takes it; [`advance`](WalkMachine::advance) is the two in one.
     pub fn ask<T: Tree>(&self, tree: &mut T) -> Answer {
-        let Some(task) = &self.walker.stack.next else {
+        let Some(query) = &self.walker.query else {
             return Answer::Nothing;
         };
-        let path = task.path.as_str();
-        match task.state {
-            TaskState::Looking(_) => Answer::Look(tree.look(path)),
-            TaskState::Listing { kinds: true, .. } => Answer::List(tree.list(path)),
-            TaskState::Listing { kinds: false, .. } => Answer::List(tree.list_names(path)),
-            TaskState::Unseen(_) | TaskState::Seen(_) => Answer::Nothing,
+        let path = query.path.as_str();
+        match query.kind {
+            QueryKind::Look(_) => Answer::Look(tree.look(path)),
+            QueryKind::List { kinds: true, .. } => Answer::List(tree.list(path)),
+            QueryKind::List { kinds: false, .. } => Answer::List(tree.list_names(path)),
         }
     }
 
@@ -136,10 +136,10 @@ impl WalkMachine {
         if self.over {
             return Step::Done;
         }
-        let turn = self.walker.proceed(answer);
-        self.given += turn.item_count();
-        self.over = turn.is_last();
-        turn.into_step()
+        let step = self.walker.proceed(answer);
+        self.given += step.item_count();
+        self.over = step.is_last();
+        step
     }
 }
 
@@ -147,11 +147,8 @@ impl WalkMachine {
     /// The path that is asked for, as `a` where the entries of the directory `a` are, and the empty text where no
     /// question is open.
     pub fn path(&self) -> &str {
-        match &self.walker.stack.next {
-            Some(task) => match task.state {
-                TaskState::Looking(_) | TaskState::Listing { .. } => task.path.as_str(),
-                TaskState::Unseen(_) | TaskState::Seen(_) => "",
-            },
+        match &self.walker.query {
+            Some(query) => query.path.as_str(),
             None => "",
         }
     }

@@ -32,7 +32,8 @@ impl Stack {
         let Some(frame) = self.frames.last_mut() else {
             return false;
         };
-        self.next = frame.step(&self.plan);
+        let task = frame.step(&self.plan);
+        self.next = task;
         if frame.is_done() {
             self.frames.pop();
         }

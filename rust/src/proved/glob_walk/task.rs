@@ -17,22 +17,13 @@ pub enum Accepted {
     Nothing,
 }
 
-/// What is known of a task's path, and so what the task is.
+/// What is known of a task's path, and so what the task is: to ask for a look, or to go on at the path.
 #[derive(Clone, Copy)]
 pub enum TaskState {
     /// Nothing: it is to be looked up.
     Unseen(Accepted),
-    /// Nothing yet: its look was charged and is asked for, and the answer is awaited.
-    Looking(Accepted),
     /// It is there, and this says whether it is a directory: it is to be entered, or given.
     Seen(bool),
-    /// It is a directory, and its listing was charged and is asked for.
-    Listing {
-        /// For `**`, and not for a component with wildcards.
-        recursive: bool,
-        /// With the kinds of its entries, and not for their names alone.
-        kinds: bool,
-    },
 }
 
 /// One thing to do: a path, and the number of the component that is met at it. Past the last component none is left,

@@ -18,8 +18,6 @@ one_ready : (last : Bool) (s : TaskState) → state_ready last s ≤ 1
 one_ready last (state.Unseen w) = omega arith
 one_ready true (state.Seen d) = omega arith
 one_ready false (state.Seen d) = omega arith
-one_ready last (state.Looking w) = omega arith
-one_ready last (state.Listing recursive kinds) = omega arith
 
 ready_one : {A : Type 0} (plan : Plan A) (next : Option (Task A)) → next_ready plan next ≤ 1
 ready_one plan None = omega arith
@@ -115,4 +113,4 @@ returns-after-self-clause-ready g c =
     (λ task _.
     let one = ready_one c.args.plan.now task in
     elim c.if-self.branch [ then-self w ↦ omega (arith, below, one, ap (cursor_unmet n) c.in-At.is, ap (cursor_unmet n) w.self-is) | else-self w ↦ omega (arith, below, one, ap (cursor_unmet n) c.in-At.is, ap (cursor_unmet n) w.self-is) ])
-    c.met_task.ensures.free
+    c.met_task.ensures.marks

@@ -5,7 +5,7 @@ use Rattle.glob_walk.proofs.WalkLemmas.MachineSteps.{IsGood-fresh, sound-fresh, 
 use Rattle.glob_walk.proofs.machine.WalkMachine.from_plan.Goals as goal
 
 pub invariant_of-result : goal.invariant_of-result
-invariant_of-result g c = IsGood-fresh _ _ _ refl (search rules) refl refl (search rules)
+invariant_of-result g c = IsGood-fresh _ _ refl (search rules) refl refl refl (search rules)
 
 pub returns-clause-fresh : goal.returns-clause-fresh
 returns-clause-fresh g c = record {
@@ -14,7 +14,7 @@ returns-clause-fresh g c = record {
   given = refl;
   over = refl;
   asked = refl;
-  agrees = λ c'. sound-fresh c' _ _ refl refl (search rules);
+  agrees = λ c'. sound-fresh c' _ _ refl refl refl (search rules);
   whole = λ c'. left-fresh c' c.args.plan (record { path = c.args.start; component = 0; state = Unseen Any }) c.new-frames.result.items
       refl refl (search rules) c.requires.start;
 }

@@ -15,8 +15,6 @@ use Rattle.glob_walk.proofs.stack.Stack.step.Goals as goal
 state-light : (s : TaskState) → state_weight s ≤ 2
 state-light (state.Unseen w) = omega arith
 state-light (state.Seen d) = omega arith
-state-light (state.Looking w) = omega arith
-state-light (state.Listing recursive kinds) = omega arith
 
 next-light : {A : Type 0} (next : Option (Task A)) → next_weight next ≤ 2
 next-light None = omega arith

@@ -1,16 +1,21 @@
-use Rattle.std.proofs.Common.{rules, [], ◌++◌, refl, ap}
-use Rattle.std.specs.Prelude.{string_bytes}
+use Rattle.std.proofs.Common.{rules, true, ◌∷◌, [], ◌++◌, refl, ap, arith, ◌∙◌}
+use Rattle.std.specs.Prelude.{drop, string_bytes}
 use Rattle.glob_tree.proofs.ContentLemmas.Contents.{IsContent-from_test}
+use Rattle.glob_walk.specs.Marks.{Work}
+use Rattle.glob_walk.specs.Private.Tasks.{enter_from, next_ready}
 use Rattle.glob_walk.specs.Private.Stacks.{frames_marks}
+use Rattle.glob_walk.proofs.WalkLemmas.Charging.{TurnsTo-said}
 use Rattle.glob_walk.proofs.WalkLemmas.Opening.{opened_unit}
+use Rattle.glob_walk.proofs.WalkLemmas.Stacking.{left_none, sound_none}
 use Rattle.glob_walk.proofs.walker.Walker.list.Goals as goal
 
-pub returns-then-not-charge-clause-turn : goal.returns-then-not-charge-clause-turn
-returns-then-not-charge-clause-turn g c = record {
+pub returns-then-not-charge : goal.returns-then-not-charge
+returns-then-not-charge g c = TurnsTo-said _ _ _ _ _ _ c.limit.ensures (record {
   limit = c.charge.ensures.limit;
+  grows = search rules;
   counts = search rules;
   plan = refl;
-  asks = tt;
+  asks = c.requires.idle.0;
   ready = tt;
   sound = tt;
   takes = λ c' w h. record {
@@ -18,28 +23,33 @@ returns-then-not-charge-clause-turn g c = record {
     charges = record {
       paths = [];
       front = ap (λ ms. ms ++ frames_marks c' c.args.self.now.stack.plan c.args.self.now.stack.frames.items)
-          (opened_unit c' (IsContent-from_test c' w) c.args.self.now.stack.plan c.args.recursive c.args.component (string_bytes c.args.path) c.requires.opens (h.next refl));
+          (opened_unit c' (IsContent-from_test c' w) c.args.self.now.stack.plan c.args.recursive c.args.component (string_bytes c.args.path) c.requires.opens (h.stack.next refl));
       units = search rules;
     };
   };
-}
+})
 
-pub returns-clause-turn : goal.returns-clause-turn
-returns-clause-turn g c = record {
-  limit = c.charge.ensures.limit;
-  counts = search rules;
-  plan = refl;
-  asks = (refl, record { within = search rules; opens = c.requires.opens; names = c.needs_kinds-kinds.ensures });
-  ready = search rules;
-  sound = λ c' w h. record { next = h.next refl; frames = h.frames };
-  takes = λ c' w h. record {
-    before = c.args.self.now.meter.spent;
-    charges = record {
-      paths = [];
-      front = ap (λ ms. ms ++ frames_marks c' c.args.self.now.stack.plan c.args.self.now.stack.frames.items)
-          (opened_unit c' (IsContent-from_test c' w) c.args.self.now.stack.plan c.args.recursive c.args.component (string_bytes c.args.path) c.requires.opens (h.next refl));
-      units = search rules;
-    };
-    unit = search rules;
-  };
-}
+pub returns : goal.returns
+returns g c =
+    let s = c.args.self.now.stack in
+    let none = ap (next_ready s.plan) c.requires.idle.1 in
+    TurnsTo-said _ _ _ _ _ _ c.list.ensures (record {
+      limit = c.charge.ensures.limit;
+      grows = search rules;
+      counts = search rules;
+      plan = refl;
+      asks = (refl, (c.requires.idle.1, record { within = search rules; opens = c.requires.opens; names = c.needs_kinds-kinds.ensures }));
+      ready = omega (arith, none, c.charge.ensures.charged c.if-not-charge.false);
+      sound = λ c' w h. record { query = h.stack.next refl; stack = sound_none c' s c.requires.idle.1 h.stack.frames };
+      takes = λ c' w h. record {
+        before = c.args.self.now.meter.spent;
+        charges = record {
+          paths = [];
+          front = ap (λ ms. ms ++ frames_marks c' s.plan s.frames.items)
+              (opened_unit c' (IsContent-from_test c' w) s.plan c.args.recursive c.args.component (string_bytes c.args.path) c.requires.opens (h.stack.next refl))
+              ∙ ap (λ ms. Work (string_bytes c.args.path) ∷ (drop 1 (enter_from c' s.plan c.args.component (string_bytes c.args.path) true) ++ ms)) (left_none c' s c.requires.idle.1);
+          units = search rules;
+        };
+        unit = search rules;
+      };
+    })

@@ -1,21 +1,22 @@
-use Rattle.std.proofs.Common.{cond, true, refl, ◌≡◌, ℕ, ◌+◌, ◌<◌, ◌≤◌, List, ◌++◌, length, drop, ap, sym, ◌∙◌, arith, subst}
+use Rattle.std.proofs.Common.{cond, true, refl, ◌≡◌, ℕ, ◌+◌, ◌<◌, List, ◌++◌, length, drop, ap, sym, ◌∙◌, arith, subst}
 use Rattle.std.specs.Prelude.{string_bytes, vec_len}
-use Rattle.std.specs.List.{sum_by}
 use Rattle.glob_tree.specs.Answers.{entries_of}
 use Rattle.glob_tree.specs.declared.tree.Entry.{Entry}
 use Rattle.glob_tree.proofs.ContentLemmas.Contents.{IsContent-from_test}
 use Rattle.glob_walk.specs.Walks.{StopsAt}
-use Rattle.glob_walk.specs.Private.Tasks.{enter_from, next_ready, question_of, IsNextSound}
-use Rattle.glob_walk.specs.Private.Frames.{frame_marks, cursor_marks, unmet}
-use Rattle.glob_walk.specs.Private.Stacks.{left, frames_marks, ready}
+use Rattle.glob_walk.specs.Private.Tasks.{enter_from, next_ready}
+use Rattle.glob_walk.specs.Private.Queries.{query_marks, query_ready}
+use Rattle.glob_walk.specs.Private.Frames.{frame_marks, cursor_marks}
+use Rattle.glob_walk.specs.Private.Stacks.{left, frames_marks}
 use Rattle.std.proofs.lemmas.List.{length-map}
 use Rattle.glob_walk.specs.declared.frame.Cursor.TheVariants.{At, Parent}
 use Rattle.glob_walk.proofs.WalkLemmas.Kinds.{opened_answer}
 use Rattle.glob_walk.proofs.WalkLemmas.Listings.{held, is_cut}
 use Rattle.glob_walk.proofs.WalkLemmas.Opening.{held_sound, opened_charges, opened_cut, first_unmet}
-use Rattle.glob_walk.proofs.WalkLemmas.Stacking.{left_none}
-use Rattle.glob_walk.proofs.walker.Walker.open.Goals.{then-is_dotted, else-is_dotted}
-use Rattle.glob_walk.proofs.walker.Walker.open.Goals as goal
+use Rattle.glob_walk.proofs.WalkLemmas.Stacking.{left_free, left_none, sound_free, sound_none}
+use Rattle.glob_walk.proofs.WalkLemmas.Charging.{TurnsTo-said}
+use Rattle.glob_walk.proofs.walker.Walker.enter_listed.Goals.{then-is_dotted, else-is_dotted}
+use Rattle.glob_walk.proofs.walker.Walker.enter_listed.Goals as goal
 
 counted : (spent' spent n : ℕ) → spent' ≡ spent + n → spent' ≡ spent + n + 0
 counted spent' spent n e = omega arith
@@ -23,32 +24,25 @@ counted spent' spent n e = omega arith
 entries_counted : {A : Type 0} (es : List (Entry A)) (spent' spent n m : ℕ) → spent' ≡ spent + n → m ≡ n → length es ≡ m → spent' ≡ spent + length (entries_of es)
 entries_counted es spent' spent n m e same long = simp length-map (omega arith)
 
--- the entries that are still to be met are paid for
-ready_after : (r' r rest new n m spent spent' : ℕ) → r' ≤ r + rest + new → r ≡ 0 → new ≤ n → n ≡ m → spent' ≡ spent + m → r' + 0 + spent ≤ 1 + rest + spent'
-ready_after r' r rest new n m spent spent' more none few same e = omega arith
-
 pub returns-then-not-charge_entries : goal.returns-then-not-charge_entries
 returns-then-not-charge_entries g c =
     let at : c.charge_entries.new.self.spent ≡ c.args.self.now.meter.limit = (c.charge_entries.ensures.refused c.if-not-charge_entries.true).0 in
     let few : c.args.self.now.meter.limit < c.args.self.now.meter.spent + length c.args.entries.items =
     omega (arith, (c.charge_entries.ensures.refused c.if-not-charge_entries.true).1, c.len.ensures, c.args.entries.ok.0) in
-    record {
+    TurnsTo-said _ _ _ _ _ _ c.limit.ensures (record {
       limit = c.charge_entries.ensures.limit;
-      counts = (
-        at ∙ sym c.charge_entries.ensures.limit,
-        omega (arith, few, c.charge_entries.ensures.limit, c.args.entries.ok.0),
-        omega (arith, at, c.args.self.now.meter.within),
-      );
+      grows = omega (arith, at, c.args.self.now.meter.within);
+      counts = (at ∙ sym c.charge_entries.ensures.limit, omega (arith, few, c.charge_entries.ensures.limit, c.args.entries.ok.0));
       plan = refl;
-      asks = tt;
+      asks = c.requires.idle.0;
       ready = tt;
       sound = tt;
       takes = λ c' w h.
           subst (λ n. StopsAt (drop 1 (enter_from c' c.args.self.now.stack.plan c.args.component (string_bytes c.args.path) true) ++ frames_marks c' c.args.self.now.stack.plan c.args.self.now.stack.frames.items) c.args.self.now.meter.spent (string_bytes c.args.path) n) (sym at)
-          (opened_cut c' (IsContent-from_test c' w.0) c.args.self.now.stack.plan c.args.recursive c.args.component (string_bytes c.args.path) c.requires.listed.opens h.next
+          (opened_cut c' (IsContent-from_test c' w.0) c.args.self.now.stack.plan c.args.recursive c.args.component (string_bytes c.args.path) c.requires.listed.opens h.query
           (frames_marks c' c.args.self.now.stack.plan c.args.self.now.stack.frames.items) c.args.self.now.meter.spent c.args.self.now.meter.limit c.args.self.now.meter.within
           (is_cut c' (string_bytes c.args.path) c.args.kinds c.args.entries.items c.args.self.now.meter.spent c.args.self.now.meter.limit w.1 few));
-    }
+    })
 
 pub returns-in-Ok : goal.returns-in-Ok
 returns-in-Ok g c =
@@ -57,24 +51,34 @@ returns-in-Ok g c =
     c.charge_entries.ensures.charged c.if-not-charge_entries.false ∙ ap (λ n. c.args.self.now.meter.spent + n) c.len.ensures in
     record {
       limit = c.charge_entries.ensures.limit;
-      counts = counted _ _ _ charged;
+      grows = omega (arith, charged);
+      counts = charged;
       plan = c.open.ensures.plan;
-      asks = ap question_of c.open.ensures.next;
-      ready = let r = c.in-Ok.ensures.ready in let f = first_unmet (length c.sort_entries.new.entries.items) c.is_dotted.result c.if-is_dotted.cursor cursor in let l = c.sort_entries.ensures.len in
-          let none : next_ready c.args.self.now.stack.plan c.args.self.now.stack.next ≡ 0 = ap (next_ready c.args.self.now.stack.plan) c.requires.none in
-          ready_after (ready c.open.new.self) (next_ready c.args.self.now.stack.plan c.args.self.now.stack.next) (sum_by unmet c.args.self.now.stack.frames.items) _ _ _ _ _ r none f (omega (arith, l, c.sort_entries.new.entries.ok.0)) charged;
-      sound = λ c' w h. c.in-Ok.ensures.sound c' (record {
-        entries = λ e in'. held_sound c' (IsContent-from_test c' w.0) c.args.self.now.stack.plan c.args.recursive c.args.component (string_bytes c.args.path) c.requires.listed.opens h.next e
+      asks = c.requires.idle.0;
+      ready =
+          let few = first_unmet (length c.sort_entries.new.entries.items) c.is_dotted.result c.if-is_dotted.cursor cursor in
+          omega (
+            arith,
+            c.in-Ok.ensures.ready,
+            few,
+            ap query_ready c.requires.idle.0,
+            ap (next_ready c.args.self.now.stack.plan) c.requires.idle.1,
+            c.sort_entries.ensures.len,
+            c.sort_entries.new.entries.ok.0,
+            charged,
+          );
+      sound = λ c' w h. sound_free c' _ c.requires.idle.0 (c.in-Ok.ensures.sound c' (record {
+        entries = λ e in'. held_sound c' (IsContent-from_test c' w.0) c.args.self.now.stack.plan c.args.recursive c.args.component (string_bytes c.args.path) c.requires.listed.opens h.query e
             (held c' (string_bytes c.args.path) c.args.kinds c.args.entries.items c.sort_entries.new.entries.items w.1 c.sort_entries.ensures.permutation e in');
-      }) (record { next = subst (IsNextSound c') (sym c.requires.none) tt; frames = h.frames });
+      }) (sound_none c' c.args.self.now.stack c.requires.idle.1 h.stack.frames));
       takes = λ c' w h.
           let rest = frames_marks c' c.args.self.now.stack.plan c.args.self.now.stack.frames.items in
-          opened_charges c' (IsContent-from_test c' w.0) c.args.self.now.stack.plan c.args.recursive c.args.component (string_bytes c.args.path) c.requires.listed.opens h.next
+          opened_charges c' (IsContent-from_test c' w.0) c.args.self.now.stack.plan c.args.recursive c.args.component (string_bytes c.args.path) c.requires.listed.opens h.query
           (entries_of c.sort_entries.new.entries.items)
-          (opened_answer c' (IsContent-from_test c' w.0) c.args.self.now.stack.plan c.args.component (string_bytes c.args.path) h.next c.args.entries.items c.sort_entries.new.entries.items c.sort_entries.ensures.permutation c.sort_entries.ensures.sorted c.args.recursive c.args.kinds c.requires.listed w.1)
-          c.if-is_dotted.cursor rest (left c' c.open.new.self) c.args.self.now.meter.spent c.charge_entries.new.self.spent
+          (opened_answer c' (IsContent-from_test c' w.0) c.args.self.now.stack.plan c.args.component (string_bytes c.args.path) h.query c.args.entries.items c.sort_entries.new.entries.items c.sort_entries.ensures.permutation c.sort_entries.ensures.sorted c.args.recursive c.args.kinds c.requires.listed w.1)
+          c.if-is_dotted.cursor rest (query_marks c' c.open.new.self.plan c.args.self.now.query ++ left c' c.open.new.self) c.args.self.now.meter.spent c.charge_entries.new.self.spent
           (cursor ∙ ap (λ b. cond b Parent (At 0)) c.is_dotted.ensures)
-          (c.in-Ok.ensures.left c' ∙ ap (λ ms. frame_marks c' c.args.self.now.stack.plan (record { path = c.args.path; component = c.args.component; recursive = c.args.recursive; entries = c.sort_entries.new.entries; cursor = c.if-is_dotted.cursor }) ++ ms) (sym (left_none c' c.args.self.now.stack c.requires.none)))
+          (sym (left_free c' c.open.new.self.plan c.args.self.now.query (left c' c.open.new.self) c.requires.idle.0) ∙ c.in-Ok.ensures.left c' ∙ ap (λ ms. frame_marks c' c.args.self.now.stack.plan (record { path = c.args.path; component = c.args.component; recursive = c.args.recursive; entries = c.sort_entries.new.entries; cursor = c.if-is_dotted.cursor }) ++ ms) (sym (left_none c' c.args.self.now.stack c.requires.idle.1)))
           (entries_counted c.sort_entries.new.entries.items _ _ _ _ charged c.sort_entries.ensures.len (omega (arith, c.sort_entries.new.entries.ok.0)));
     }
 
@@ -83,11 +87,12 @@ returns-in-Err g c =
     let cursor : c.if-is_dotted.cursor ≡ cond c.is_dotted.result Parent (At 0) = elim c.if-is_dotted.branch [ then-is_dotted w ↦ w.cursor-is ∙ sym (ap (λ b. cond b Parent (At 0)) w.if-is_dotted.true) | else-is_dotted w ↦ w.cursor-is ∙ sym (ap (λ b. cond b Parent (At 0)) w.if-is_dotted.false) ] in
     let charged : c.charge_entries.new.self.spent ≡ c.args.self.now.meter.spent + vec_len c.args.entries =
     c.charge_entries.ensures.charged c.if-not-charge_entries.false ∙ ap (λ n. c.args.self.now.meter.spent + n) c.len.ensures in
-    record {
+    TurnsTo-said _ _ _ _ _ _ c.memory.ensures (record {
       limit = c.charge_entries.ensures.limit;
+      grows = omega (arith, charged);
       counts = counted _ _ _ charged;
       plan = c.open.ensures.plan;
-      asks = tt;
+      asks = c.requires.idle.0;
       ready = tt;
       sound = tt;
       takes = λ c' w h.
@@ -95,12 +100,12 @@ returns-in-Err g c =
           let rest = frames_marks c' plan c.args.self.now.stack.frames.items in
           record {
             rest = cursor_marks c' plan c.args.recursive c.args.component (string_bytes c.args.path) (entries_of c.sort_entries.new.entries.items) c.if-is_dotted.cursor ++ rest;
-            charges = opened_charges c' (IsContent-from_test c' w.0) plan c.args.recursive c.args.component (string_bytes c.args.path) c.requires.listed.opens h.next
+            charges = opened_charges c' (IsContent-from_test c' w.0) plan c.args.recursive c.args.component (string_bytes c.args.path) c.requires.listed.opens h.query
                 (entries_of c.sort_entries.new.entries.items)
-                (opened_answer c' (IsContent-from_test c' w.0) c.args.self.now.stack.plan c.args.component (string_bytes c.args.path) h.next c.args.entries.items c.sort_entries.new.entries.items c.sort_entries.ensures.permutation c.sort_entries.ensures.sorted c.args.recursive c.args.kinds c.requires.listed w.1)
+                (opened_answer c' (IsContent-from_test c' w.0) c.args.self.now.stack.plan c.args.component (string_bytes c.args.path) h.query c.args.entries.items c.sort_entries.new.entries.items c.sort_entries.ensures.permutation c.sort_entries.ensures.sorted c.args.recursive c.args.kinds c.requires.listed w.1)
                 c.if-is_dotted.cursor rest _ c.args.self.now.meter.spent c.charge_entries.new.self.spent
                 (cursor ∙ ap (λ b. cond b Parent (At 0)) c.is_dotted.ensures)
                 refl
                 (entries_counted c.sort_entries.new.entries.items _ _ _ _ charged c.sort_entries.ensures.len (omega (arith, c.sort_entries.new.entries.ok.0)));
           };
-    }
+    })

@@ -1,0 +1,53 @@
+//! Made by `bin/rust_crate` from `crates/glob_walk/src/step.rt`.
+//! Contracts are there, and their proofs in `crates/glob_walk/proofs`; it is changed there alone.
+//!
+//! What a step of a walk says.
+
+use crate::proved::glob_walk::ending::end_of;
+use crate::proved::glob_walk::error::GlobError;
+use crate::proved::glob_walk::machine::Step;
+use std::io;
+use std::path::PathBuf;
+
+impl Step {
+    /// It asks for a listing, with the kinds of the entries or for their names alone.
+    pub(crate) fn list(kinds: bool) -> Self {
+        if kinds {
+            Step::List
+        } else {
+            Step::ListNames
+        }
+    }
+
+    /// It gives a path that the pattern leads to.
+    pub(crate) fn found(path: String) -> Self {
+        Step::Item(Ok(PathBuf::from(path)))
+    }
+
+    /// It reports a directory that could not be listed. The walk goes on after it.
+    pub(crate) fn unread(path: String, e: io::Error) -> Self {
+        Step::Item(Err(GlobError::read(PathBuf::from(path), e)))
+    }
+
+    /// The limit was reached at the path. The walk is over.
+    pub(crate) fn limit(path: String) -> Self {
+        Step::Item(Err(GlobError::limit(PathBuf::from(path))))
+    }
+
+    /// How many items it gives.
+    pub(crate) fn item_count(&self) -> u128 {
+        match self {
+            Step::Item(_) => 1,
+            Step::Look | Step::List | Step::ListNames | Step::Done => 0,
+        }
+    }
+
+    /// Whether only `Done` follows it.
+    pub(crate) fn is_last(&self) -> bool {
+        match self {
+            Step::Look | Step::List | Step::ListNames => false,
+            Step::Item(item) => end_of(item).is_some(),
+            Step::Done => true,
+        }
+    }
+}
