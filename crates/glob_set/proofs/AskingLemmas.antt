@@ -11,14 +11,14 @@ use Rattle.glob_set.specs.Private.Asking.{AreAsked, AreMatches, IsFirstOf, IsLas
 use Rattle.glob_set.specs.Private.Buckets.{Avoids, IsBucket, AreBuckets, IsAll}
 use Rattle.glob_set.specs.declared.key.Key.{Key}
 use Rattle.glob_set.specs.Private.Keyed.{FoundNumbers, Finds}
-use Rattle.glob_set.specs.Private.Keys.{AreKeys, HasKey, IsComponentOf, IsExtensionOf}
+use Rattle.glob_set.specs.Private.Keys.{AreKeys, HasKey, IsKeyOf}
 use Rattle.glob_set.specs.Private.Pairs.{text_class}
 use Rattle.glob_set.specs.Sets.{MatchesAt, AnyMatch, FirstMatch, LastMatch}
 use Rattle.glob_set.proofs.ListReading.{within_patterns}
 
 module _ (o : MatchOptions) (patterns : List Text) (text : Text) where
   -- a pattern with a key is found by it
-  found_by_key : IsUtf8 text → (keys : List (Option Key)) (found : FoundNumbers) → AreKeys patterns keys → Finds keys (λ key. IsComponentOf text key ⊎ IsExtensionOf text key) found
+  found_by_key : IsUtf8 text → (keys : List (Option Key)) (found : FoundNumbers) → AreKeys patterns keys → Finds keys (IsKeyOf text) found
       → (k : ℕ) → MatchesAt o patterns text k → IsNone (get_or keys k None) ⊎ (IsTrue found.is_full ⊎ Contains found.items k)
   unfolding MatchesAt HasKey Finds
   found_by_key utf8 keys found are finds k at = of (get_or keys k None) refl (are.each k at.0)
@@ -38,7 +38,7 @@ module _ (o : MatchOptions) (patterns : List Text) (text : Text) where
   -- the numbers of a bucket, and those that are found
   pub AreAsked-bucket : IsUtf8 text → (keys : List (Option Key)) (listed : List ℕ) (found : FoundNumbers) → AreKeys patterns keys
       → IsBucket patterns keys (text_class text) (length patterns) listed → found.is_full ≡ false
-      → All (λ k. k < length keys) found.items → IsNonDecreasing found.items → Finds keys (λ key. IsComponentOf text key ⊎ IsExtensionOf text key) found
+      → All (λ k. k < length keys) found.items → IsNonDecreasing found.items → Finds keys (IsKeyOf text) found
       → AreAsked o patterns text listed found.items
   AreAsked-bucket utf8 keys listed found are bucket room within order finds = record {
     listed_within = bucket.within;

@@ -1,16 +1,15 @@
 -- The keys of a pattern are keys of each text that it matches.
-use Rattle.std.proofs.Common.{◌≡◌, ℕ, zero, suc, ◌+◌, ◌*◌, ◌%◌, ◌^◌, ◌<◌, ◌==◌, ◌||◌, ◌⊎◌, min, Bool, true, false, cond, List, [], ◌∷◌, ◌++◌, length, take, drop, get_or, IsTrue, fold, Contains, refl, sym, ap, ap₂, subst, ◌∙◌, arith, add-one, chars, length-drop, inl, ⊎_elim}
-use Rattle.std.proofs.lemmas.Bool.{cond-true, cond_both, or_cases, and_parts, eq-eqb, eqb-true, cases_lt}
-use Rattle.std.proofs.lemmas.List.{append-nil, take-append-drop, drop_all}
-use Rattle.std.proofs.lemmas.List.Elements.{Contains-append_right}
+use Rattle.std.proofs.Common.{◌≡◌, ℕ, zero, suc, ◌+◌, ◌*◌, ◌%◌, ◌^◌, ◌<◌, ◌==◌, ◌⊎◌, inl, inr, min, Bool, true, false, cond, List, [], ◌∷◌, ◌++◌, length, take, drop, reverse, get_or, IsTrue, fold, refl, sym, ap, ap₂, subst, ◌∙◌, arith, add-one, chars, encode_utf8, length-append, length-drop, ⊎_elim}
+use Rattle.std.proofs.lemmas.Bool.{or_cases, and_parts, eq-eqb, eqb-true, ltb-true, cases_lt}
+use Rattle.std.proofs.lemmas.List.{append-nil, take-append-drop, drop_all, reverse-append}
 use Rattle.std.proofs.lemmas.List.Folds.{concat-append}
 use Rattle.std.proofs.lemmas.List.Sums.{fold-append}
 use Rattle.std.proofs.lemmas.Str.{encode_ascii, encodes-append, encodes-chars}
 use Rattle.std.proofs.lemmas.Str.Ascii.{lowercase_is}
-use Rattle.std.specs.Char.{to_ascii_lowercase}
+use Rattle.std.specs.Char.{is_ascii, to_ascii_lowercase}
 use Rattle.std.specs.List.{concat}
 use Rattle.std.specs.Str.{IsUtf8, encode_utf8_all}
-use Rattle.glob_text.specs.Characters.{slash}
+use Rattle.glob_text.specs.Characters.{dot, slash}
 use Rattle.glob_text.specs.Text.{Text}
 use Rattle.glob_pattern.specs.Computing.Tokens.{kind_of}
 use Rattle.glob_pattern.specs.Grammar.Brackets.{is_same}
@@ -23,40 +22,12 @@ use Rattle.glob_pattern.specs.declared.token.Token.TheVariants.{Literal, AnyChar
 use Rattle.glob_pattern.specs.declared.pattern.tokens.TokenKind.TheVariants as kind
 use Rattle.glob_pattern.proofs.CallerLemmas.{one_reading, pieces_of_match, tokens_of_match}
 use Rattle.glob_set.specs.declared.components.Component.{Component}
+use Rattle.glob_set.specs.declared.key.Key.{Key}
 use Rattle.glob_set.specs.declared.key.Key.TheVariants as variant
-use Rattle.glob_set.specs.Private.Components.{start, after, is_asked, hashes, IsReadAt, IsInnerRecursive}
-use Rattle.glob_set.specs.Private.Keys.{HasKey}
+use Rattle.glob_set.specs.declared.key.Key.TheVariants.{Beginning, Ending, Extension}
+use Rattle.glob_set.specs.Private.Components.{start, after, hashed, is_end, IsReadAt, IsInnerRecursive}
+use Rattle.glob_set.specs.Private.Keys.{HasKey, IsKeyOf, IsReadBack, hash_back}
 use Rattle.glob_set.proofs.TokenPairs.{literal_within, same_ascii}
-
--- a hash of what follows the next byte
-hash_later : (c : Component) (b : ℕ) (bs : List ℕ) (hash : ℕ) → Contains (hashes (after c b) bs) hash → Contains (hashes c (b ∷ bs)) hash
-hash_later c b bs hash has =
-    cond_both (is_asked c b) (c.hash ∷ hashes (after c b) bs) (hashes (after c b) bs) (λ all. Contains all hash)
-    (λ _. Contains-append_right (c.hash ∷ []) (hashes (after c b) bs) hash has) (λ _. has)
-
--- a hash of what follows some bytes
-hashes_later : (c : Component) (xs ys : List ℕ) (hash : ℕ) → Contains (hashes (fold after c xs) ys) hash → Contains (hashes c (xs ++ ys)) hash
-hashes_later c [] ys hash has = has
-hashes_later c (x ∷ xs) ys hash has = hash_later c x (xs ++ ys) hash (hashes_later (after c x) xs ys hash has)
-
-first_of : (x : ℕ) (xs : List ℕ) → Contains (x ∷ xs) x
-first_of x xs = (0, omega arith, refl)
-
--- the hash here
-hash_here : (c : Component) (b : ℕ) (bs : List ℕ) → IsTrue (is_asked c b) → Contains (hashes c (b ∷ bs)) c.hash
-hash_here c b bs asked =
-    subst (λ all. Contains all c.hash)
-    (sym (cond-true (is_asked c b) (c.hash ∷ hashes (after c b) bs) (hashes (after c b) bs) asked))
-    (first_of c.hash (hashes (after c b) bs))
-
-right_true : (a b : Bool) → IsTrue b → IsTrue (a || b)
-right_true true b is = refl
-right_true false b is = is
-
--- the hash of a head, whatever follows
-hash_of_head : (c : Component) (bytes : List ℕ) → IsTrue (c.len == 4) → Contains (hashes c bytes) c.hash
-hash_of_head c [] head = first_of c.hash []
-hash_of_head c (b ∷ bs) head = hash_here c b bs (right_true (b == slash) (c.len == 4) head)
 
 -- the piece of the token of a number
 pub record PieceAt (o : MatchOptions) (text : Text) (tokens : List Token) (pieces : List Text) (number : ℕ) : Type 0 where
@@ -77,7 +48,7 @@ piece_at o text k (t ∷ ts) (piece ∷ pieces) (took, form, others) (suc number
     let p = piece_at o text (k + length piece) ts pieces others number (omega arith) in
     record { piece = p.piece; place = p.place; more = ap (λ ps. piece ∷ ps) p.more; rest = p.rest; takes = p.takes; form = p.form }
 
-pub as_many : (o : MatchOptions) (text : Text) (k : ℕ) (tokens : List Token) (pieces : List Text) → AreAllowed o text k tokens pieces → length pieces ≡ length tokens
+as_many : (o : MatchOptions) (text : Text) (k : ℕ) (tokens : List Token) (pieces : List Text) → AreAllowed o text k tokens pieces → length pieces ≡ length tokens
 as_many o text k [] [] allowed = refl
 as_many o text k [] (piece ∷ pieces) allowed = absurd allowed
 as_many o text k (t ∷ ts) [] allowed = absurd allowed
@@ -123,29 +94,54 @@ same_mark mark low case c x same =
     (λ is. eq-eqb c mark (lower_mark c mark low (lower ∙ ap to_ascii_lowercase (eqb-true x mark is) ∙ own))))
     (or_cases (c == x) _ same)
 
--- a piece that is one character, the same as one of ASCII
-pub record OneCharacter (piece : Text) (x : ℕ) : Type 0 where
-  pub c : ℕ
-  pub bytes : (rest : Text) → encode_utf8_all (piece ++ rest) ≡ c ∷ encode_utf8_all rest
-  pub mark : (mark : ℕ) → mark < 65 → c == mark ≡ x == mark
-  pub low : c % 32 ≡ x % 32
-
-one_of : (case : Bool) (piece : Text) (x : ℕ) → x < 128 → length piece ≡ 1
-    → ((i : ℕ) → i < length piece → IsTrue (is_same case (get_or piece i 0) x)) → OneCharacter piece x
-one_of case [] x low one same = absurd (omega arith)
-one_of case (c ∷ []) x low one same =
-    let is = same_ascii case c x low (same 0 (omega arith)) in
-    record {
-      c = c;
-      bytes = λ rest. ap (λ p. p ++ encode_utf8_all rest) (encode_ascii c is.0);
-      mark = λ mark small. same_mark mark small case c x (same 0 (omega arith));
-      low = is.1;
-    }
-one_of case (c ∷ d ∷ cs) x low one same = absurd (omega arith)
-
 after_same : (component : Component) (c x : ℕ) → c == slash ≡ x == slash → c % 32 ≡ x % 32 → after component c ≡ after component x
 after_same component c x slashes low =
     ap₂ (λ b r. cond b start (record { hash = (component.hash * 33 + r) % 2 ^ 32; len = min (component.len + 1) 255 })) slashes low
+
+-- a piece that is one character, the same as another: it is read as that one is, from both ends
+pub record SameCharacter (piece : Text) (x : ℕ) : Type 0 where
+  pub as_many : length (encode_utf8_all piece) ≡ length (encode_utf8 x)
+  pub read : (c : Component) → fold after c (encode_utf8_all piece) ≡ fold after c (encode_utf8 x)
+  pub back : (hash : ℕ) → fold hashed hash (reverse (encode_utf8_all piece)) ≡ fold hashed hash (reverse (encode_utf8 x))
+
+same_of_bytes : (piece : Text) (x : ℕ) → encode_utf8_all piece ≡ encode_utf8 x → SameCharacter piece x
+same_of_bytes piece x is = record {
+  as_many = ap length is;
+  read = λ c. ap (fold after c) is;
+  back = λ hash. ap (λ bytes. fold hashed hash (reverse bytes)) is;
+}
+
+same_in_ascii : (case : Bool) (c x : ℕ) → x < 128 → IsTrue (is_same case c x) → SameCharacter (c ∷ []) x
+same_in_ascii case c x low same =
+    let (ascii, bits) = same_ascii case c x low same in
+    let one : encode_utf8_all (c ∷ []) ≡ c ∷ [] = append-nil (encode_utf8 c) ∙ encode_ascii c ascii in
+    let other = encode_ascii x low in
+    record {
+      as_many = ap length one ∙ sym (ap length other);
+      read = λ k. ap (fold after k) one ∙ after_same k c x (same_mark slash (omega arith) case c x same) bits ∙ sym (ap (fold after k) other);
+      back = λ hash.
+          ap (λ bytes. fold hashed hash (reverse bytes)) one ∙ ap (λ r. (hash * 33 + r) % 2 ^ 32) bits
+          ∙ sym (ap (λ bytes. fold hashed hash (reverse bytes)) other);
+    }
+
+same_piece : (case : Bool) (piece : Text) (x : ℕ) → length piece ≡ 1 → ((i : ℕ) → i < length piece → IsTrue (is_same case (get_or piece i 0) x))
+    → SameCharacter piece x
+same_piece case [] x one same = absurd (omega arith)
+same_piece case (c ∷ d ∷ cs) x one same = absurd (omega arith)
+same_piece case (c ∷ []) x one same =
+    ⊎_elim
+    (λ is. same_of_bytes (c ∷ []) x (append-nil (encode_utf8 c) ∙ ap encode_utf8 (eqb-true c x is)))
+    (λ both. same_in_ascii case c x (ltb-true x 128 (and_parts _ (is_ascii x) (and_parts _ (to_ascii_lowercase c == to_ascii_lowercase x) both).0).1) (same 0 (omega arith)))
+    (or_cases (c == x) _ (same 0 (omega arith)))
+
+-- the byte of a piece that is a mark
+mark_bytes : (mark : ℕ) → mark < 65 → (case : Bool) (piece : Text) → length piece ≡ 1
+    → ((i : ℕ) → i < length piece → IsTrue (is_same case (get_or piece i 0) mark)) → encode_utf8_all piece ≡ mark ∷ []
+mark_bytes mark low case [] one same = absurd (omega arith)
+mark_bytes mark low case (c ∷ d ∷ cs) one same = absurd (omega arith)
+mark_bytes mark low case (c ∷ []) one same =
+    let is : c ≡ mark = eqb-true c mark (same_mark mark low case c mark (same 0 (omega arith)) ∙ eq-eqb mark mark refl) in
+    append-nil (encode_utf8 c) ∙ ap encode_utf8 is ∙ encode_ascii mark (omega (arith, low))
 
 -- a piece of `**` before others leaves the start of a component
 read_recursive : (piece : Text) → (piece ≡ []) ⊎ EndsInSlash piece → fold after start (encode_utf8_all piece) ≡ start
@@ -158,29 +154,51 @@ read_recursive piece =
     ∙ fold-append after start (encode_utf8_all front) (slash ∷ []))
 
 module _ (o : MatchOptions) (text : Text) (tokens : List Token) (pieces : List Text) (allowed : AreAllowed o text 0 tokens pieces) where
-  -- the piece of a literal of ASCII
-  pub one_at : (number x : ℕ) → x < 128 → get_or tokens number AnyChar ≡ Literal x
-      → (p : PieceAt o text tokens pieces number) × OneCharacter p.piece x
-  one_at number x low is =
-      let p = piece_at o text 0 tokens pieces allowed number (literal_within tokens number x is) in
-      let form : HasForm (Literal x) (drop (suc number) tokens) p.piece = subst (λ t. HasForm t (drop (suc number) tokens) p.piece) is p.form in
-      let takes : TakesPiece o text (Literal x) p.place p.piece = subst (λ t. TakesPiece o text t p.place p.piece) is p.takes in
-      (p, one_of o.case_sensitive p.piece x low form takes)
+  -- the piece of a literal
+  literal_at : (number x : ℕ) → get_or tokens number AnyChar ≡ Literal x
+      → (p : PieceAt o text tokens pieces number) × (length p.piece ≡ 1) × TakesPiece o text (Literal x) p.place p.piece
+  literal_at number x is =
+      let p = piece_at o text 0 tokens pieces allowed number (literal_within tokens number x is) in (
+        p,
+        subst (λ t. HasForm t (drop (suc number) tokens) p.piece) is p.form,
+        subst (λ t. TakesPiece o text t p.place p.piece) is p.takes,
+      )
 
-  -- the bytes of the pieces from it on
-  pub bytes_from : (number x : ℕ) (low : x < 128) (is : get_or tokens number AnyChar ≡ Literal x)
-      → encode_utf8_all (concat (drop number pieces)) ≡ (one_at number x low is).1.c ∷ encode_utf8_all (concat (drop (suc number) pieces))
-  bytes_from number x low is =
-      let (p, one) = one_at number x low is in
-      ap (λ ps. encode_utf8_all (concat ps)) p.rest ∙ one.bytes (concat (drop (suc number) pieces))
+  same_at : (number x : ℕ) → get_or tokens number AnyChar ≡ Literal x → (p : PieceAt o text tokens pieces number) × SameCharacter p.piece x
+  same_at number x is =
+      let (p, one, takes) = literal_at number x is in
+      (p, same_piece o.case_sensitive p.piece x one takes)
 
-  after_literal : (number x : ℕ) → x < 128 → get_or tokens number AnyChar ≡ Literal x → read (take (suc number) pieces) ≡ after (read (take number pieces)) x
-  after_literal number x low is =
-      let (p, one) = one_at number x low is in
-      let before = read (take number pieces) in
-      ap read p.more ∙ read_more (take number pieces) p.piece
-      ∙ ap (fold after before) (ap encode_utf8_all (sym (append-nil p.piece)) ∙ one.bytes [])
-      ∙ after_same before one.c x (one.mark slash (omega arith)) one.low
+  -- the bytes of the pieces from one on
+  bytes_from : (number : ℕ) (p : PieceAt o text tokens pieces number)
+      → encode_utf8_all (concat (drop number pieces)) ≡ encode_utf8_all p.piece ++ encode_utf8_all (concat (drop (suc number) pieces))
+  bytes_from number p = ap (λ ps. encode_utf8_all (concat ps)) p.rest ∙ encodes-append p.piece (concat (drop (suc number) pieces))
+
+  -- those from that of a mark on
+  bytes_from_mark : (number mark : ℕ) → mark < 65 → get_or tokens number AnyChar ≡ Literal mark
+      → encode_utf8_all (concat (drop number pieces)) ≡ mark ∷ encode_utf8_all (concat (drop (suc number) pieces))
+  bytes_from_mark number mark low is =
+      let (p, one, takes) = literal_at number mark is in
+      bytes_from number p ∙ ap (λ bs. bs ++ encode_utf8_all (concat (drop (suc number) pieces))) (mark_bytes mark low o.case_sensitive p.piece one takes)
+
+  after_literal : (number x : ℕ) → get_or tokens number AnyChar ≡ Literal x → read (take (suc number) pieces) ≡ fold after (read (take number pieces)) (encode_utf8 x)
+  after_literal number x is =
+      let (p, same) = same_at number x is in
+      ap read p.more ∙ read_more (take number pieces) p.piece ∙ same.read (read (take number pieces))
+
+  -- the pieces from that of a literal on have its bytes more
+  back_literal : (number x hash len : ℕ) → get_or tokens number AnyChar ≡ Literal x
+      → (length (encode_utf8_all (concat (drop (suc number) pieces))) ≡ len) × (hash_back (encode_utf8_all (concat (drop (suc number) pieces))) ≡ hash)
+      → (length (encode_utf8_all (concat (drop number pieces))) ≡ len + length (encode_utf8 x))
+      × (hash_back (encode_utf8_all (concat (drop number pieces))) ≡ fold hashed hash (reverse (encode_utf8 x)))
+  back_literal number x hash len is (lengths, hashes) =
+      let (p, same) = same_at number x is in
+      let piece = encode_utf8_all p.piece in
+      let rest = encode_utf8_all (concat (drop (suc number) pieces)) in (
+        omega (arith, ap length (bytes_from number p), length-append piece rest, same.as_many, lengths),
+        ap hash_back (bytes_from number p) ∙ ap (fold hashed 0) (reverse-append piece rest) ∙ fold-append hashed 0 (reverse rest) (reverse piece)
+            ∙ ap (λ h. fold hashed h (reverse piece)) hashes ∙ same.back hash,
+      )
 
   after_recursive : (number : ℕ) → number + 1 < length tokens → get_or tokens number AnyChar ≡ Recursive → read (take number pieces) ≡ start
       → read (take (suc number) pieces) ≡ start
@@ -191,26 +209,30 @@ module _ (o : MatchOptions) (text : Text) (tokens : List Token) (pieces : List T
       ∙ read_recursive p.piece
       (⊎_elim (λ last. absurd (omega (arith, more, ap length last, length-drop (suc number) tokens))) (λ ends. ends) form)
 
+  none_from : (count : ℕ) → length tokens ≡ count → drop count pieces ≡ []
+  none_from count counted = drop_all count pieces (omega (arith, as_many o text 0 tokens pieces allowed, counted))
+
 pub start_of : (component : Component) → component.hash ≡ 0 → component.len ≡ 0 → component ≡ start
 start_of component hash len = ap₂ (λ h n. component_of h n) hash len
   where
     component_of : ℕ → ℕ → Component
     component_of h n = record { hash = h; len = n }
 
+pub IsReadAt-literal : (pattern : Text) (number x : ℕ) (component : Component) → HasLiteral (chars pattern) number x
+    → IsReadAt pattern number component → IsReadAt pattern (number + 1) (fold after component (encode_utf8 x))
+unfolding IsReadAt HasLiteral read
+IsReadAt-literal pattern number x component literal before =
+    subst (λ n. IsReadAt pattern n (fold after component (encode_utf8 x))) (sym (add-one number))
+    (λ o tokens text pieces has allowed.
+    after_literal o text tokens pieces allowed number x (literal tokens has) ∙ ap (λ c. fold after c (encode_utf8 x)) (before o tokens text pieces has allowed))
+
 -- after `/` a component starts
 pub IsReadAt-separator : (pattern : Text) (number : ℕ) → HasLiteral (chars pattern) number slash → IsReadAt pattern (number + 1) start
 unfolding IsReadAt HasLiteral read
 IsReadAt-separator pattern number literal =
     subst (λ n. IsReadAt pattern n start) (sym (add-one number))
-    (λ o tokens text pieces has allowed. after_literal o text tokens pieces allowed number slash (omega arith) (literal tokens has))
-
-pub IsReadAt-literal : (pattern : Text) (number x : ℕ) (component : Component) → x < 128 → HasLiteral (chars pattern) number x
-    → IsReadAt pattern number component → IsReadAt pattern (number + 1) (after component x)
-unfolding IsReadAt HasLiteral read
-IsReadAt-literal pattern number x component low literal before =
-    subst (λ n. IsReadAt pattern n (after component x)) (sym (add-one number))
     (λ o tokens text pieces has allowed.
-    after_literal o text tokens pieces allowed number x low (literal tokens has) ∙ ap (λ c. after c x) (before o tokens text pieces has allowed))
+    after_literal o text tokens pieces allowed number slash (literal tokens has) ∙ ap (fold after (read (take number pieces))) (encode_ascii slash (omega arith)))
 
 pub IsReadAt-recursive : (pattern : Text) (number : ℕ) → IsInnerRecursive (chars pattern) number → IsReadAt pattern number start
     → IsReadAt pattern (number + 1) start
@@ -225,52 +247,102 @@ pub IsReadAt-start : (pattern : Text) → IsReadAt pattern 0 start
 unfolding IsReadAt
 IsReadAt-start pattern = λ o tokens text pieces has allowed. refl
 
--- the bytes of a text in two parts, before the piece of a number and from it on
-pub parts : (number : ℕ) (pieces : List Text) (bytes : List ℕ) → IsUtf8 bytes → concat pieces ≡ chars bytes
-    → bytes ≡ encode_utf8_all (concat (take number pieces)) ++ encode_utf8_all (concat (drop number pieces))
+-- the bytes of the pieces before a number, and of those from it on
+abbrev front_of : (number : ℕ) → List Text → List ℕ
+front_of number pieces = encode_utf8_all (concat (take number pieces))
+
+abbrev back_of : (number : ℕ) → List Text → List ℕ
+back_of number pieces = encode_utf8_all (concat (drop number pieces))
+
+parts : (number : ℕ) (pieces : List Text) (bytes : List ℕ) → IsUtf8 bytes → concat pieces ≡ chars bytes
+    → bytes ≡ front_of number pieces ++ back_of number pieces
 parts number pieces bytes utf8 are =
     sym (encodes-chars bytes utf8) ∙ ap encode_utf8_all (sym are ∙ sym (ap concat (take-append-drop number pieces)) ∙ concat-append (take number pieces) (drop number pieces))
     ∙ encodes-append (concat (take number pieces)) (concat (drop number pieces))
 
--- What is read before a token is a key, if it is one whatever the pieces from there on are.
-key_of_read : (pattern : Text) (number : ℕ) (component : Component) → IsReadAt pattern number component
+-- What is a key of the bytes of all pieces, in two parts at a number, is one of the pattern.
+key_of_parts : (pattern : Text) (number : ℕ) (key : Key)
     → ((o : MatchOptions) (tokens : List Token) (text : Text) (pieces : List Text) → HasTokens (chars pattern) tokens → AreAllowed o text 0 tokens pieces
-    → Contains (hashes component (encode_utf8_all (concat (drop number pieces)))) component.hash)
-    → HasKey pattern (variant.Component component.hash)
-unfolding HasKey IsReadAt
-key_of_read pattern number component before here =
+    → IsKeyOf (front_of number pieces ++ back_of number pieces) key)
+    → HasKey pattern key
+unfolding HasKey
+key_of_parts pattern number key here =
     λ o bytes utf8 matches.
     let (tokens, has, match) = tokens_of_match o (chars pattern) (chars bytes) matches in
     let (pieces, are, allowed) = pieces_of_match o tokens (chars bytes) match in
-    let front = encode_utf8_all (concat (take number pieces)) in
-    let back = encode_utf8_all (concat (drop number pieces)) in
-    inl (subst (λ bs. Contains (hashes start bs) component.hash) (sym (parts number pieces bytes utf8 are))
-    (hashes_later start front back component.hash
-    (subst (λ c. Contains (hashes c back) component.hash) (sym (before o tokens (chars bytes) pieces has allowed)) (here o tokens (chars bytes) pieces has allowed))))
+    subst (λ bs. IsKeyOf bs key) (sym (parts number pieces bytes utf8 are)) (here o tokens (chars bytes) pieces has allowed)
 
-pub HasKey-head : (pattern : Text) (number : ℕ) (component : Component) → IsTrue (component.len == 4) → IsReadAt pattern number component → HasKey pattern (variant.Component component.hash)
-HasKey-head pattern number component head before = key_of_read pattern number component before (λ o tokens text pieces has allowed. hash_of_head component (encode_utf8_all (concat (drop number pieces))) head)
+pub HasKey-beginning : (pattern : Text) (number : ℕ) (component : Component) → IsReadAt pattern number component → HasKey pattern (Beginning component.hash component.len)
+unfolding IsReadAt
+HasKey-beginning pattern number component before =
+    key_of_parts pattern number _ (λ o tokens text pieces has allowed. inl (front_of number pieces, back_of number pieces, refl, before o tokens text pieces has allowed))
 
 pub HasKey-separator : (pattern : Text) (number : ℕ) (component : Component) → HasLiteral (chars pattern) number slash → IsReadAt pattern number component
     → HasKey pattern (variant.Component component.hash)
-unfolding HasLiteral
+unfolding IsReadAt HasLiteral
 HasKey-separator pattern number component literal before =
-    key_of_read pattern number component before
+    key_of_parts pattern number _
     (λ o tokens text pieces has allowed.
-    let is = literal tokens has in
-    let low : slash < 128 = omega arith in
-    let (p, one) = one_at o text tokens pieces allowed number slash low is in
-    let rest = encode_utf8_all (concat (drop (suc number) pieces)) in
-    subst (λ bs. Contains (hashes component bs) component.hash) (sym (bytes_from o text tokens pieces allowed number slash low is))
-    (hash_here component one.c rest (ap (λ b. b || component.len == 4) (one.mark slash (omega arith)))))
+    inl (
+      front_of number pieces,
+      back_of number pieces,
+      refl,
+      subst (λ bs. IsTrue (is_end bs)) (sym (bytes_from_mark o text tokens pieces allowed number slash (omega arith) (literal tokens has))) refl,
+      ap (λ (c : Component). c.hash) (before o tokens text pieces has allowed),
+    ))
 
 pub HasKey-end : (pattern : Text) (count : ℕ) (component : Component) → HasCount (chars pattern) count → IsReadAt pattern count component → HasKey pattern (variant.Component component.hash)
-unfolding HasCount
+unfolding IsReadAt HasCount
 HasKey-end pattern count component counted before =
-    key_of_read pattern count component before
+    key_of_parts pattern count _
     (λ o tokens text pieces has allowed.
-    let none : drop count pieces ≡ [] = drop_all count pieces (omega (arith, as_many o text 0 tokens pieces allowed, counted tokens has)) in
-    subst (λ ps. Contains (hashes component (encode_utf8_all (concat ps))) component.hash) (sym none) (first_of component.hash []))
+    inl (
+      front_of count pieces,
+      back_of count pieces,
+      refl,
+      subst (λ ps. IsTrue (is_end (encode_utf8_all (concat ps)))) (sym (none_from o text tokens pieces allowed count (counted tokens has))) refl,
+      ap (λ (c : Component). c.hash) (before o tokens text pieces has allowed),
+    ))
+
+pub IsReadBack-end : (pattern : Text) (count : ℕ) → HasCount (chars pattern) count → IsReadBack pattern count 0 0
+unfolding IsReadBack HasCount
+IsReadBack-end pattern count counted =
+    λ o tokens text pieces has allowed.
+    subst (λ ps. (length (encode_utf8_all (concat ps)) ≡ 0) × (hash_back (encode_utf8_all (concat ps)) ≡ 0))
+    (sym (none_from o text tokens pieces allowed count (counted tokens has))) (refl, refl)
+
+pub IsReadBack-literal : (pattern : Text) (number hash len x : ℕ) → HasLiteral (chars pattern) number x → IsReadBack pattern (number + 1) hash len
+    → IsReadBack pattern number (fold hashed hash (reverse (encode_utf8 x))) (len + length (encode_utf8 x))
+unfolding IsReadBack HasLiteral
+IsReadBack-literal pattern number hash len x literal read =
+    let next = subst (λ n. IsReadBack pattern n hash len) (add-one number) read in
+    λ o tokens text pieces has allowed.
+    back_literal o text tokens pieces allowed number x hash len (literal tokens has) (next o tokens text pieces has allowed)
+
+pub HasKey-ending : (pattern : Text) (number hash len : ℕ) → IsReadBack pattern number hash len → HasKey pattern (Ending hash len)
+unfolding IsReadBack
+HasKey-ending pattern number hash len read =
+    key_of_parts pattern number _
+    (λ o tokens text pieces has allowed.
+    let (lengths, hashes) = read o tokens text pieces has allowed in
+    inr (front_of number pieces, back_of number pieces, refl, lengths, hashes))
+
+pub HasKey-extension : (pattern : Text) (number hash len : ℕ) → HasLiteral (chars pattern) number dot → IsReadBack pattern (number + 1) hash len
+    → HasKey pattern (Extension hash len)
+unfolding IsReadBack HasLiteral
+HasKey-extension pattern number hash len literal read =
+    key_of_parts pattern number _
+    (λ o tokens text pieces has allowed.
+    let (lengths, hashes) = read o tokens text pieces has allowed in
+    inr (
+      front_of number pieces,
+      back_of (number + 1) pieces,
+      ap (λ bs. front_of number pieces ++ bs)
+          (subst (λ n. back_of number pieces ≡ dot ∷ back_of n pieces) (sym (add-one number))
+          (bytes_from_mark o text tokens pieces allowed number dot (omega arith) (literal tokens has))),
+      lengths,
+      hashes,
+    ))
 
 -- a token of the kind of `**`
 kind_recursive : (t : Token) → kind_of t ≡ kind.Recursive → t ≡ Recursive

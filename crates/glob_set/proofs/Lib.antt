@@ -8,13 +8,15 @@ pub mod BraceTexts
 pub mod BraceReadings
 pub mod BraceSetLemmas
 pub mod BucketLemmas
-pub mod ExtensionLemmas
+pub mod ByteFolds
 pub mod KeyLemmas
 pub mod KeyLists
 pub mod KeyedLemmas
+pub mod KindLemmas
 pub mod ListReading
 pub mod MappedErrors
 pub mod NeedLists
 pub mod PairLemmas
 pub mod ReadLemmas
+pub mod TextKeys
 pub mod TokenPairs

@@ -1,9 +1,6 @@
-//! Components of texts, and what they are looked up by.
-ghost use Rattle.std.specs.Prelude.{◌≡◌, ◌==◌, ◌<◌};
-ghost use Rattle.glob_set.specs.Private.Components.{after, hashed, is_asked, slot_of, start};
-
-/// How many bytes the head of a component has, by which it is looked up besides.
-const HEAD: u8 = 4;
+//! Components of texts and their beginnings, and the hashes that texts are looked up by.
+ghost use Rattle.std.specs.Prelude.{◌≡◌, ◌<◌, encode_utf8, fold, reverse};
+ghost use Rattle.glob_set.specs.Private.Components.{after, hashed, slot_of, start};
 
 /// A component as far as it has been read: a hash of its bytes, the same in upper and in lower case, and how many of
 /// them there are, 255 at most.
@@ -36,20 +33,16 @@ impl Component {
         }
     }
 
-    /// Whether a head has been read.
-    #[inline(always)]
-    pub fn is_head(self) -> bool
-        ensures { result ≡ self.len == 4 }
+    /// The component with one character more, or after `/` the next one.
+    pub fn after_char(self, c: char) -> Component
+        ensures { result ≡ fold after self (encode_utf8 c) }
     {
-        self.len == HEAD
-    }
-
-    /// Whether texts are looked up by what has been read, before this byte: all of a component, or its head.
-    #[inline(always)]
-    pub fn is_asked(self, byte: u8) -> bool
-        ensures { result ≡ is_asked self byte }
-    {
-        byte == b'/' || self.is_head()
+        let mut buffer = [0; 4];
+        let mut component = self;
+        for byte in c.encode_utf8(&mut buffer).as_bytes() {
+            component = component.after(*byte);
+        }
+        component
     }
 }
 
@@ -59,6 +52,21 @@ pub fn hash_after(hash: u32, byte: u8) -> u32
     ensures { result ≡ hashed hash byte }
 {
     ((u64::from(hash) * 33 + u64::from(byte % 32)) % (1 << 32)) as u32
+}
+
+/// The hash of some bytes, read from their end, with those of the character before them.
+pub fn hash_before(hash: u32, c: char) -> u32
+    ensures { result ≡ fold hashed hash (reverse (encode_utf8 c)) }
+{
+    let mut buffer = [0; 4];
+    let bytes = c.encode_utf8(&mut buffer).as_bytes();
+    let mut hash = hash;
+    let mut left = bytes.len();
+    while left > 0 {
+        left -= 1;
+        hash = hash_after(hash, bytes[left]);
+    }
+    hash
 }
 
 /// The slot of a hash in a table of so many.

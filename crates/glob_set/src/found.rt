@@ -1,44 +1,49 @@
-//! Few numbers, kept without an allocation.
-ghost use Rattle.std.specs.Prelude.{◌≡◌, [], false, length, IsPermutation};
+//! Numbers, of which a few are kept without an allocation.
+ghost use Rattle.std.specs.Prelude.{◌≡◌, ◌≤◌, ◌<◌, ◌++◌, ◌∷◌, ℕ, [], false, length, All, OnErr, OnOk, IsPermutation};
 ghost use Rattle.std.specs.List.Sorted.{IsNonDecreasing};
-ghost use Rattle.glob_set.specs.Private.Keyed.{pushed};
+ghost use Rattle.glob_set.specs.Private.Keyed.{Keeps, KeepsAll};
 
+use std::alloc::{AllocError, Allocator, Global};
 use std::marker::Model;
 
-/// How many numbers there are at most.
+/// How many numbers are kept without an allocation.
 const ROOM: usize = 16;
 
-/// Different numbers, and whether one more had no room.
+/// Different numbers, and whether one more had no room since an allocation failed.
 #[derive(Drop)]
-pub struct Found {
-    numbers: [usize; ROOM],
+pub struct Found<A: Allocator = Global> {
+    // the first `len`, until there are more than these have room for
+    few: [usize; ROOM],
     len: usize,
+    // all, once there are more
+    many: Vec<usize, A>,
     is_full: bool,
 }
 
-impl Model for Found {
+impl<A: Allocator> Model for Found<A> {
     ghost use Rattle.std.specs.Prelude.{◌≤◌, take};
-    ghost use Rattle.glob_set.specs.Private.Keyed.{FoundNumbers};
+    ghost use Rattle.glob_set.specs.Private.Keyed.{FoundNumbers, few_or_many};
 
     ghost Value = { FoundNumbers };
 
     ghost view = { λ found. record {
-      items = take found.len found.numbers;
+      items = few_or_many (take found.len found.few) found.many.items;
       is_full = found.is_full;
     } };
 
     ghost invariant = { λ found. found.len ≤ 16 };
 }
 
-impl Found {
+impl<A: Allocator> Found<A> {
     /// No number.
     #[inline(always)]
-    pub fn new() -> Found
+    pub fn new(alloc: A) -> Self
         ensures { result ≡ record { items = []; is_full = false } }
     {
         Found {
-            numbers: [0; ROOM],
+            few: [0; ROOM],
             len: 0,
+            many: Vec::new(alloc),
             is_full: false,
         }
     }
@@ -48,7 +53,10 @@ impl Found {
     pub fn numbers(&self) -> &[usize]
         ensures { result.now ≡ self.now.items }
     {
-        &self.numbers[..self.len]
+        if self.many.is_empty() {
+            return &self.few[..self.len];
+        }
+        self.many.as_slice()
     }
 
     /// Whether a number had no room.
@@ -61,17 +69,36 @@ impl Found {
 
     /// Adds the number, unless it is there or has no room.
     pub fn push(&mut self, number: usize)
-        ensures { self.new ≡ pushed self.old number }
+        ensures kept { KeepsAll self.old self.new }
+        ensures pushed { Keeps self.new number }
+        ensures within { (n : ℕ) → number < n → All (λ k. k < n) self.old.items
+            → All (λ k. k < n) self.new.items }
     {
         if self.numbers().contains(&number) {
             return;
         }
-        if self.len == ROOM {
-            self.is_full = true;
-            return;
+        match self.push_new(number) {
+            Ok(()) => {}
+            Err(_) => self.is_full = true,
         }
-        self.numbers[self.len] = number;
-        self.len += 1;
+    }
+
+    /// Adds the number. The error is a failed allocation; then the numbers are as they were.
+    fn push_new(&mut self, number: usize) -> Result<(), AllocError>
+        ensures pushed { OnOk result (self.new.items ≡ self.old.items ++ number ∷ []) }
+        ensures kept { OnErr result (self.new.items ≡ self.old.items) }
+        ensures full { self.new.is_full ≡ self.old.is_full }
+    {
+        if self.many.is_empty() {
+            if self.len < ROOM {
+                self.few[self.len] = number;
+                self.len += 1;
+                return Ok(());
+            }
+            self.many.extend_from_slice(&self.few)?;
+        }
+        self.many.push(number)?;
+        Ok(())
     }
 
     /// Puts the numbers in ascending order.
@@ -80,7 +107,11 @@ impl Found {
         ensures order { IsNonDecreasing self.new.items }
         ensures full { self.new.is_full ≡ self.old.is_full }
     {
-        let len = self.len;
-        self.numbers[..len].sort_unstable();
+        if self.many.is_empty() {
+            let len = self.len;
+            self.few[..len].sort_unstable();
+        } else {
+            self.many.as_mut_slice().sort_unstable();
+        }
     }
 }

@@ -1,16 +1,18 @@
 //! Keys, by which few patterns are found for a text.
-ghost use Rattle.std.specs.Prelude.{◌≡◌};
-ghost use Rattle.glob_set.specs.Private.Keys.{AreKinds, extension, hash_of, kinds_with};
+ghost use Rattle.std.specs.Prelude.{◌≡◌, IfSome};
+ghost use Rattle.glob_set.specs.Private.Keys.{AreKinds, HasKind, KeepsKinds, hash_of};
 
-use crate::components::hash_after;
-
-/// A hash of what each text has that a pattern matches.
+/// What each text has that a pattern matches.
 #[derive(Clone, Copy)]
 pub enum Key {
-    /// Of a component, or of its head.
+    /// A component of this hash.
     Component(u32),
-    /// Of an extension, which is behind the last `.` of the last component.
-    Extension(u32),
+    /// A component that begins with so many bytes of this hash.
+    Beginning(u32, u8),
+    /// So many last bytes of the text, of this hash from their end.
+    Ending(u32, u8),
+    /// The same, behind a `.`.
+    Extension(u32, u8),
 }
 
 impl Key {
@@ -21,7 +23,9 @@ impl Key {
     {
         match self {
             Key::Component(hash) => hash,
-            Key::Extension(hash) => hash,
+            Key::Beginning(hash, _) => hash,
+            Key::Ending(hash, _) => hash,
+            Key::Extension(hash, _) => hash,
         }
     }
 }
@@ -29,8 +33,36 @@ impl Key {
 /// Which kinds of keys there are.
 #[derive(Clone, Copy)]
 pub struct Kinds {
+    /// Whether there are any of components or of their beginnings.
     pub components: bool,
-    pub extensions: bool,
+    /// For each number of bytes whether a beginning has so many.
+    pub beginnings: [bool; 256],
+    /// For each number of bytes whether an ending has so many that need not be an extension.
+    pub endings: [bool; 256],
+    /// How many bytes the longest ending or extension has.
+    pub longest: u8,
+}
+
+impl Kinds {
+    /// Adds the kind of a key, if it is one.
+    fn add(&mut self, key: Option<Key>)
+        ensures own { IfSome key (HasKind self.new) }
+        ensures kept { KeepsKinds self.old self.new }
+    {
+        match key {
+            Some(Key::Component(_)) => self.components = true,
+            Some(Key::Beginning(_, len)) => {
+                self.components = true;
+                self.beginnings[len as usize] = true;
+            }
+            Some(Key::Ending(_, len)) => {
+                self.endings[len as usize] = true;
+                self.longest = self.longest.max(len);
+            }
+            Some(Key::Extension(_, len)) => self.longest = self.longest.max(len),
+            None => {}
+        }
+    }
 }
 
 /// The kinds of the keys.
@@ -39,48 +71,12 @@ pub fn kinds_of(keys: &[Option<Key>]) -> Kinds
 {
     let mut kinds = Kinds {
         components: false,
-        extensions: false,
+        beginnings: [false; 256],
+        endings: [false; 256],
+        longest: 0,
     };
     for key in keys {
-        kinds = kinds_with(kinds, *key);
+        kinds.add(*key);
     }
     kinds
-}
-
-/// The kinds with that of one key more, if it is one.
-fn kinds_with(kinds: Kinds, key: Option<Key>) -> Kinds
-    ensures { result ≡ kinds_with kinds key }
-{
-    match key {
-        Some(Key::Component(_)) => Kinds {
-            components: true,
-            extensions: kinds.extensions,
-        },
-        Some(Key::Extension(_)) => Kinds {
-            components: kinds.components,
-            extensions: true,
-        },
-        None => kinds,
-    }
-}
-
-/// The hash of a text's extension, if it has one: of `src/a.tar.gz` that of `gz`.
-#[inline(always)]
-pub fn extension_of(text: &[u8]) -> Option<u32>
-    ensures { result ≡ extension text.now }
-{
-    let mut hash = 0;
-    let mut left = text.len();
-    while left > 0 {
-        left -= 1;
-        let byte = text[left];
-        if byte == b'.' {
-            return Some(hash);
-        }
-        if byte == b'/' {
-            return None;
-        }
-        hash = hash_after(hash, byte);
-    }
-    None
 }

@@ -1,13 +1,12 @@
 //! Patterns by their keys.
-ghost use Rattle.std.specs.Prelude.{◌≡◌, ◌+◌, ◌-◌, ◌^◌, ◌<◌, ◌⊎◌, ◌↔◌, [], length, slice_index_or, replicate, None, All, IfOk, IsTrue, IsSomeAnd};
+ghost use Rattle.std.specs.Prelude.{◌≡◌, ◌+◌, ◌-◌, ◌^◌, ◌<◌, ◌↔◌, false, [], length, slice_index_or, replicate, None, All, IfOk, IsTrue, IsSomeAnd};
 ghost use Rattle.std.specs.List.Sorted.{IsNonDecreasing};
-ghost use Rattle.glob_set.specs.Private.Components.{is_asked};
-ghost use Rattle.glob_set.specs.Private.Keyed.{AreLinked, Finds, HasHash, Keeps, KeepsAll, key_slot};
-ghost use Rattle.glob_set.specs.Private.Keys.{IsComponentOf, IsExtensionOf};
+ghost use Rattle.glob_set.specs.Private.Keyed.{AreLinked, Finds, HasHash, IsReadBefore, Keeps, KeepsAll, key_slot};
+ghost use Rattle.glob_set.specs.Private.Keys.{IsComponentOf, IsEndingOf, IsKeyOf};
 
-use crate::components::{Component, slot_of};
+use crate::components::{Component, hash_after, slot_of};
 use crate::found::Found;
-use crate::key::{Key, Kinds, extension_of, kinds_of};
+use crate::key::{Key, Kinds, kinds_of};
 use std::alloc::{AllocError, Allocator, Global};
 use std::marker::Model;
 
@@ -59,21 +58,20 @@ impl<A: Allocator + Copy> Keyed<A> {
 
     /// Puts the patterns with a key by which the text is looked up into `found`, in ascending order.
     #[inline(always)]
-    pub fn find_in(&self, text: &[u8], found: &mut Found)
+    pub fn find_in(&self, text: &[u8], found: &mut Found<A>)
         requires { found.old.items ≡ [] }
         ensures order { IsNonDecreasing found.new.items }
         ensures within { All (λ k. k < length self.now) found.new.items }
-        ensures all { Finds self.now
-            (λ key. IsComponentOf text.now key ⊎ IsExtensionOf text.now key) found.new }
+        ensures all { Finds self.now (IsKeyOf text.now) found.new }
     {
         self.find_components(text, found);
-        self.find_extension(text, found);
+        self.find_endings(text, found);
         found.sort();
     }
 
-    /// Adds the patterns that are found by a component of the text.
+    /// Adds the patterns that are found by a component of the text or the beginning of one.
     #[inline(always)]
-    fn find_components(&self, text: &[u8], found: &mut Found)
+    fn find_components(&self, text: &[u8], found: &mut Found<A>)
         requires { All (λ k. k < length self.now) found.old.items }
         ensures within { All (λ k. k < length self.now) found.new.items }
         ensures all { Finds self.now (IsComponentOf text.now) found.new }
@@ -83,24 +81,31 @@ impl<A: Allocator + Copy> Keyed<A> {
         }
     }
 
-    /// Adds the patterns that are found by the extension of the text.
+    /// Adds the patterns that are found by the last bytes of the text.
     #[inline(always)]
-    fn find_extension(&self, text: &[u8], found: &mut Found)
+    fn find_endings(&self, text: &[u8], found: &mut Found<A>)
         requires { All (λ k. k < length self.now) found.old.items }
         ensures within { All (λ k. k < length self.now) found.new.items }
         ensures kept { KeepsAll found.old found.new }
-        ensures all { Finds self.now (IsExtensionOf text.now) found.new }
+        ensures all { Finds self.now (IsEndingOf text.now) found.new }
     {
-        if !self.kinds.extensions {
-            return;
+        let mut hash = 0;
+        let mut len = 0;
+        while (len as usize) < text.len() {
+            let byte = text[text.len() - 1 - len as usize];
+            let is_used = self.kinds.endings[len as usize];
+            self.find_if(is_asked(byte, b'.', is_used), hash, found);
+            if len == self.kinds.longest {
+                return;
+            }
+            hash = hash_after(hash, byte);
+            len += 1;
         }
-        if let Some(hash) = extension_of(text) {
-            self.find(hash, found);
-        }
+        self.find_if(self.kinds.endings[len as usize], hash, found);
     }
 
-    /// Adds the patterns that are found by each component and each head of the text.
-    fn find_each(&self, text: &[u8], found: &mut Found)
+    /// Adds the patterns that are found by each component of the text and the beginnings of each.
+    fn find_each(&self, text: &[u8], found: &mut Found<A>)
         requires { All (λ k. k < length self.now) found.old.items }
         ensures within { All (λ k. k < length self.now) found.new.items }
         ensures all { Finds self.now (IsComponentOf text.now) found.new }
@@ -113,21 +118,33 @@ impl<A: Allocator + Copy> Keyed<A> {
         self.find(component.hash, found);
     }
 
-    /// Adds the patterns with the hash before this byte, where this component has been read, if there is one.
-    fn find_before(&self, byte: u8, component: Component, found: &mut Found)
+    /// Adds the patterns that are found before this byte, where this component has been read.
+    #[inline(always)]
+    fn find_before(&self, byte: u8, component: Component, found: &mut Found<A>)
         requires { All (λ k. k < length self.now) found.old.items }
         ensures within { All (λ k. k < length self.now) found.new.items }
         ensures kept { KeepsAll found.old found.new }
-        ensures all { IsTrue (is_asked component byte)
-            → Finds self.now (HasHash component.hash) found.new }
+        ensures all { Finds self.now (IsReadBefore component byte) found.new }
     {
-        if component.is_asked(byte) {
-            self.find(component.hash, found);
+        let is_used = self.kinds.beginnings[component.len as usize];
+        self.find_if(is_asked(byte, b'/', is_used), component.hash, found);
+    }
+
+    /// Adds the patterns whose keys have this hash, if it is asked for.
+    #[inline(always)]
+    fn find_if(&self, is_asked: bool, hash: u32, found: &mut Found<A>)
+        requires { All (λ k. k < length self.now) found.old.items }
+        ensures within { All (λ k. k < length self.now) found.new.items }
+        ensures kept { KeepsAll found.old found.new }
+        ensures all { IsTrue is_asked → Finds self.now (HasHash hash) found.new }
+    {
+        if is_asked {
+            self.find(hash, found);
         }
     }
 
     /// Adds the patterns whose keys have this hash.
-    fn find(&self, hash: u32, found: &mut Found)
+    fn find(&self, hash: u32, found: &mut Found<A>)
         requires { All (λ k. k < length self.now) found.old.items }
         ensures within { All (λ k. k < length self.now) found.new.items }
         ensures kept { KeepsAll found.old found.new }
@@ -141,7 +158,7 @@ impl<A: Allocator + Copy> Keyed<A> {
     }
 
     /// Adds the pattern of this number if its key has this hash.
-    fn push_if(&self, number: usize, hash: u32, found: &mut Found)
+    fn push_if(&self, number: usize, hash: u32, found: &mut Found<A>)
         requires within { number < length self.now }
         requires found { All (λ k. k < length self.now) found.old.items }
         ensures within { All (λ k. k < length self.now) found.new.items }
@@ -153,6 +170,15 @@ impl<A: Allocator + Copy> Keyed<A> {
             found.push(number);
         }
     }
+}
+
+/// Whether a text is looked up before a byte: at a mark, and where keys have as many bytes as have been read.
+#[inline(always)]
+fn is_asked(byte: u8, mark: u8, is_used: bool) -> bool
+    ensures mark { byte ≡ mark → IsTrue result }
+    ensures used { IsTrue is_used → IsTrue result }
+{
+    byte == mark || is_used
 }
 
 /// Whether there is a key, and it has this hash.

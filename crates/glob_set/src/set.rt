@@ -22,7 +22,8 @@ use std::path::Path;
 
 /// Patterns in order, and the options that they match by. It reports which of them match a text by their **numbers**,
 /// counted from 0. Most patterns are rejected untried, since the text lacks bytes that each text has that they match.
-/// Of many patterns, those with a component or an extension that few of them have are looked up by those of the text.
+/// Of many patterns, those with a component, a beginning of one, or last bytes that few of them have are looked up by
+/// those of the text.
 ///
 /// ```text
 /// let ignored = PatternSet::from_texts(alloc, &["**/*.o", "**/target/**"], options)?;
@@ -40,7 +41,7 @@ pub struct PatternSet<A: Allocator = Global> {
     keyed: Keyed<A>,
     // for each class of texts the numbers of the other patterns that may match one
     buckets: Vec<Bucket<A>, A>,
-    // the numbers of all patterns, for a text by which too many are found
+    // the numbers of all patterns, for a text by which many are found where an allocation fails
     all: Bucket<A>,
     options: MatchOptions,
 }
@@ -178,7 +179,7 @@ impl<A: Allocator + Copy> PatternSet<A> {
             (FirstMatch self.now.options self.now.patterns text.now) }
         ensures short { AreShort self.now.patterns → IsOk result }
     {
-        let mut found = Found::new();
+        let mut found = Found::new(*self.patterns.allocator());
         let listed = self.listed_for(text, &mut found);
         let bits = bits_for(text, listed, found.numbers());
         let listed = self.first_of(listed, text, bits)?;
@@ -194,7 +195,7 @@ impl<A: Allocator + Copy> PatternSet<A> {
             (LastMatch self.now.options self.now.patterns text.now) }
         ensures short { AreShort self.now.patterns → IsOk result }
     {
-        let mut found = Found::new();
+        let mut found = Found::new(*self.patterns.allocator());
         let listed = self.listed_for(text, &mut found);
         let bits = bits_for(text, listed, found.numbers());
         let listed = self.last_of(listed, text, bits)?;

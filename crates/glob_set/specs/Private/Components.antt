@@ -1,5 +1,5 @@
 -- The components of a text by their hashes, and how a pattern reads them.
-use Rattle.std.specs.Prelude.{◌≡◌, ℕ, ◌+◌, ◌-◌, ◌*◌, ◌%◌, ◌^◌, ◌<◌, Bool, ◌||◌, ◌==◌, min, cond, List, [], ◌∷◌, length, take, slice_index_or, bit_and, fold, chars}
+use Rattle.std.specs.Prelude.{◌≡◌, ℕ, ◌+◌, ◌-◌, ◌*◌, ◌%◌, ◌^◌, ◌<◌, Bool, true, ◌==◌, min, cond, List, [], ◌∷◌, length, take, slice_index_or, bit_and, fold, chars}
 use Rattle.std.specs.List.{concat}
 use Rattle.std.specs.Str.{encode_utf8_all}
 use Rattle.glob_text.specs.Characters.{slash}
@@ -23,14 +23,10 @@ hashed hash byte = (hash * 33 + byte % 32) % 2 ^ 32
 abbrev pub after : Component → ℕ → Component
 after c b = cond (b == slash) start (record { hash = hashed c.hash b; len = min (c.len + 1) 255 })
 
--- texts are looked up by what has been read, before the byte
-abbrev pub is_asked : Component → ℕ → Bool
-is_asked c b = b == slash || c.len == 4
-
--- the hashes of the components and heads of a text, where a component has been read before it
-abbrev pub hashes : Component → List ℕ → List ℕ
-hashes c [] = c.hash ∷ []
-hashes c (b ∷ bs) = cond (is_asked c b) (c.hash ∷ hashes (after c b) bs) (hashes (after c b) bs)
+-- a component ends before these bytes
+abbrev pub is_end : List ℕ → Bool
+is_end [] = true
+is_end (b ∷ bs) = b == slash
 
 -- in each text that the pattern matches, this is read before the piece of the token of the number
 unfoldable pub IsReadAt : (pattern : Text) → (number : ℕ) → Component → Type 0

@@ -1,7 +1,9 @@
 -- The patterns that have a key by which a text is looked up.
-use Rattle.std.specs.Prelude.{◌≡◌, ◌≢◌, ℕ, ◌+◌, ◌-◌, ◌<◌, ◌≤◌, ◌⊎◌, Bool, true, ◌==◌, cond, List, [], ◌∷◌, ◌++◌, length, slice_index, slice_index_or, Option, Some, None, IsTrue, Contains}
-use Rattle.std.specs.List.{list_any}
+use Rattle.std.specs.Prelude.{◌≡◌, ◌≢◌, ℕ, ◌+◌, ◌-◌, ◌<◌, ◌≤◌, ◌⊎◌, Bool, List, [], ◌∷◌, length, slice_index, slice_index_or, Option, Some, None, IsTrue, Contains}
+use Rattle.glob_text.specs.Characters.{slash}
+use Rattle.glob_set.specs.declared.components.Component as component
 use Rattle.glob_set.specs.declared.key.Key.{Key}
+use Rattle.glob_set.specs.declared.key.Key.TheVariants.{Component, Beginning, Ending, Extension}
 use Rattle.glob_set.specs.Private.Components.{slot_of}
 use Rattle.glob_set.specs.Private.Keys.{hash_of}
 
@@ -10,13 +12,10 @@ pub record FoundNumbers : Type 0 where
   pub items : List ℕ
   pub is_full : Bool
 
--- the numbers with one more, unless it is there or has no room
-abbrev pub pushed : FoundNumbers → ℕ → FoundNumbers
-pushed found number =
-    cond (list_any (λ y. y == number) found.items) found
-    (cond (length found.items == 16)
-    (record { items = found.items; is_full = true })
-    (record { items = found.items ++ number ∷ []; is_full = found.is_full }))
+-- the few, until there are many
+abbrev pub few_or_many : (few many : List ℕ) → List ℕ
+few_or_many few [] = few
+few_or_many few (n ∷ ns) = n ∷ ns
 
 -- the number is there, or one had no room
 abbrev pub Keeps : FoundNumbers → ℕ → Type 0
@@ -40,6 +39,13 @@ HasHash hash key = hash_of key ≡ hash
 abbrev pub key_slot : (key : Option Key) → (slots : ℕ) → ℕ
 key_slot (Some key) slots = slot_of (hash_of key) slots
 key_slot None slots = slots
+
+-- the key is of a component that has been read before the byte, or of its beginning
+abbrev pub IsReadBefore : component.Component → (byte : ℕ) → Key → Type 0
+IsReadBefore c byte (Component hash) = (byte ≡ slash) × (c.hash ≡ hash)
+IsReadBefore c byte (Beginning hash len) = c ≡ record { hash = hash; len = len }
+IsReadBefore c byte (Ending hash len) = ⊥
+IsReadBefore c byte (Extension hash len) = ⊥
 
 -- the first pattern in a slot from a number on is this one, or there is none
 pub record IsNext (keys : List (Option Key)) (slots slot from next : ℕ) : Type 0 where

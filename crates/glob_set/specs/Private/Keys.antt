@@ -1,73 +1,81 @@
 -- What a text is looked up by, and the keys of the patterns that match it.
-use Rattle.std.specs.Prelude.{◌≡◌, ℕ, ◌<◌, ◌⊎◌, Bool, true, false, ◌==◌, cond, List, [], ◌∷◌, ◌++◌, length, drop, reverse, slice_index_or, Option, Some, None, IfSome, IsTrue, Contains, chars}
+use Rattle.std.specs.Prelude.{◌≡◌, ℕ, ◌<◌, ◌≤◌, ◌⊎◌, false, List, [], ◌∷◌, ◌++◌, length, drop, reverse, slice_index_or, fold, Option, None, IfSome, IsTrue, chars}
 use Rattle.std.specs.List.{concat}
 use Rattle.std.specs.Str.{IsUtf8, encode_utf8_all}
-use Rattle.glob_text.specs.Characters.{dot, slash}
+use Rattle.glob_text.specs.Characters.{dot}
 use Rattle.glob_text.specs.Text.{Text}
 use Rattle.glob_pattern.specs.Grammar.Tokens.{Token}
 use Rattle.glob_pattern.specs.Grammar.Units.{HasTokens}
 use Rattle.glob_pattern.specs.Matching.Texts.{AreAllowed, Matches}
 use Rattle.glob_pattern.specs.declared.options.MatchOptions.{MatchOptions}
 use Rattle.glob_set.specs.declared.key.Key.{Key}
-use Rattle.glob_set.specs.declared.key.Key.TheVariants.{Component, Extension}
+use Rattle.glob_set.specs.declared.key.Key.TheVariants.{Component, Beginning, Ending, Extension}
 use Rattle.glob_set.specs.declared.key.Kinds.{Kinds}
-use Rattle.glob_set.specs.Private.Components.{hashed, hashes, start}
+use Rattle.glob_set.specs.Private.Components.{after, hashed, is_end, start}
 
 -- the hash of a key
 abbrev pub hash_of : Key → ℕ
 hash_of (Component hash) = hash
-hash_of (Extension hash) = hash
+hash_of (Beginning hash len) = hash
+hash_of (Ending hash len) = hash
+hash_of (Extension hash len) = hash
 
--- The hash of a text's extension, where these bytes are before those of the hash, the last one first.
-abbrev pub extension_from : (hash : ℕ) → (before : List ℕ) → Option ℕ
-extension_from hash [] = None
-extension_from hash (b ∷ bs) =
-    cond (b == dot) (Some hash) (cond (b == slash) None (extension_from (hashed hash b) bs))
+-- the hash of bytes from their end
+abbrev pub hash_back : List ℕ → ℕ
+hash_back bytes = fold hashed 0 (reverse bytes)
 
--- the hash of what is behind the last `.` of the last component, if it has one
-abbrev pub extension : List ℕ → Option ℕ
-extension bytes = extension_from 0 (reverse bytes)
-
--- the key is of a component or a head of the text
+-- the key is of a component of the text, or of the beginning of one
 abbrev pub IsComponentOf : (bytes : List ℕ) → Key → Type 0
-IsComponentOf bytes (Component hash) = Contains (hashes start bytes) hash
-IsComponentOf bytes (Extension hash) = ⊥
+IsComponentOf bytes (Component hash) =
+    (front : List ℕ) × (back : List ℕ) × (bytes ≡ front ++ back) × IsTrue (is_end back)
+    × ((fold after start front).hash ≡ hash)
+IsComponentOf bytes (Beginning hash len) =
+    (front : List ℕ) × (back : List ℕ) × (bytes ≡ front ++ back)
+    × (fold after start front ≡ record { hash = hash; len = len })
+IsComponentOf bytes (Ending hash len) = ⊥
+IsComponentOf bytes (Extension hash len) = ⊥
 
--- the key is of the text's extension
-abbrev pub IsExtensionOf : (bytes : List ℕ) → Key → Type 0
-IsExtensionOf bytes (Component hash) = ⊥
-IsExtensionOf bytes (Extension hash) = extension bytes ≡ Some hash
+-- the key is of the last bytes of the text
+abbrev pub IsEndingOf : (bytes : List ℕ) → Key → Type 0
+IsEndingOf bytes (Component hash) = ⊥
+IsEndingOf bytes (Beginning hash len) = ⊥
+IsEndingOf bytes (Ending hash len) =
+    (front : List ℕ) × (back : List ℕ) × (bytes ≡ front ++ back) × (length back ≡ len) × (hash_back back ≡ hash)
+IsEndingOf bytes (Extension hash len) =
+    (front : List ℕ) × (back : List ℕ) × (bytes ≡ front ++ dot ∷ back) × (length back ≡ len) × (hash_back back ≡ hash)
+
+-- the text is looked up by the key
+abbrev pub IsKeyOf : (bytes : List ℕ) → Key → Type 0
+IsKeyOf bytes key = IsComponentOf bytes key ⊎ IsEndingOf bytes key
 
 -- each text that the pattern matches is looked up by the key
 unfoldable pub HasKey : (pattern : Text) → Key → Type 0
 HasKey pattern key =
-    (o : MatchOptions) (bytes : List ℕ) → IsUtf8 bytes → Matches o (chars pattern) (chars bytes)
-    → IsComponentOf bytes key ⊎ IsExtensionOf bytes key
+    (o : MatchOptions) (bytes : List ℕ) → IsUtf8 bytes → Matches o (chars pattern) (chars bytes) → IsKeyOf bytes key
 
--- In each text that the pattern matches, the extension is read with this hash before the piece of the token of the
--- number, from its end: what follows is literals.
-unfoldable pub IsReadBack : (pattern : Text) → (number hash : ℕ) → Type 0
-IsReadBack pattern number hash =
-    (o : MatchOptions) (tokens : List Token) (text : Text) (pieces : List Text) (before : List ℕ)
+-- in each text that the pattern matches, the pieces from the token of the number on have so many bytes of this hash
+unfoldable pub IsReadBack : (pattern : Text) → (number hash len : ℕ) → Type 0
+IsReadBack pattern number hash len =
+    (o : MatchOptions) (tokens : List Token) (text : Text) (pieces : List Text)
     → HasTokens (chars pattern) tokens → AreAllowed o text 0 tokens pieces
-    → extension_from 0 (reverse (before ++ encode_utf8_all (concat (drop number pieces))))
-    ≡ extension_from hash (reverse before)
+    → (length (encode_utf8_all (concat (drop number pieces))) ≡ len)
+    × (hash_back (encode_utf8_all (concat (drop number pieces))) ≡ hash)
 
 -- keys of the patterns, in order
 pub record AreKeys (patterns : List Text) (keys : List (Option Key)) : Type 0 where
   pub same_length : length keys ≡ length patterns
   pub each : (k : ℕ) → k < length patterns → IfSome (slice_index_or keys k None) (HasKey (slice_index_or patterns k []))
 
--- the kinds with that of one key more, if it is one
-abbrev pub kinds_with : Kinds → Option Key → Kinds
-kinds_with kinds None = kinds
-kinds_with kinds (Some (Component hash)) = record { components = true; extensions = kinds.extensions }
-kinds_with kinds (Some (Extension hash)) = record { components = kinds.components; extensions = true }
-
 -- the kind of the key is one of these
 abbrev pub HasKind : Kinds → Key → Type 0
 HasKind kinds (Component hash) = IsTrue kinds.components
-HasKind kinds (Extension hash) = IsTrue kinds.extensions
+HasKind kinds (Beginning hash len) = IsTrue kinds.components × IsTrue (slice_index_or kinds.beginnings len false)
+HasKind kinds (Ending hash len) = (len ≤ kinds.longest) × IsTrue (slice_index_or kinds.endings len false)
+HasKind kinds (Extension hash len) = len ≤ kinds.longest
+
+-- each kind that is one of the first is one of the second
+unfoldable pub KeepsKinds : (old new : Kinds) → Type 0
+KeepsKinds old new = (key : Key) → HasKind old key → HasKind new key
 
 -- the kinds are those of all keys
 unfoldable pub AreKinds : (keys : List (Option Key)) → Kinds → Type 0

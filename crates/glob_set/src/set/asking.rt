@@ -14,10 +14,10 @@ use std::alloc::{AllocError, Allocator};
 const MANY: usize = 3;
 
 impl<A: Allocator + Copy> PatternSet<A> {
-    /// The numbers of the patterns without a key that may match the text. Those of the others go into `found`; if it
-    /// has no room for them, all patterns are listed.
+    /// The numbers of the patterns without a key that may match the text. Those of the others go into `found`; if an
+    /// allocation for them fails, all patterns are listed.
     #[inline(always)]
-    pub(crate) fn listed_for(&self, text: &str, found: &mut Found) -> &[usize]
+    pub(crate) fn listed_for(&self, text: &str, found: &mut Found<A>) -> &[usize]
         requires { found.old ≡ record { items = []; is_full = false } }
         ensures { AreAsked self.now.options self.now.patterns text.now result.now found.new.items }
     {
@@ -100,7 +100,7 @@ impl<A: Allocator + Copy> PatternSet<A> {
         ensures { OnOk result
             (AreMatches self.now.options self.now.patterns text.now numbers.new.items) }
     {
-        let mut found = Found::new();
+        let mut found = Found::new(*self.patterns.allocator());
         let listed = self.listed_for(text, &mut found);
         let bits = bits_for(text, listed, found.numbers());
         self.push_of(listed, text, bits, numbers)?;

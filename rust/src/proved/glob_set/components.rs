@@ -1,10 +1,7 @@
 //! Made by `bin/rust_crate` from `crates/glob_set/src/components.rt`.
 //! Contracts are there, and their proofs in `crates/glob_set/proofs`; it is changed there alone.
 //!
-//! Components of texts, and what they are looked up by.
-
-/// How many bytes the head of a component has, by which it is looked up besides.
-const HEAD: u8 = 4;
+//! Components of texts and their beginnings, and the hashes that texts are looked up by.
 
 /// A component as far as it has been read: a hash of its bytes, the same in upper and in lower case, and how many of
 /// them there are, 255 at most.
@@ -30,16 +27,14 @@ impl Component {
         Component { hash: hash_after(self.hash, byte), len: self.len.saturating_add(1) }
     }
 
-    /// Whether a head has been read.
-    #[inline(always)]
-    pub fn is_head(self) -> bool {
-        self.len == HEAD
-    }
-
-    /// Whether texts are looked up by what has been read, before this byte: all of a component, or its head.
-    #[inline(always)]
-    pub fn is_asked(self, byte: u8) -> bool {
-        byte == b'/' || self.is_head()
+    /// The component with one character more, or after `/` the next one.
+    pub fn after_char(self, c: char) -> Component {
+        let mut buffer = [0; 4];
+        let mut component = self;
+        for byte in c.encode_utf8(&mut buffer).as_bytes() {
+            component = component.after(*byte);
+        }
+        component
     }
 }
 
@@ -47,6 +42,19 @@ impl Component {
 #[inline(always)]
 pub fn hash_after(hash: u32, byte: u8) -> u32 {
     ((u64::from(hash) * 33 + u64::from(byte % 32)) % (1 << 32)) as u32
+}
+
+/// The hash of some bytes, read from their end, with those of the character before them.
+pub fn hash_before(hash: u32, c: char) -> u32 {
+    let mut buffer = [0; 4];
+    let bytes = c.encode_utf8(&mut buffer).as_bytes();
+    let mut hash = hash;
+    let mut left = bytes.len();
+    while left > 0 {
+        left -= 1;
+        hash = hash_after(hash, bytes[left]);
+    }
+    hash
 }
 
 /// The slot of a hash in a table of so many.

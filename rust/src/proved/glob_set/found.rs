@@ -1,27 +1,32 @@
 //! Made by `bin/rust_crate` from `crates/glob_set/src/found.rt`.
 //! Contracts are there, and their proofs in `crates/glob_set/proofs`; it is changed there alone.
 
-/// How many numbers there are at most.
 const ROOM: usize = 16;
 
-/// Different numbers, and whether one more had no room.
+/// Different numbers.
 pub struct Found {
-    numbers: [usize; ROOM],
+    // the first `len`, until there are more than these have room for
+    few: [usize; ROOM],
     len: usize,
+    // all, once there are more
+    many: Vec<usize>,
     is_full: bool,
 }
 
 impl Found {
     /// No number.
     #[inline(always)]
-    pub fn new() -> Found {
-        Found { numbers: [0; ROOM], len: 0, is_full: false }
+    pub fn new() -> Self {
+        Found { few: [0; ROOM], len: 0, many: Vec::new(), is_full: false }
     }
 
     /// The numbers.
     #[inline(always)]
     pub fn numbers(&self) -> &[usize] {
-        &self.numbers[..self.len]
+        if self.many.is_empty() {
+            return &self.few[..self.len];
+        }
+        self.many.as_slice()
     }
 
     /// Whether a number had no room.
@@ -35,17 +40,29 @@ impl Found {
         if self.numbers().contains(&number) {
             return;
         }
-        if self.len == ROOM {
-            self.is_full = true;
-            return;
+        self.push_new(number);
+    }
+
+    /// Adds the number.
+    fn push_new(&mut self, number: usize) {
+        if self.many.is_empty() {
+            if self.len < ROOM {
+                self.few[self.len] = number;
+                self.len += 1;
+                return;
+            }
+            self.many.extend_from_slice(&self.few);
         }
-        self.numbers[self.len] = number;
-        self.len += 1;
+        self.many.push(number);
     }
 
     /// Puts the numbers in ascending order.
     pub fn sort(&mut self) {
-        let len = self.len;
-        self.numbers[..len].sort_unstable();
+        if self.many.is_empty() {
+            let len = self.len;
+            self.few[..len].sort_unstable();
+        } else {
+            self.many.as_mut_slice().sort_unstable();
+        }
     }
 }

@@ -3,9 +3,9 @@
 //!
 //! Patterns by their keys.
 
-use crate::proved::glob_set::components::{slot_of, Component};
+use crate::proved::glob_set::components::{hash_after, slot_of, Component};
 use crate::proved::glob_set::found::Found;
-use crate::proved::glob_set::key::{extension_of, kinds_of, Key, Kinds};
+use crate::proved::glob_set::key::{kinds_of, Key, Kinds};
 
 /// The keys of patterns, and the patterns by the slots of their keys.
 #[derive(Clone)]
@@ -36,11 +36,11 @@ impl Keyed {
     #[inline(always)]
     pub fn find_in(&self, text: &[u8], found: &mut Found) {
         self.find_components(text, found);
-        self.find_extension(text, found);
+        self.find_endings(text, found);
         found.sort();
     }
 
-    /// Adds the patterns that are found by a component of the text.
+    /// Adds the patterns that are found by a component of the text or the beginning of one.
     #[inline(always)]
     fn find_components(&self, text: &[u8], found: &mut Found) {
         if self.kinds.components {
@@ -48,18 +48,25 @@ impl Keyed {
         }
     }
 
-    /// Adds the patterns that are found by the extension of the text.
+    /// Adds the patterns that are found by the last bytes of the text.
     #[inline(always)]
-    fn find_extension(&self, text: &[u8], found: &mut Found) {
-        if !self.kinds.extensions {
-            return;
+    fn find_endings(&self, text: &[u8], found: &mut Found) {
+        let mut hash = 0;
+        let mut len = 0;
+        while (len as usize) < text.len() {
+            let byte = text[text.len() - 1 - len as usize];
+            let is_used = self.kinds.endings[len as usize];
+            self.find_if(is_asked(byte, b'.', is_used), hash, found);
+            if len == self.kinds.longest {
+                return;
+            }
+            hash = hash_after(hash, byte);
+            len += 1;
         }
-        if let Some(hash) = extension_of(text) {
-            self.find(hash, found);
-        }
+        self.find_if(self.kinds.endings[len as usize], hash, found);
     }
 
-    /// Adds the patterns that are found by each component and each head of the text.
+    /// Adds the patterns that are found by each component of the text and the beginnings of each.
     fn find_each(&self, text: &[u8], found: &mut Found) {
         let mut component = Component::start();
         for byte in text {
@@ -69,10 +76,18 @@ impl Keyed {
         self.find(component.hash, found);
     }
 
-    /// Adds the patterns with the hash before this byte, where this component has been read, if there is one.
+    /// Adds the patterns that are found before this byte, where this component has been read.
+    #[inline(always)]
     fn find_before(&self, byte: u8, component: Component, found: &mut Found) {
-        if component.is_asked(byte) {
-            self.find(component.hash, found);
+        let is_used = self.kinds.beginnings[component.len as usize];
+        self.find_if(is_asked(byte, b'/', is_used), component.hash, found);
+    }
+
+    /// Adds the patterns whose keys have this hash, if it is asked for.
+    #[inline(always)]
+    fn find_if(&self, is_asked: bool, hash: u32, found: &mut Found) {
+        if is_asked {
+            self.find(hash, found);
         }
     }
 
@@ -91,6 +106,12 @@ impl Keyed {
             found.push(number);
         }
     }
+}
+
+/// Whether a text is looked up before a byte: at a mark, and where keys have as many bytes as have been read.
+#[inline(always)]
+fn is_asked(byte: u8, mark: u8, is_used: bool) -> bool {
+    byte == mark || is_used
 }
 
 /// Whether there is a key, and it has this hash.

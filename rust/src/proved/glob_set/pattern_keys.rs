@@ -3,17 +3,19 @@
 //!
 //! The keys of patterns: what each text has that they match, by which few patterns are found for a text.
 
-use crate::proved::glob_pattern::{token_kind, tokens_len, Pattern, TokenKind};
-use crate::proved::glob_set::components::{hash_after, slot_of, Component};
+use crate::proved::glob_pattern::{literal_at, token_kind, tokens_len, Pattern, TokenKind};
+use crate::proved::glob_set::components::{hash_before, slot_of, Component};
 use crate::proved::glob_set::key::Key;
 use crate::proved::glob_set::keyed::slots_for;
-use crate::proved::glob_set::needs::byte_at;
 
 /// How many patterns have keys at least, if any does: fewer are asked faster than keys are looked up.
 const MANY: usize = 64;
 
 /// How many keys of patterns a slot has at least whose keys are not rare.
-const COMMON: u8 = 12;
+const COMMON: u8 = 32;
+
+/// How many bytes a beginning or an ending has at most: texts are looked up by each number of bytes that a key has.
+const LONGEST: u8 = 8;
 
 /// How many slots there are for each pattern, so that few rare keys are counted with a common one.
 const SLOTS: usize = 16;
@@ -69,54 +71,77 @@ fn counts_of(patterns: &[Pattern], slots: usize) -> Vec<u8> {
 /// Counts each of the keys in its slot.
 fn count_keys(keys: &[Key], counts: &mut [u8]) {
     for key in keys {
-        let slot = slot_of(key.hash(), counts.len());
+        let slot = count_slot(*key, counts.len());
         counts[slot] = counts[slot].saturating_add(1);
     }
 }
 
-/// The key with the fewest in its slot, if they are few.
+/// The key with the fewest in its slot and what it costs texts, if that is little.
 fn rarest(keys: &[Key], counts: &[u8]) -> Option<Key> {
     let mut rarest = None;
     let mut least = COMMON;
     for key in keys {
-        let count = counts[slot_of(key.hash(), counts.len())];
-        if count < least {
+        let count = counts[count_slot(*key, counts.len())];
+        let cost = count.saturating_add(cost_of(*key));
+        if cost < least {
             rarest = Some(*key);
-            least = count;
+            least = cost;
         }
     }
     rarest
 }
 
-/// Replaces the content of `keys` by the keys of the pattern: each component without wildcards, each beginning of a
-/// component that is as long as a head, and the extension if no wildcard is behind its `.`.
-fn find_keys(pattern: &Pattern, keys: &mut Vec<Key>) {
-    keys.clear();
-    push_components(pattern, keys);
-    if let Some(hash) = extension_in(pattern) {
-        keys.push(Key::Extension(hash));
+/// The slot of a key in so many counts: another for a component than for the beginning of another one.
+fn count_slot(key: Key, slots: usize) -> usize {
+    let salt = match key {
+        Key::Component(_) => 0,
+        Key::Beginning(..) => 0x5555_5555,
+        Key::Ending(..) => 0xAAAA_AAAA,
+        Key::Extension(..) => 0xFFFF_FFFF,
+    };
+    slot_of(key.hash() ^ salt, slots)
+}
+
+/// What a key costs texts besides, in patterns that are asked: each text is looked up by all the numbers of bytes that
+/// beginnings and endings have.
+fn cost_of(key: Key) -> u8 {
+    match key {
+        Key::Component(_) => 0,
+        Key::Extension(..) => 1,
+        Key::Beginning(..) | Key::Ending(..) => 16,
     }
 }
 
-/// The hash of the extension that each text has that the pattern matches, if it is known: that of `c` for `**/*.c`.
-fn extension_in(pattern: &Pattern) -> Option<u32> {
+/// Replaces the content of `keys` by the keys of the pattern: its endings, and each component without wildcards and
+/// each beginning of a component. They are literals alone.
+fn find_keys(pattern: &Pattern, keys: &mut Vec<Key>) {
+    keys.clear();
+    push_endings(pattern, keys);
+    push_components(pattern, keys)
+}
+
+/// Adds the endings and extensions: of `**/*-1.js` the endings `s`, `js`, `1.js` and `-1.js`, and the extension `js`.
+fn push_endings(pattern: &Pattern, keys: &mut Vec<Key>) {
     let mut hash = 0;
+    let mut len = 0;
     let mut token = tokens_len(pattern);
     while token > 0 {
         token -= 1;
-        let byte = byte_at(pattern, token)?;
-        if byte == b'.' {
-            return Some(hash);
+        let Some(c) = literal_at(pattern, token) else {
+            return;
+        };
+        let behind = (hash, len);
+        hash = hash_before(hash, c);
+        len += c.len_utf8() as u8;
+        if len > LONGEST {
+            return;
         }
-        if byte == b'/' {
-            return None;
-        }
-        hash = hash_after(hash, byte);
+        let key = if c == '.' { Key::Extension(behind.0, behind.1) } else { Key::Ending(hash, len) };
+        keys.push(key);
     }
-    None
 }
 
-/// Adds the keys of components and heads.
+/// Adds the keys of components and of their beginnings.
 fn push_components(pattern: &Pattern, keys: &mut Vec<Key>) {
     let mut component = Some(Component::start());
     for token in 0..tokens_len(pattern) {
@@ -138,10 +163,13 @@ fn push_key(pattern: &Pattern, token: usize, component: Option<Component>, keys:
 /// The key before the token of this number, where a component has been read.
 fn key_before(pattern: &Pattern, token: usize, component: Option<Component>) -> Option<Key> {
     let component = component?;
-    if component.is_head() || is_separator(pattern, token) {
+    if is_separator(pattern, token) {
         return Some(Key::Component(component.hash));
     }
-    None
+    if component.len == 0 || component.len > LONGEST {
+        return None;
+    }
+    Some(Key::Beginning(component.hash, component.len))
 }
 
 /// The component after the token of this number, if it is known.
@@ -150,15 +178,15 @@ fn read_token(pattern: &Pattern, token: usize, component: Option<Component>) -> 
         return Some(Component::start());
     }
     let component = component?;
-    match byte_at(pattern, token) {
-        Some(byte) => Some(component.after(byte)),
+    match literal_at(pattern, token) {
+        Some(c) => Some(component.after_char(c)),
         None => read_wildcard(pattern, token, component),
     }
 }
 
 /// Whether the token of this number is `/`.
 fn is_separator(pattern: &Pattern, token: usize) -> bool {
-    matches!(byte_at(pattern, token), Some(b'/'))
+    matches!(literal_at(pattern, token), Some('/'))
 }
 
 /// The component after the wildcard of this number, if it is known: after `**` one of which nothing has been read.

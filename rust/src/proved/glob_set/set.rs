@@ -18,7 +18,8 @@ use asking::{bits_for, earlier, later};
 
 /// Patterns in order, and the options that they match by. It reports which of them match a text by their **numbers**,
 /// counted from 0. Most patterns are rejected untried, since the text lacks bytes that each text has that they match.
-/// Of many patterns, those with a component or an extension that few of them have are looked up by those of the text.
+/// Of many patterns, those with a component, a beginning of one, or last bytes that few of them have are looked up by
+/// those of the text.
 ///
 /// ```text
 /// let ignored = PatternSet::from_texts(&["**/*.o", "**/target/**"], options)?;
@@ -34,7 +35,6 @@ pub struct PatternSet {
     keyed: Keyed,
     // for each class of texts the numbers of the other patterns that may match one
     buckets: Vec<Bucket>,
-    // the numbers of all patterns, for a text by which too many are found
     all: Bucket,
     options: MatchOptions,
 }

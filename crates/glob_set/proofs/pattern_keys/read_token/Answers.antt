@@ -10,6 +10,6 @@ returns-then-is_separator g c =
 
 pub returns-in-Some : goal.returns-in-Some
 returns-in-Some g c =
-    subst (IsReadAt c.args.pattern.now (c.args.token + 1)) (sym c.after.ensures)
-    (IsReadAt-literal c.args.pattern.now c.args.token c.in-Some.byte c.in_ok-component.component c.in-Some.ensures.ascii c.in-Some.ensures.literal
+    subst (IsReadAt c.args.pattern.now (c.args.token + 1)) (sym c.after_char.ensures)
+    (IsReadAt-literal c.args.pattern.now c.args.token c.in-Some.c c.in_ok-component.component c.in-Some.ensures.literal
     (subst (λ o. IfSome o (IsReadAt c.args.pattern.now c.args.token)) c.in_ok-component.was c.requires.component))

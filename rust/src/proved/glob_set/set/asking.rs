@@ -11,8 +11,7 @@ use crate::proved::glob_set::set::PatternSet;
 const MANY: usize = 3;
 
 impl PatternSet {
-    /// The numbers of the patterns without a key that may match the text. Those of the others go into `found`; if it
-    /// has no room for them, all patterns are listed.
+    /// The numbers of the patterns without a key that may match the text. Those of the others go into `found`.
     #[inline(always)]
     pub(crate) fn listed_for(&self, text: &str, found: &mut Found) -> &[usize] {
         let bytes = text.as_bytes();

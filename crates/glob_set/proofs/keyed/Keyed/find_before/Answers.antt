@@ -1,5 +1,11 @@
-use Rattle.glob_set.proofs.KeyedLemmas.{KeepsAll-same}
+use Rattle.std.proofs.Common.{List, Option, subst}
+use Rattle.glob_set.specs.declared.key.Key.{Key}
+use Rattle.glob_set.specs.Private.Keys.{AreKinds}
+use Rattle.glob_set.proofs.TextKeys.{Finds-before}
 use Rattle.glob_set.proofs.keyed.Keyed.find_before.Goals as goal
 
-pub returns-else-is_asked-clause-kept : goal.returns-else-is_asked-clause-kept
-returns-else-is_asked-clause-kept g c = KeepsAll-same c.args.found.now
+pub returns-clause-all : goal.returns-clause-all
+returns-clause-all g c =
+    let kinds = c.self.inside.kinds in
+    Finds-before c.args.self.now kinds (subst (λ (ks : List (Option Key)). AreKinds ks kinds) c.self.view_is c.self.invariant.1)
+    c.args.component c.args.byte c.is_asked.result c.find_if.new.found c.is_asked.ensures.mark c.is_asked.ensures.used c.find_if.ensures.all

@@ -1,7 +1,7 @@
-use Rattle.std.proofs.Common.{◌⊎◌, sym, ap, subst, ◌∙◌}
+use Rattle.std.proofs.Common.{sym, ap, subst, ◌∙◌}
 use Rattle.glob_set.specs.Private.Asking.{AreAsked}
 use Rattle.glob_set.specs.Private.Keyed.{Finds}
-use Rattle.glob_set.specs.Private.Keys.{IsComponentOf, IsExtensionOf}
+use Rattle.glob_set.specs.Private.Keys.{IsKeyOf}
 use Rattle.glob_set.specs.Private.Pairs.{text_class}
 use Rattle.glob_set.specs.Sets.{Set}
 use Rattle.glob_set.proofs.AskingLemmas.{AreAsked-bucket, AreAsked-all, bucket_for}
@@ -25,7 +25,7 @@ returns g c =
     let P : Set → Type 0 = λ s. AreAsked s.options s.patterns text c.numbers-2.result.now found.items in
     let bucket = bucket_for inside.patterns.items inside.keyed inside.buckets.items c.text_class.result text c.index.result.now c.self.invariant.2
     c.text_class.ensures.small (c.text_class.ensures.class ∙ ap text_class c.as_bytes-bytes.ensures.value) c.index.ensures in
-    let finds = subst (λ bs. Finds inside.keyed (λ key. IsComponentOf bs key ⊎ IsExtensionOf bs key) found) c.as_bytes-bytes.ensures.value c.find_in.ensures.all in
+    let finds = subst (λ bs. Finds inside.keyed (IsKeyOf bs) found) c.as_bytes-bytes.ensures.value c.find_in.ensures.all in
     subst P c.self.view_is
     (subst (λ ks. AreAsked inside.options inside.patterns.items text ks found.items) (sym c.numbers-2.ensures)
     (AreAsked-bucket inside.options inside.patterns.items text c.utf8.text inside.keyed c.index.result.now found c.self.invariant.1
