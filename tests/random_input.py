@@ -26,8 +26,8 @@ from lib.sides import MAY_SHUT, as_user, ask, built_over, original
 PATTERNS, TEXTS, SETS, TREES = 1000, 4, 20, 30
 # One of so many patterns is also compared with the reference, which is slower.
 RULES_IN = 4
-# Of a set at most, of a set that looks patterns up, how many sets do, and texts for a set.
-SET_PATTERNS, KEYED_PATTERNS, SHARE_WITH_KEYS, SET_TEXTS = 70, (64, 400), 0.2, 100
+# Of a set at most, of a set that looks patterns up, how many sets do, texts for a set, and how many of them make one.
+SET_PATTERNS, KEYED_PATTERNS, SHARE_WITH_KEYS, SET_TEXTS, DEEP = 70, (64, 400), 0.2, 100, 40
 SHARE_WITH_LIMIT, HIGHEST_LIMIT, NO_LIMIT = 0.3, 30, 2**64 - 1
 # One walk in so many is repeated within each limit, if it charges at most so many units.
 EACH_LIMIT_IN, MOST_UNITS = 16, 120
@@ -93,6 +93,8 @@ class Comparer:
             case = make.keyed_case if keyed else make.match_case
             cases = [case(source, SET_TEXTS // size + 1) for _ in range(size)]
             texts = [text for _, some in cases for text in some][:SET_TEXTS]
+            # as deep as to have keys of many patterns
+            texts.append("/".join(texts[:DEEP]))
             answers = ask(ours, ["\t".join(["match", pattern, *texts]) for pattern, _ in cases])
             rows = [answer.split("\t") for answer in answers]
             kept = [(pattern, row[2]) for (pattern, _), row in zip(cases, rows) if row[1] == "ok"]

@@ -89,6 +89,31 @@ fn a_set_answers_as_its_patterns_do() {
     }
 }
 
+/// Patterns that are looked up by a component, the beginning of one, an extension or last bytes, in several scripts, and
+/// texts with the keys of one or of many.
+#[test]
+fn a_large_set_answers_as_its_patterns_do() {
+    let word = |number: usize| format!("{}{}", ["name", "Имя", "文書", "É"][number % 4], number / 4);
+    let patterns = ["{}/**", "**/{}/**", "src/{}/*.rs", "*.{}", "**/*-{}.js", "{}-*", "*{}/x"];
+    let filled = |texts: [&str; 7], number: usize| texts[number % 7].replace("{}", &word(number));
+    let patterns: Vec<Pattern> = (0..400).map(|it| Pattern::new(&filled(patterns, it)).unwrap()).collect();
+    let texts = ["{}/a", "b/{}/", "src/{}/a.rs", "b/a.{}", "b/a-{}.js", "{}-b", "b{}/x"];
+    let mut texts: Vec<String> = (0..450).map(|it| filled(texts, it)).collect();
+    texts.extend((0..450).step_by(9).map(|it| texts[it].to_uppercase()).collect::<Vec<_>>());
+    texts.extend([16, 17, 40, 450].map(|count| texts[..count].join("/")));
+    for bits in 0..8 {
+        let options = MatchOptions::from_bits(bits);
+        let set = PatternSet::new(patterns.clone(), options);
+        for text in &texts {
+            let expected = (0..patterns.len()).filter(|&number| patterns[number].matches_with(text, options));
+            let expected: Vec<usize> = expected.collect();
+            assert_eq!(set.matches(text), expected, "{text} {options:?}");
+            let ends = (expected.first().copied(), expected.last().copied());
+            assert_eq!((set.first_match(text), set.last_match(text)), ends, "{text} {options:?}");
+        }
+    }
+}
+
 #[test]
 fn most_alternatives() {
     let text = |commas| format!("{{{}}}", ",".repeat(commas));

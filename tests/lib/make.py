@@ -33,9 +33,11 @@ PLAIN_COMPONENTS = ["**"] * 4 + ["*"] * 4 + ["?"] * 2 + ["a", "b", "a*", "*b", "
 PLAIN_COMPONENTS += [".[a-z]", "é"]
 
 # Components and extensions begin with these where a set looks its patterns up.
-WORDS = ["src", "Lib", "main", "node_", "a", "é", "отчёт"]
+WORDS = ["src", "Lib", "main", "node_", "a", "é", "отчёт", "文書"]
 KEYED = ["{0}/**", "**/{0}", "**/{0}/**", "{0}", "b/{0}*", "**/{0}?", "*.{0}", "**/*.{0}", "b/*.{0}", "{0}.[ab]", "*{0}"]
+KEYED += ["*-{0}.js", "**/{0}-*", "*{0}/x"]
 KEYED_TEXTS = ["{0}", "b/{0}", "{0}/a", "b/{0}/a", "a.{0}", "b/a.b.{0}", "b/{0}x", "{0}.b", "b/.{0}", "{0}/{0}"]
+KEYED_TEXTS += ["a-{0}.js", "b/{0}-a", "{0}/x"]
 
 # In a pattern, the path of the folder that the tree's folder, `tree`, is in.
 ABOVE = "\0"
