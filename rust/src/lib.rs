@@ -36,6 +36,7 @@ mod disk;
 mod lanes;
 mod pattern;
 mod proved;
+mod traits;
 
 pub mod captures;
 pub mod explain;

@@ -123,18 +123,18 @@ impl PatternSet {
     }
 
     /// [`is_match`](Self::is_match) of the path's text. A path that is not UTF-8 is never matched.
-    pub fn is_match_path(&self, path: &Path) -> bool {
-        path.to_str().is_some_and(|text| self.is_match(text))
+    pub fn is_match_path(&self, path: impl AsRef<Path>) -> bool {
+        path.as_ref().to_str().is_some_and(|text| self.is_match(text))
     }
 
     /// [`first_match`](Self::first_match) of the path's text. A path that is not UTF-8 is never matched.
-    pub fn first_match_path(&self, path: &Path) -> Option<usize> {
-        self.first_match(path.to_str()?)
+    pub fn first_match_path(&self, path: impl AsRef<Path>) -> Option<usize> {
+        self.first_match(path.as_ref().to_str()?)
     }
 
     /// [`last_match`](Self::last_match) of the path's text. A path that is not UTF-8 is never matched.
-    pub fn last_match_path(&self, path: &Path) -> Option<usize> {
-        self.last_match(path.to_str()?)
+    pub fn last_match_path(&self, path: impl AsRef<Path>) -> Option<usize> {
+        self.last_match(path.as_ref().to_str()?)
     }
 
     /// [`matches`](Self::matches) of the path's text. A path that is not UTF-8 is never matched.
@@ -142,20 +142,20 @@ impl PatternSet {
     /// ```
     /// use cadmiumdove::set::PatternSet;
     /// use cadmiumdove::MatchOptions;
-    /// use std::path::Path;
+    /// use std::path::PathBuf;
     ///
     /// let set = PatternSet::from_texts(["src/*", "*.rs"], MatchOptions::new())?;
-    /// assert_eq!(set.matches_path(Path::new("src/lib.rs")), [0, 1]);
+    /// assert_eq!(set.matches_path(PathBuf::from("src/lib.rs")), [0, 1]);
     /// # Ok::<(), cadmiumdove::set::SetRefusal>(())
     /// ```
-    pub fn matches_path(&self, path: &Path) -> Vec<usize> {
-        path.to_str().map(|text| self.matches(text)).unwrap_or_default()
+    pub fn matches_path(&self, path: impl AsRef<Path>) -> Vec<usize> {
+        path.as_ref().to_str().map(|text| self.matches(text)).unwrap_or_default()
     }
 
     /// [`matches_into`](Self::matches_into) of the path's text. A path that is not UTF-8 is never matched.
-    pub fn matches_path_into(&self, path: &Path, numbers: &mut Vec<usize>) {
+    pub fn matches_path_into(&self, path: impl AsRef<Path>, numbers: &mut Vec<usize>) {
         numbers.clear();
-        if let Some(text) = path.to_str() {
+        if let Some(text) = path.as_ref().to_str() {
             self.matches_into(text, numbers);
         }
     }

@@ -331,3 +331,29 @@ fn links_may_be_left_alone() {
     assert_eq!(found, [root.join("d/x")]);
     assert_eq!((through.len(), below.len()), (cfg!(unix) as usize, 0));
 }
+
+#[test]
+fn refusals_names_and_entries_are_copied_and_compared() {
+    let fault = Pattern::new("a[").unwrap_err();
+    assert_eq!(fault.clone(), fault);
+    assert_ne!(Pattern::new("[").unwrap_err(), fault);
+    let refusal = PatternSet::from_texts(["a", "a["], MatchOptions::new()).unwrap_err();
+    assert_eq!(refusal.clone(), SetRefusal::Syntax(1, fault.clone()));
+    assert_ne!(refusal, SetRefusal::Syntax(0, fault.clone()));
+    let braces = PatternSet::from_braces(["{a,a[}"], MatchOptions::new()).unwrap_err();
+    assert_eq!(braces.clone(), BraceSetRefusal::Pattern(0, 1, fault));
+    assert_ne!(braces, PatternSet::from_braces(["{a"], MatchOptions::new()).unwrap_err());
+    let line = "[\u{e9}]".parse::<IgnoreList>().unwrap_err();
+    assert_eq!(line.clone(), IgnoreList::new("[\u{e9}]\n").unwrap_err());
+
+    let mut names = ["b", "a"].map(|name| Name::try_from(name.to_owned()).unwrap());
+    names.sort();
+    assert_eq!(names.clone().map(|name| name.to_string()), ["a", "b"]);
+    let entries = names.map(|name| Entry { name, is_dir: false });
+    assert_eq!(entries.clone(), entries);
+    assert_ne!(entries[0], Entry { is_dir: true, ..entries[0].clone() });
+
+    let set: PatternSet = ["*.o", "*.a"].into_iter().map(|text| Pattern::try_from(text).unwrap()).collect();
+    assert_eq!((&set).into_iter().map(AsRef::as_ref).collect::<Vec<&str>>(), ["*.o", "*.a"]);
+    assert_eq!((set.options(), set.matches_path("a.o")), (MatchOptions::new(), vec![0]));
+}
