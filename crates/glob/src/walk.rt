@@ -41,9 +41,9 @@ pub struct Walk<T: Tree> {
 /// - Each path comes once if `**` stands in at most one place, where `**/**` is one, and in order if besides at most
 ///   one component follows it.
 ///
-/// In either case the paths are those below the start whose names the components take: a component without wildcards
-/// takes its own name alone, unless `**` is right before it, and another takes each name that it matches. So over a
-/// directory `aaa`, case-insensitively, `AAA` finds nothing, and `**/AAA` finds `aaa`.
+/// Likewise, case-sensitively or not, the paths are those below the start whose names the components take: one without
+/// wildcards takes its own name alone, unless `**` is right before it; `**` takes any number of names; and another takes
+/// one name that it matches. So over a directory `aaa`, case-insensitively, `AAA` finds nothing, and `**/AAA` finds `aaa`.
 ///
 /// `limit` is in units of work: lookups, listings and entries. Over files `x` and `y`, `walk_in(alloc, tree, "*",
 /// options, 4)` gives both and `End::Done`; with the limit 3 it gives none, and `End::Limit`.

@@ -266,7 +266,7 @@ impl<R: System, A: Allocator + Copy> Disk<R, A> {
         Ok(Entry { name, is_dir })
     }
 
-    /// Whether a name in a directory is said to be one, which is looked up or left out.
+    /// Whether the entry of a name is a directory: `false` where kinds are left out.
     fn is_dir_in(&self, path: &mut String<A>, kinds: Kinds, name: &str) -> Result<bool, AllocError>
         ensures kind { (f : FileSystem) → IsHeld self.now.files f
             → is_direct f (string_bytes path.old ++ name.now) ≡ true

@@ -14,8 +14,8 @@ use std::fs::Metadata;
 use std::io::{self, ErrorKind, Read};
 use std::marker::Model;
 
-/// A system that holds the files of a tree in memory, without symbolic links: what a disk answers over it is known, so
-/// that disks can be tried without a disk. Its directories are read in pieces, as real ones may be.
+/// A system that holds the files of a tree in memory, without symbolic links. It has the promises of [`System`], and its
+/// directories are read in pieces, as real ones may be.
 #[derive(Drop)]
 pub struct MemSystem<A: Allocator = Global> {
     tree: MemTree<A>,

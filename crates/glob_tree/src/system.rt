@@ -58,7 +58,7 @@ pub trait Directory: Drop {
     /// The bytes that reads will give from here on, where they are known.
     ghost left: { Self → Option (List ℕ) };
 
-    /// The kind of the error that comes after the bytes that are left, if one does, and not the end.
+    /// The kind of the error that a read returns after the last byte; `None` where the end comes.
     ghost fault: { Self → Option ErrorKind };
 
     /// Reads the next bytes into the first places of `block`, and returns how many they are: 0 at the end. So a

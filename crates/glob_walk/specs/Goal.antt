@@ -71,7 +71,8 @@ goal c o pattern =
 abbrev pub walk_takes_name : MatchOptions → (after_recursive : Bool) → (component name : Text) → Bool
 walk_takes_name o after_recursive t n = if after_recursive || not (is_literal t) then matches_name o t n else bytes_eq t n
 
--- The components take the names: `**` any number of them, at the end at least one, and another component one name.
+-- The components take the names: `**` any number of them that are open to it, at the end at least one, and another
+-- component one name.
 abbrev pub walk_takes : MatchOptions → (after_recursive : Bool) → (components names : List Text) → Bool
 walk_takes o after [] [] = true
 walk_takes o after [] (n ∷ ns) = false
@@ -88,7 +89,7 @@ named_text o pattern kind (n ∷ ns) =
     if matches_kind pattern kind && walk_takes o false (components pattern) (n ∷ ns)
     then Some (text_below pattern (n ∷ ns)) else None
 
--- the texts that a walk is to find in either case, in no order: case-sensitively they are the goal
+-- The texts that a walk is to find, case-sensitively or not, in no order. Case-sensitively they are the goal.
 unfoldable pub named_goal : Content → MatchOptions → (pattern : Text) → List Text
 named_goal c o pattern =
     filter_map (λ e. option_and_then (named_text o pattern e.1) (names_past (start_key c pattern) e.0)) c.kinds

@@ -1,11 +1,11 @@
 -- Laws of walks, as statements.
-use Rattle.std.specs.Prelude.{◌≡◌, ℕ, ◌+◌, ◌*◌, ◌≤◌, if◌then◌else◌, List, [], ◌∷◌, length, Some, IsTrue, ◌&&◌, Bool, IsPermutation, AllPairs}
+use Rattle.std.specs.Prelude.{◌≡◌, ℕ, ◌+◌, ◌*◌, ◌≤◌, not, if◌then◌else◌, List, [], ◌∷◌, length, Some, IsTrue, ◌&&◌, Bool, IsPermutation, AllPairs}
 use Rattle.std.specs.Str.{IsUtf8, is_utf8}
 use Rattle.std.specs.List.{list_all}
 use Rattle.glob_text.specs.Text.{Text}
 use Rattle.glob_tree.specs.Paths.{is_proper}
 use Rattle.glob_tree.specs.Content.{Content, Key, DirEntry, is_content, is_dir_at, is_before, resolve, sorted_entries}
-use Rattle.glob_walk.specs.Components.{components, is_recursive, matches_name}
+use Rattle.glob_walk.specs.Components.{begins_recursive, components, is_recursive, matches_name}
 use Rattle.glob_walk.specs.Marks.{Mark, Item, items, cost, paths, IsBeginning}
 use Rattle.glob_walk.specs.Listing.{descent, levels, listing}
 use Rattle.glob_walk.specs.Goal.{is_plain, matches_undivided, text_below, is_readable, goal, named_goal, IsNamedWalk, IsPlainWalk, ReachesTexts, GivesTexts, ReachesGoal, GivesGoal}
@@ -44,7 +44,7 @@ PlainWalkOrderly =
     (c : Content) (o : MatchOptions) (pattern : Text) → IsPlainWalk c o pattern
     → (given : List Item) → IsBeginning given (items (listing c o pattern)) → IsOrderly pattern (paths given)
 
--- in either case the same holds of the keys whose names the components take
+-- case-sensitively or not, the same holds of the keys whose names the components take
 abbrev pub NamedWalkReaches : Type 0
 NamedWalkReaches =
     (c : Content) (o : MatchOptions) (pattern : Text) → IsNamedWalk c pattern
@@ -65,12 +65,16 @@ NamedWalkOrderly =
 abbrev pub NamedGoalIsGoal : Type 0
 NamedGoalIsGoal = (c : Content) (o : MatchOptions) (pattern : Text) → IsPlainWalk c o pattern → named_goal c o pattern ≡ goal c o pattern
 
--- what components cost at most for each of n keys: a polynomial in n, whose degree is the number of `**`
+-- What components cost at most for each of n keys: a polynomial in n, whose degree is at most the number of places with
+-- `**`, `**/**` being one.
 abbrev pub cost_per_key : (n : ℕ) → (components : List Text) → ℕ
 cost_per_key n [] = 0
-cost_per_key n (t ∷ ts) = if is_recursive t then 2 + n * cost_per_key n ts else 1 + cost_per_key n ts
+cost_per_key n (t ∷ ts) =
+    if not (is_recursive t) then 1 + cost_per_key n ts
+    else if begins_recursive ts then cost_per_key n ts
+    else 2 + n * cost_per_key n ts
 
--- in either case the whole walk of a plain pattern costs at most one unit, and this for each key of the content
+-- the whole walk of a plain pattern costs at most one unit, and this for each key of the content
 abbrev pub NamedWalkCosts : Type 0
 NamedWalkCosts =
     (c : Content) (o : MatchOptions) (pattern : Text) → IsNamedWalk c pattern

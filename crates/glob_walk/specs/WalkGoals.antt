@@ -46,8 +46,8 @@ unfoldable pub FindsInOrder : {A : Type 0} → (known : Option Content) → Matc
 FindsInOrder known o pattern answers =
     (c : Content) → WalksPlainly known c o pattern → IsOrderly pattern (paths (given_items answers))
 
--- In either case each path is one to whose names the components lead, once and in order as far as each `**` allows. Where
--- the walk is done each of these is a path or hidden, and over a readable content they are exactly the paths.
+-- Case-sensitively or not, each path is one whose names the components take, once and in order as far as each `**` allows.
+-- Where the walk is done each of these is a path or hidden, and over a readable content they are exactly the paths.
 unfoldable pub FindsNames : {A : Type 0} → (known : Option Content) → MatchOptions → (pattern : Text) → End → Answers A → Type 0
 FindsNames known o pattern end answers =
     (c : Content) → IsTold known c → IsTrue (is_plain pattern)

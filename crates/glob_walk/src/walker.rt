@@ -50,7 +50,7 @@ use std::alloc::{AllocError, Allocator};
 #[derive(Drop)]
 pub struct Walker<A: Allocator> {
     pub meter: Meter,
-    /// The question that is open. It goes before the stack.
+    /// The question that is open. Until it is answered, the stack waits.
     pub query: Option<Query<A>>,
     pub stack: Stack<A>,
 }

@@ -13,7 +13,7 @@ use std::io;
 pub enum FindFault {
     /// The pattern of the walk was refused, before anything was looked up or written.
     Pattern(PatternRefusal),
-    /// There was no memory for a line.
+    /// There was no memory, for a line or to choose a path.
     Memory,
     /// A line could not be written.
     Write(io::Error),
@@ -31,7 +31,7 @@ impl From<PatternRefusal> for FindFault {
     }
 }
 
-/// A line for which there was no memory.
+/// A failed allocation.
 impl From<AllocError> for FindFault {
     ghost use Rattle.std.specs.Prelude.{◌≡◌};
     ghost use Rattle.glob_console.specs.declared.find.fault.FindFault.TheVariants.{Memory};

@@ -1,5 +1,5 @@
 -- The cost of a walk, component by component.
-use Rattle.std.proofs.Common.{◌≡◌, ℕ, zero, suc, ◌+◌, ◌*◌, ◌≤◌, Bool, true, false, cond, not, ◌||◌, List, [], ◌∷◌, ◌++◌, length, flat_map, replicate, Option, Some, None, refl, sym, ap, subst, ◌∙◌, arith, mul-add, add-mul, one-mul, mul-one, mul-le-mul_left, mul-le-mul_right, mul_comm}
+use Rattle.std.proofs.Common.{◌≡◌, ℕ, zero, suc, ◌+◌, ◌*◌, ◌≤◌, Bool, true, false, cond, not, ◌||◌, List, [], ◌∷◌, ◌++◌, length, flat_map, replicate, Option, Some, None, refl, sym, ap, subst, ◌∙◌, arith, mul-add, add-mul, one-mul, mul-one, mul-le-mul_left, mul_comm}
 use Rattle.std.specs.Prelude.{Contains}
 use Rattle.std.specs.List.{list_all}
 use Rattle.std.specs.Path.{has_no_slash}
@@ -135,8 +135,11 @@ module _ (c : Content) (w : IsContent c) (o : MatchOptions) (directories : Bool)
   per-plain : (t : Text) (ts : List Text) → is_recursive t ≡ false → cost_per_key keys (t ∷ ts) ≡ 1 + cost_per_key keys ts
   per-plain t ts e = rw e refl
 
-  per-recursive : (t : Text) (ts : List Text) → is_recursive t ≡ true → cost_per_key keys (t ∷ ts) ≡ 2 + keys * cost_per_key keys ts
-  per-recursive t ts e = rw e refl
+  per-recursive : (t : Text) (ts : List Text) → is_recursive t ≡ true → begins_recursive ts ≡ false → cost_per_key keys (t ∷ ts) ≡ run_rate ts
+  per-recursive t ts e last = rw (e, last) refl
+
+  per-run : (t : Text) (ts : List Text) → is_recursive t ≡ true → begins_recursive ts ≡ true → cost_per_key keys (t ∷ ts) ≡ cost_per_key keys ts
+  per-run t ts e more = rw (e, more) refl
 
   costs-literal : (t : Text) (ts : List Text) → component_kind t ≡ Literal → IsOwnName t → Costs ts → Costs (t ∷ ts)
   costs-literal t ts kind is next path k d at here held =
@@ -224,21 +227,12 @@ module _ (c : Content) (w : IsContent c) (o : MatchOptions) (directories : Bool)
   costs-recursive : (t : Text) (ts : List Text) → component_kind t ≡ Recursive → begins_recursive ts ≡ false → CostsMet ts → Costs (t ∷ ts)
   costs-recursive t ts kind last next path k false at here held = rw (enter-recursive_none c o directories t ts path kind last) (omega arith)
   costs-recursive t ts kind last next path k true at here held =
-      rw (enter-levels c o directories t ts path kind last, per-recursive t ts (kind-Recursive t kind))
+      rw (enter-levels c o directories t ts path kind last, per-recursive t ts (kind-Recursive t kind) last)
       (omega (arith, costs-descent ts next (levels c) path k here held (record { resolved = at.resolved; directory = at.is })))
-
-  -- there is a key, so what follows `**` costs less than it does with it
-  run_rate-more : (ts : List Text) → 1 ≤ keys → cost_per_key keys ts ≤ run_rate ts
-  run_rate-more ts some = omega (arith, mul-le-mul_right (cost_per_key keys ts) some, one-mul (cost_per_key keys ts))
 
   costs-run : (t : Text) (ts : List Text) → component_kind t ≡ Recursive → begins_recursive ts ≡ true → Costs ts → Costs (t ∷ ts)
   costs-run t ts kind more next path k d at here held =
-      rw (enter-run c o directories t ts path d kind more, per-recursive t ts (kind-Recursive t kind))
-      (omega (
-        arith,
-        next path k d at here held,
-        mul-le-mul_right (size c k) (run_rate-more ts (omega (arith, size-some c w k here held, size-all c k))),
-      ))
+      rw (enter-run c o directories t ts path d kind more, per-run t ts (kind-Recursive t kind) more) (next path k d at here held)
 
   costs-met : (t : Text) (ts : List Text) → is_recursive t ≡ false → Costs ts → CostsMet (t ∷ ts)
   unfolding meet

@@ -27,10 +27,11 @@ pub fn plain_walk_is_orderly()
     ensures { PlainWalkOrderly }
 {}
 
-/// In either case the walk of a plain pattern finds the keys below its start whose names its components take, once and
-/// in order as far as each `**` allows: a component without wildcards takes its own name alone, unless `**` is before
-/// it, and another each name that it matches. So over a directory `aaa`, case-insensitively, `AAA` finds nothing, and
-/// `AA[A]` and `**/AAA` find `aaa`. Case-sensitively these are the keys whose texts the undivided pattern matches.
+/// Case-sensitively or not, the walk of a plain pattern finds the keys below its start whose names its components take,
+/// once and in order as far as each `**` allows. A component without wildcards takes its own name alone, unless `**` is
+/// right before it; `**` takes any number of names; and another component takes one name that it matches. So over a
+/// directory `aaa`, case-insensitively, `AAA` finds nothing, and `AA[A]` and `**/AAA` find `aaa`. Case-sensitively these
+/// are the keys whose texts the undivided pattern matches.
 pub fn walk_finds_what_its_components_take()
     ensures reaches { NamedWalkReaches }
     ensures gives { NamedWalkGives }
@@ -39,8 +40,8 @@ pub fn walk_finds_what_its_components_take()
 {}
 
 /// The whole walk of a plain pattern costs at most one unit, and `cost_per_key` units for each key of the content, the
-/// root among them: so there is a limit that always suffices. A component costs one for each key, and `**` two and as
-/// many times what follows it as there are keys. So `*/*.rs` over 9 keys costs at most 19 units, and `**/*.rs` 100.
+/// root among them: so a bound is known before the walk. A component costs one unit for each key. `**` costs two, and
+/// for each key what the components after it cost. So `*/*.rs` over 9 keys costs at most 19 units, and `**/*.rs` 100.
 pub fn walk_costs_a_polynomial_of_keys()
     ensures { NamedWalkCosts }
 {}

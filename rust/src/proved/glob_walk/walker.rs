@@ -41,7 +41,7 @@ use crate::proved::glob_walk::task::{task_after_look, Accepted, Task, TaskState}
 /// A limit, and what a walk has still to do.
 pub struct Walker {
     pub meter: Meter,
-    /// The question that is open. It goes before the stack.
+    /// The question that is open. Until it is answered, the stack waits.
     pub query: Option<Query>,
     pub stack: Stack,
 }
