@@ -1,4 +1,4 @@
-//! Numbers, of which a few are kept without an allocation.
+//! Numbers, the first few of which take no allocation.
 ghost use Rattle.std.specs.Prelude.{◌≡◌, ◌≤◌, ◌<◌, ◌++◌, ◌∷◌, ℕ, [], false, length, All, OnErr, OnOk, IsPermutation};
 ghost use Rattle.std.specs.List.Sorted.{IsNonDecreasing};
 ghost use Rattle.glob_set.specs.Private.Keyed.{Keeps, KeepsAll};
@@ -9,7 +9,8 @@ use std::marker::Model;
 /// How many numbers are kept without an allocation.
 const ROOM: usize = 16;
 
-/// Different numbers, and whether one more had no room since an allocation failed.
+/// Numbers, and whether one more had no room since an allocation failed. The first few differ; beyond these a number may
+/// come again, so that each is added at once.
 #[derive(Drop)]
 pub struct Found<A: Allocator = Global> {
     // the first `len`, until there are more than these have room for
@@ -67,14 +68,14 @@ impl<A: Allocator> Found<A> {
         self.is_full
     }
 
-    /// Adds the number, unless it is there or has no room.
+    /// Adds the number, unless it is one of the first few, or has no room.
     pub fn push(&mut self, number: usize)
         ensures kept { KeepsAll self.old self.new }
         ensures pushed { Keeps self.new number }
         ensures within { (n : ℕ) → number < n → All (λ k. k < n) self.old.items
             → All (λ k. k < n) self.new.items }
     {
-        if self.numbers().contains(&number) {
+        if self.len < ROOM && self.numbers().contains(&number) {
             return;
         }
         match self.push_new(number) {

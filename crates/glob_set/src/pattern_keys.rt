@@ -15,7 +15,7 @@ use std::alloc::{AllocError, Allocator};
 /// How many patterns have keys at least, if any does: fewer are asked faster than keys are looked up.
 const MANY: usize = 64;
 
-/// How many keys of patterns a slot has at least whose keys are not rare.
+/// A key is common from so many of them in its slot on.
 const COMMON: u8 = 32;
 
 /// How many bytes a beginning or an ending has at most: texts are looked up by each number of bytes that a key has.
@@ -131,8 +131,8 @@ fn count_slot(key: Key, slots: usize) -> usize
     slot_of(key.hash() ^ salt, slots)
 }
 
-/// What a key costs texts besides, in patterns that are asked: each text is looked up by all the numbers of bytes that
-/// beginnings and endings have.
+/// What looking a key up costs each text, counted in patterns that are asked: a text is looked up by each number of bytes
+/// that a beginning or an ending has.
 fn cost_of(key: Key) -> u8 {
     match key {
         Key::Component(_) => 0,
@@ -142,7 +142,7 @@ fn cost_of(key: Key) -> u8 {
 }
 
 /// Replaces the content of `keys` by the keys of the pattern: its endings, and each component without wildcards and
-/// each beginning of a component. They are literals alone.
+/// each beginning of a component. All are made of literals.
 fn find_keys<A: Allocator>(pattern: &Pattern<A>, keys: &mut Vec<Key, A>) -> Result<(), AllocError>
     ensures { OnOk result (All (HasKey pattern.now) keys.new.items) }
 {

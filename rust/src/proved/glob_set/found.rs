@@ -3,7 +3,7 @@
 
 const ROOM: usize = 16;
 
-/// Different numbers.
+/// Numbers. The first few differ; beyond these a number may come again, so that each is added at once.
 pub struct Found {
     // the first `len`, until there are more than these have room for
     few: [usize; ROOM],
@@ -35,9 +35,9 @@ impl Found {
         self.is_full
     }
 
-    /// Adds the number, unless it is there or has no room.
+    /// Adds the number, unless it is one of the first few, or has no room.
     pub fn push(&mut self, number: usize) {
-        if self.numbers().contains(&number) {
+        if self.len < ROOM && self.numbers().contains(&number) {
             return;
         }
         self.push_new(number);

@@ -36,7 +36,7 @@ pub struct Kinds {
     pub components: bool,
     /// For each number of bytes whether a beginning has so many.
     pub beginnings: [bool; 256],
-    /// For each number of bytes whether an ending has so many that need not be an extension.
+    /// For each number of bytes whether an `Ending` has so many.
     pub endings: [bool; 256],
     /// How many bytes the longest ending or extension has.
     pub longest: u8,
