@@ -4,6 +4,7 @@ pub mod EscapeLemmas
 pub mod FilterLemmas
 pub mod FulfilLemmas
 pub mod FindingLemmas
+pub mod MatchedNames
 pub mod OpenedLemmas
 pub mod RequestLemmas
 pub mod ShallowLemmas

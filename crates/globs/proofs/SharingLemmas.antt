@@ -21,7 +21,7 @@ use Rattle.glob_walk.specs.Components.{is_recursive, matches_name}
 use Rattle.glob_walk.specs.Order.{after_first_recursive}
 use Rattle.glob_walk.proofs.GoalLemmas.Characters.{AllUtf8}
 use Rattle.glob_walk.proofs.GoalLemmas.PatternParts.{pieces-flat, pieces-utf8}
-use Rattle.glob_walk.proofs.GoalLemmas.TakenNames.{takes, takes-one, takes-one_none, run-nil}
+use Rattle.globs.proofs.MatchedNames.{takes, takes-one, takes-one_none, run-nil}
 use Rattle.globs.specs.Find.Planning.{everything_options, is_below, is_no_name}
 use Rattle.globs.specs.Find.Sharing.{all_shared, has_one_more, is_shared, shared, shared_steps, step_text}
 use Rattle.globs.proofs.BelowLemmas.{no_names}

@@ -20,7 +20,7 @@ use Rattle.glob_walk.specs.Goal.{ends_recursive}
 use Rattle.glob_walk.proofs.ComponentLemmas.FirstSeparator.{no_slash_parts}
 use Rattle.glob_walk.proofs.ComponentLemmas.Fits.{fits, tokens_match-fits}
 use Rattle.glob_walk.proofs.GoalLemmas.Characters.{AllUtf8, dot-chars, no_slash-chars}
-use Rattle.glob_walk.proofs.GoalLemmas.TakenNames.{takes, takes-last, takes-one, takes-one_none, run-cases, run-enter, run-met, run-nil}
+use Rattle.globs.proofs.MatchedNames.{takes, takes-last, takes-one, takes-one_none, run-cases, run-enter, run-met, run-nil}
 
 abbrev star : Text
 star = codes "*"

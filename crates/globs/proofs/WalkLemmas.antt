@@ -22,7 +22,7 @@ use Rattle.glob_walk.specs.Laws.{are_names}
 use Rattle.glob_walk.specs.Order.{after_first_recursive, keeps_order}
 use Rattle.glob_walk.proofs.GoalLemmas.UndividedGoal.{plain_matches_levels}
 use Rattle.glob_walk.proofs.GoalLemmas.NamedPaths.{AllUtf8-from, AreNames-from, flat-from}
-use Rattle.glob_walk.proofs.GoalLemmas.TakenNames.{takes}
+use Rattle.globs.proofs.MatchedNames.{takes}
 use Rattle.glob_walk.proofs.GoalLemmas.Characters.{AllUtf8}
 use Rattle.glob_walk.proofs.MatchLemmas.Loosening.{patterns_loosened}
 use Rattle.globs.specs.Find.Planning.{AreTexts, are_below, are_shared, common_text, ends_in_stars, everything_options, is_below, is_no_name, is_single, is_walkable, one_text, walk_options, walk_text}

@@ -28,7 +28,7 @@ use Rattle.glob_walk.proofs.ComponentLemmas.JoinedComponents.{joined_takes}
 use Rattle.glob_walk.proofs.GoalLemmas.Characters.{AllUtf8, chars-joined, no_slash-chars}
 use Rattle.glob_walk.proofs.GoalLemmas.NamedPaths.{AllUtf8-from, AreNames-from, flat-from}
 use Rattle.glob_walk.proofs.GoalLemmas.PatternParts.{pieces-flat, pieces-utf8}
-use Rattle.glob_walk.proofs.GoalLemmas.TakenNames.{takes}
+use Rattle.globs.proofs.MatchedNames.{takes}
 use Rattle.glob_walk.proofs.GoalLemmas.Undivided.{takes_names-chars}
 use Rattle.globs.specs.Find.Planning.{everything_options, is_below, is_no_name, is_walkable}
 use Rattle.globs.proofs.BelowLemmas.{components_are_pieces, no_names}
