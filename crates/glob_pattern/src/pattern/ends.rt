@@ -14,7 +14,7 @@ use crate::matcher::{Shape, Shaped};
 use crate::options::MatchOptions;
 use crate::token::Token;
 use crate::token::bracket::Bracket;
-use crate::token::taking::takes;
+use crate::token::taking::{takes, takes_any};
 use std::alloc::Allocator;
 
 /// The tokens at both ends that take one character each, and the literals among them.
@@ -205,10 +205,13 @@ impl Ends {
         let mut opening = part.opening;
         let mut count = self.prefix.count;
         let ones = &tokens[..self.lead];
+        // A run of tokens that take any character is a count of characters.
+        while count < ones.len() && takes_any(&ones[count], options) {
+            opening = rest.next()? == '/';
+            count += 1;
+        }
         while count < ones.len() {
-            let Some(c) = rest.next() else {
-                return None;
-            };
+            let c = rest.next()?;
             if !takes(&ones[count], options, opening, c) {
                 return None;
             }
@@ -239,19 +242,23 @@ impl Ends {
             (length tokens.now - self.now.trail) left.text.now left.opening) }
     {
         let mut rest = part.text.chars();
+        let mut text = part.text;
         let start = tokens.len() - self.trail;
         let mut end = tokens.len() - self.suffix.count;
-        while start < end {
-            let Some(c) = rest.next_back() else {
-                return None;
-            };
+        while start < end && takes_any(&tokens[end - 1], options) {
+            rest.next_back()?;
+            text = rest.as_str();
             end -= 1;
-            let opening = opens_after(rest.as_str(), part.opening);
+        }
+        while start < end {
+            let c = rest.next_back()?;
+            text = rest.as_str();
+            end -= 1;
+            let opening = opens_after(text, part.opening);
             if !takes(&tokens[end], options, opening, c) {
                 return None;
             }
         }
-        let text = rest.as_str();
         Some(Part {
             text,
             opening: part.opening,

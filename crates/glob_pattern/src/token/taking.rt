@@ -1,5 +1,5 @@
 //! Which characters a token takes under the options.
-ghost use Rattle.std.specs.Prelude.{◌≡◌};
+ghost use Rattle.std.specs.Prelude.{◌≡◌, ℕ, Bool, true, IsTrue};
 ghost use Rattle.glob_pattern.specs.Matching.Components as components;
 ghost use Rattle.glob_pattern.specs.Matching.Taking as taking;
 
@@ -28,6 +28,15 @@ pub fn takes<A: Allocator>(
             takes_other(token, copy, opening, c)
         }
     }
+}
+
+/// Whether the token takes any character: it is `?`, and no rule is set.
+#[inline(always)]
+pub fn takes_any<A: Allocator>(token: &Token<Bracket<A>>, options: MatchOptions) -> bool
+    ensures { IsTrue result
+        → (opening : Bool) (c : ℕ) → taking.takes options opening c token.now ≡ true }
+{
+    !has_rules(options) && matches!(token, Token::AnyChar)
 }
 
 /// [`takes`], out of line, for a token that is neither a literal nor `?`.
@@ -66,7 +75,7 @@ fn is_free(options: MatchOptions, opening: bool, c: char) -> bool
 pub fn is_excluded_separator(options: MatchOptions, c: char) -> bool
     ensures { result ≡ taking.is_excluded_separator options c }
 {
-    options.require_literal_separator && c == '/'
+    c == '/' && options.require_literal_separator
 }
 
 /// Whether the dot rule excludes the character from wildcards: it is a leading dot at a component start.

@@ -7,7 +7,7 @@
 use crate::proved::glob_pattern::matcher::{Shape, Shaped};
 use crate::proved::glob_pattern::options::MatchOptions;
 use crate::proved::glob_pattern::token::bracket::Bracket;
-use crate::proved::glob_pattern::token::taking::takes;
+use crate::proved::glob_pattern::token::taking::{takes, takes_any};
 use crate::proved::glob_pattern::token::Token;
 
 /// The tokens at both ends that take one character each, and the literals among them.
@@ -133,10 +133,13 @@ impl Ends {
         let mut opening = part.opening;
         let mut count = self.prefix.count;
         let ones = &tokens[..self.lead];
+        // A run of tokens that take any character is a count of characters.
+        while count < ones.len() && takes_any(&ones[count], options) {
+            opening = rest.next()? == '/';
+            count += 1;
+        }
         while count < ones.len() {
-            let Some(c) = rest.next() else {
-                return None;
-            };
+            let c = rest.next()?;
             if !takes(&ones[count], options, opening, c) {
                 return None;
             }
@@ -151,19 +154,23 @@ impl Ends {
     #[inline(always)]
     fn take_last<'a>(&self, tokens: &[Token<Bracket>], part: Part<'a>, options: MatchOptions) -> Option<Part<'a>> {
         let mut rest = part.text.chars();
+        let mut text = part.text;
         let start = tokens.len() - self.trail;
         let mut end = tokens.len() - self.suffix.count;
-        while start < end {
-            let Some(c) = rest.next_back() else {
-                return None;
-            };
+        while start < end && takes_any(&tokens[end - 1], options) {
+            rest.next_back()?;
+            text = rest.as_str();
             end -= 1;
-            let opening = opens_after(rest.as_str(), part.opening);
+        }
+        while start < end {
+            let c = rest.next_back()?;
+            text = rest.as_str();
+            end -= 1;
+            let opening = opens_after(text, part.opening);
             if !takes(&tokens[end], options, opening, c) {
                 return None;
             }
         }
-        let text = rest.as_str();
         Some(Part { text, opening: part.opening })
     }
 }

@@ -22,6 +22,12 @@ pub fn takes(token: &Token<Bracket>, options: MatchOptions, opening: bool, c: ch
     }
 }
 
+/// Whether the token takes any character: it is `?`, and no rule is set.
+#[inline(always)]
+pub fn takes_any(token: &Token<Bracket>, options: MatchOptions) -> bool {
+    !has_rules(options) && matches!(token, Token::AnyChar)
+}
+
 /// [`takes`], out of line, for a token that is neither a literal nor `?`.
 #[inline(never)]
 fn takes_other(token: &Token<Bracket>, options: MatchOptions, opening: bool, c: char) -> bool {
@@ -43,7 +49,7 @@ fn is_free(options: MatchOptions, opening: bool, c: char) -> bool {
 /// Whether the separator rule excludes the character from wildcards: it is a `/`.
 #[inline(always)]
 pub fn is_excluded_separator(options: MatchOptions, c: char) -> bool {
-    options.require_literal_separator && c == '/'
+    c == '/' && options.require_literal_separator
 }
 
 /// Whether the dot rule excludes the character from wildcards: it is a leading dot at a component start.
