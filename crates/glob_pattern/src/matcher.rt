@@ -1,5 +1,5 @@
 //! Judges, and whether by their answers characters split into pieces.
-ghost use Rattle.std.specs.Prelude.{◌≡◌, ℕ, ◌+◌, ◌-◌, ◌*◌, ◌^◌, ◌<◌, ◌≤◌, ◌↔◌, false, length, IsTrue, IsOk, IfOk, count_ones};
+ghost use Rattle.std.specs.Prelude.{◌≡◌, ℕ, ◌+◌, ◌-◌, ◌*◌, ◌^◌, ◌<◌, ◌≤◌, ◌↔◌, false, length, map, IsTrue, IsOk, IfOk, count_ones};
 ghost use Rattle.glob_pattern.specs.Matching.Splits.{Table, Splits};
 ghost use Rattle.std.specs.Int.{IsBitSet};
 
@@ -150,17 +150,42 @@ pub fn run_positions<A: Allocator + Copy, J: Judge>(
     // With at most 63 shapes it succeeds.
     ensures small { length shapes.now < 64 → IsOk result }
 {
-    let span = Span::all(shapes.len());
-    if shapes.len() <= WORD {
+    decide_all(alloc, shapes, judge)
+}
+
+/// [`run_positions`] over the shapes of tokens.
+#[inline(always)]
+pub fn decide_all<A: Allocator + Copy, T: Shaped, J: Judge>(
+    alloc: A,
+    tokens: &[T],
+    judge: &mut J,
+) -> Result<bool, AllocError>
+    requires tokens { length tokens.now ≤ (J.table judge.old).tokens }
+    requires start { J.place judge.old ≡ 0 }
+    requires room { J.count judge.old
+        + length tokens.now * (J.table judge.old).characters < 2 ^ 128 }
+    ensures answer { IfOk result
+        (λ yes. IsTrue yes ↔ Splits (J.table judge.old) (map T.shape tokens.now)) }
+    ensures most { J.count judge.new
+        ≤ J.count judge.old + length tokens.now * (J.table judge.old).characters }
+    ensures least { IfOk result
+        (λ yes. IsTrue yes
+        → J.count judge.old + (J.table judge.old).characters ≤ J.count judge.new) }
+    ensures monotone { J.count judge.old ≤ J.count judge.new }
+    ensures same { J.table judge.new ≡ J.table judge.old }
+    ensures small { length tokens.now < 64 → IsOk result }
+{
+    let span = Span::all(tokens.len());
+    if tokens.len() <= WORD {
         decide(
             alloc,
-            shapes,
-            &[ShapeWord::new(shapes, span.end, 0)],
+            tokens,
+            &[ShapeWord::new(tokens, span.end, 0)],
             span,
             judge,
         )
     } else {
-        let words = shape_words(alloc, shapes, span.end)?;
-        decide(alloc, shapes, words.as_slice(), span, judge)
+        let words = shape_words(alloc, tokens, span.end)?;
+        decide(alloc, tokens, words.as_slice(), span, judge)
     }
 }

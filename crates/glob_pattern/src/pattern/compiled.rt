@@ -2,14 +2,12 @@
 //! and what is between goes through the automaton.
 ghost use Rattle.std.specs.Prelude.{◌≡◌, ℕ, ◌+◌, ◌*◌, ◌<◌, ◌≤◌, ◌↔◌, [], length, map, IsTrue, IsOk, IfOk, IfNone, IfSome, chars, slice_index_or};
 ghost use Rattle.std.specs.Str.{is_utf8};
-ghost use Rattle.glob_pattern.specs.Grammar.Tokens.{shape_of};
 ghost use Rattle.glob_pattern.specs.Grammar.Units.{HasTokens};
 ghost use Rattle.glob_pattern.specs.Matching.Taking.{has_rules};
 ghost use Rattle.glob_pattern.specs.Matching.Texts.{TokensMatch};
-ghost use Rattle.glob_pattern.specs.Private.Positions.{AreShapeWords};
 ghost use Rattle.glob_pattern.specs.declared.token.Token.TheVariants.{Literal, AnyChar};
 
-use crate::matcher::{Judge, ShapeWord, Span, WORD, decide, shape_words};
+use crate::matcher::{Judge, decide_all};
 use crate::options::MatchOptions;
 use crate::pattern::automaton::Automaton;
 use crate::pattern::ends::Ends;
@@ -165,8 +163,8 @@ impl<A: Allocator + Copy> Compiled<A> {
     }
 
     /// The answer of [`matches`](Self::matches), and how many questions it took: how often a token was asked whether it
-    /// takes a character. Each token at an end counts, though the text may be rejected before it is asked, and the first
-    /// counts twice: [`Ends::reject`] asks it, too.
+    /// takes a character. Each token at an end counts, though the text may be rejected before it is asked. If one is at
+    /// the start, and the text is not empty, one more counts: [`Ends::reject`] may compare the first byte beforehand.
     #[inline(always)]
     fn matches_asking(
         &self,
@@ -223,42 +221,8 @@ impl<A: Allocator + Copy> Compiled<A> {
         ensures short { length self.now < 64 → IsOk result }
     {
         let tokens = self.tokens.as_slice();
-        let alloc = *self.tokens.allocator();
-        if tokens.len() <= WORD {
-            ask_all(
-                alloc,
-                tokens,
-                &[ShapeWord::new(tokens, tokens.len(), 0)],
-                text,
-                options,
-            )
-        } else {
-            let words = shape_words(alloc, tokens, tokens.len())?;
-            ask_all(alloc, tokens, words.as_slice(), text, options)
-        }
+        let mut judge = TextJudge::new(tokens, text, true, options);
+        let answer = decide_all(*self.tokens.allocator(), tokens, &mut judge)?;
+        Ok((answer, judge.asked()))
     }
-}
-
-/// Whether the tokens match the text, and how many questions it takes, by their shapes as bits. With one word the call
-/// succeeds.
-#[inline(always)]
-fn ask_all<A: Allocator + Copy>(
-    alloc: A,
-    tokens: &[Token<Bracket<A>>],
-    words: &[ShapeWord],
-    text: &str,
-    options: MatchOptions,
-) -> Result<(bool, u128), AllocError>
-    requires { AreShapeWords (map shape_of tokens.now) (length tokens.now) words.now }
-    ensures answer { IfOk result
-        (λ counted. IsTrue counted.0 ↔ TokensMatch options tokens.now (chars text.now)) }
-    ensures most { IfOk result
-        (λ counted. counted.1 ≤ length tokens.now * length (chars text.now)) }
-    ensures least { IfOk result
-        (λ counted. IsTrue counted.0 → length (chars text.now) ≤ counted.1) }
-    ensures short { length words.now ≡ 1 → IsOk result }
-{
-    let mut judge = TextJudge::new(tokens, text, true, options);
-    let answer = decide(alloc, tokens, words, Span::all(tokens.len()), &mut judge)?;
-    Ok((answer, judge.asked()))
 }

@@ -84,11 +84,17 @@ pub trait Judge {
 /// many questions.
 #[inline(always)]
 pub fn run_positions<J: Judge>(shapes: &[Shape], judge: &mut J) -> bool {
-    let span = Span::all(shapes.len());
-    if shapes.len() <= WORD {
-        decide(shapes, &[ShapeWord::new(shapes, span.end, 0)], span, judge)
+    decide_all(shapes, judge)
+}
+
+/// [`run_positions`] over the shapes of tokens.
+#[inline(always)]
+pub fn decide_all<T: Shaped, J: Judge>(tokens: &[T], judge: &mut J) -> bool {
+    let span = Span::all(tokens.len());
+    if tokens.len() <= WORD {
+        decide(tokens, &[ShapeWord::new(tokens, span.end, 0)], span, judge)
     } else {
-        let words = shape_words(shapes, span.end);
-        decide(shapes, words.as_slice(), span, judge)
+        let words = shape_words(tokens, span.end);
+        decide(tokens, words.as_slice(), span, judge)
     }
 }

@@ -4,7 +4,7 @@
 //! What a match reads of a pattern, and how a match goes: the ends of the text are compared, a needle is searched for,
 //! and what is between goes through the automaton.
 
-use crate::proved::glob_pattern::matcher::{decide, shape_words, Judge, ShapeWord, Span, WORD};
+use crate::proved::glob_pattern::matcher::{decide_all, Judge};
 use crate::proved::glob_pattern::options::MatchOptions;
 use crate::proved::glob_pattern::pattern::automaton::Automaton;
 use crate::proved::glob_pattern::pattern::ends::Ends;
@@ -98,8 +98,8 @@ impl Compiled {
     }
 
     /// The answer of [`matches`](Self::matches), and how many questions it took: how often a token was asked whether it
-    /// takes a character. Each token at an end counts, though the text may be rejected before it is asked, and the
-    /// first counts twice: [`Ends::reject`] asks it, too.
+    /// takes a character. Each token at an end counts, though the text may be rejected before it is asked. If one is at
+    /// the start, and the text is not empty, one more counts: [`Ends::reject`] may compare the first byte beforehand.
     #[inline(always)]
     fn matches_asking(&self, pattern: &str, text: &str, options: MatchOptions) -> (bool, u128) {
         let tokens = self.tokens.as_slice();
@@ -125,19 +125,8 @@ impl Compiled {
     #[inline(never)]
     pub fn matches_counted(&self, text: &str, options: MatchOptions) -> (bool, u128) {
         let tokens = self.tokens.as_slice();
-        if tokens.len() <= WORD {
-            ask_all(tokens, &[ShapeWord::new(tokens, tokens.len(), 0)], text, options)
-        } else {
-            let words = shape_words(tokens, tokens.len());
-            ask_all(tokens, words.as_slice(), text, options)
-        }
+        let mut judge = TextJudge::new(tokens, text, true, options);
+        let answer = decide_all(tokens, &mut judge);
+        (answer, judge.asked())
     }
-}
-
-/// Whether the tokens match the text, and how many questions it takes, by their shapes as bits.
-#[inline(always)]
-fn ask_all(tokens: &[Token<Bracket>], words: &[ShapeWord], text: &str, options: MatchOptions) -> (bool, u128) {
-    let mut judge = TextJudge::new(tokens, text, true, options);
-    let answer = decide(tokens, words, Span::all(tokens.len()), &mut judge);
-    (answer, judge.asked())
 }
