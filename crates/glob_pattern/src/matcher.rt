@@ -7,7 +7,7 @@ mod positions;
 mod shape_word;
 
 pub use positions::{Span, decide};
-pub use shape_word::{ShapeWord, shape_words};
+pub use shape_word::{ShapeWord, shape_words, with_bit};
 use std::alloc::{AllocError, Allocator};
 
 /// How many tokens a word of 64 bits has. Its last bit is the position after them, as the first bit of the next word

@@ -1,11 +1,16 @@
 -- Masks with one bit more, and those of the classes that are listed.
-use Rattle.std.proofs.Common.{ℕ, Bool, true, false, ◌||◌, refl, inl, inr, ⊎_elim}
+use Rattle.std.proofs.Common.{◌≡◌, ◌↔◌, ◌⊎◌, ℕ, Bool, true, false, ◌||◌, refl, inl, inr, ⊎_elim}
 use Rattle.std.proofs.lemmas.Bool.{false≢true}
+use Rattle.std.specs.Int.{IsBitSet}
 use Rattle.glob_pattern.specs.Private.CharMasks.{IsWith}
 
 -- a bit that is off changes nothing
 pub with_none : (mask bit : ℕ) → IsWith mask mask bit false
 with_none mask bit = record { bits = λ j. (inl, λ h. ⊎_elim (λ s. s) (λ (_, f). absurd (false≢true f)) h) }
+
+-- and one that is on is set besides
+pub with_one : {old new bit : ℕ} → ((j : ℕ) → IsBitSet new j ↔ (IsBitSet old j ⊎ (j ≡ bit))) → IsWith old new bit true
+with_one with = record { bits = λ j. (λ s. ⊎_elim inl (λ e. inr (e, refl)) ((with j).0 s), λ h. (with j).1 (⊎_elim inl (λ (e, _). inr e) h)) }
 
 -- what is listed after other characters is listed beside them
 pub IsWith-after : (old between new bit : ℕ) (p q : Bool) → IsWith old between bit p → IsWith between new bit q → IsWith old new bit (p || q)

@@ -130,7 +130,8 @@ impl ShapeWord {
 }
 
 /// The word with one more bit set.
-fn with_bit(word: u64, bit: usize) -> u64
+#[inline(always)]
+pub fn with_bit(word: u64, bit: usize) -> u64
     requires { bit < 64 }
     ensures { (j : ℕ) → IsBitSet result j ↔ (IsBitSet word j ⊎ (j ≡ bit)) }
 {

@@ -7,7 +7,7 @@ ghost use Rattle.glob_pattern.specs.Private.Classes.{IsPartition, Separates, Eac
 ghost use Rattle.glob_pattern.specs.Private.CharMasks.{IsRow, AreListed, IsWith, mask_at, lists, is_bracket, takes_all_but_listed};
 ghost use Rattle.glob_pattern.specs.declared.token.bracket.Entry.TheVariants.{Range};
 
-use crate::matcher::WORD;
+use crate::matcher::{WORD, with_bit};
 use crate::pattern::classes::{Classes, are_letters};
 use crate::token::Token;
 use crate::token::bracket::{Bracket, Entry};
@@ -115,26 +115,26 @@ fn list_token<A: Allocator>(
             kinds
         }
         Token::AnyChar | Token::AnySequence => Kinds {
-            others: put_bit(kinds.others, bit),
+            others: with_bit(kinds.others, bit),
             ..kinds
         },
         Token::Recursive => Kinds {
-            others: put_bit(kinds.others, bit),
-            recursive: put_bit(kinds.recursive, bit),
+            others: with_bit(kinds.others, bit),
+            recursive: with_bit(kinds.recursive, bit),
             ..kinds
         },
         Token::OneOf(bracket) => {
             list_all(row, classes, bit, bracket.entries(), case_sensitive);
             Kinds {
-                brackets: put_bit(kinds.brackets, bit),
+                brackets: with_bit(kinds.brackets, bit),
                 ..kinds
             }
         }
         Token::NoneOf(bracket) => {
             list_all(row, classes, bit, bracket.entries(), case_sensitive);
             Kinds {
-                others: put_bit(kinds.others, bit),
-                brackets: put_bit(kinds.brackets, bit),
+                others: with_bit(kinds.others, bit),
+                brackets: with_bit(kinds.brackets, bit),
                 ..kinds
             }
         }
@@ -271,14 +271,5 @@ fn list_class(row: &mut [u64], bit: usize, class: usize)
     requires class { class < length row.old }
     ensures { (n : ℕ) → IsWith (mask_at row.old n) (mask_at row.new n) bit (n == class) }
 {
-    row[class] = put_bit(row[class], bit);
-}
-
-/// The word with one more bit set.
-#[inline(always)]
-fn put_bit(word: u64, bit: usize) -> u64
-    requires { bit < 63 }
-    ensures { IsWith word result bit true }
-{
-    word | (1 << bit)
+    row[class] = with_bit(row[class], bit);
 }

@@ -1,5 +1,5 @@
 use Rattle.std.proofs.Common.{⊎_elim}
-use Rattle.glob_pattern.proofs.MaskLemmas.Putting.{with_none}
+use Rattle.glob_pattern.proofs.MaskLemmas.Putting.{with_none, with_one}
 use Rattle.glob_pattern.proofs.pattern.char_masks.row.list_token.Goals as goal
 
 pub list_literal-requires-clause-apart : goal.list_literal-requires-clause-apart
@@ -22,9 +22,9 @@ returns-in-Literal g c = rw c.in-Literal.is (record {
 pub returns-in-Recursive : goal.returns-in-Recursive
 returns-in-Recursive g c = rw c.in-Recursive.is (record {
   listed = λ d. with_none _ _;
-  others = c.put_bit.ensures;
+  others = with_one c.with_bit.ensures;
   brackets = with_none _ _;
-  recursive = c.put_bit-in-Recursive.ensures;
+  recursive = with_one c.with_bit-in-Recursive.ensures;
 })
 
 pub returns-in-OneOf : goal.returns-in-OneOf
@@ -32,7 +32,7 @@ returns-in-OneOf g c =
     rw c.in-OneOf.is (record {
       listed = rw c.entries.ensures at c.list_all.ensures;
       others = with_none _ _;
-      brackets = c.put_bit-in-OneOf.ensures;
+      brackets = with_one c.with_bit-in-OneOf.ensures;
       recursive = with_none _ _;
     })
 
@@ -40,13 +40,13 @@ pub returns-in-NoneOf : goal.returns-in-NoneOf
 returns-in-NoneOf g c =
     rw c.in-NoneOf.is (record {
       listed = rw c.entries-in-NoneOf.ensures at c.list_all-in-NoneOf.ensures;
-      others = c.put_bit-in-NoneOf.ensures;
-      brackets = c.put_bit-in-NoneOf-2.ensures;
+      others = with_one c.with_bit-in-NoneOf.ensures;
+      brackets = with_one c.with_bit-in-NoneOf-2.ensures;
       recursive = with_none _ _;
     })
 
 pub returns-in-AnyChar : goal.returns-in-AnyChar
 returns-in-AnyChar g c = ⊎_elim
-    (λ e. rw e (record { listed = λ d. with_none _ _; others = c.put_bit-in-AnyChar.ensures; brackets = with_none _ _; recursive = with_none _ _ }))
-    (λ e. rw e (record { listed = λ d. with_none _ _; others = c.put_bit-in-AnyChar.ensures; brackets = with_none _ _; recursive = with_none _ _ }))
+    (λ e. rw e (record { listed = λ d. with_none _ _; others = with_one c.with_bit-in-AnyChar.ensures; brackets = with_none _ _; recursive = with_none _ _ }))
+    (λ e. rw e (record { listed = λ d. with_none _ _; others = with_one c.with_bit-in-AnyChar.ensures; brackets = with_none _ _; recursive = with_none _ _ }))
     c.in-AnyChar.is
