@@ -1,13 +1,15 @@
 -- A text is escaped when each of its characters was written escaped.
-use Rattle.std.proofs.Common.{◌≡◌, ℕ, Bool, true, false, cond, [], ◌∷◌, ◌++◌, refl, ap, sym, ◌∙◌, arith}
+use Rattle.std.proofs.Common.{◌≡◌, ℕ, Bool, true, false, cond, [], ◌∷◌, ◌++◌, refl, ap, sym, ◌∙◌, ⊎_elim, arith}
+use Rattle.std.proofs.lemmas.Bool.{cases_lt, ne_eqb}
 use Rattle.std.proofs.lemmas.List.{append-nil}
 use Rattle.std.proofs.lemmas.List.Concat.{flat_map-append}
-use Rattle.std.proofs.lemmas.List.Sums.{sum_by-cons}
-use Rattle.std.proofs.lemmas.Str.{chars_from_encodes, encodes-append}
-use Rattle.std.specs.Prelude.{encode_utf8_all}
+use Rattle.std.proofs.lemmas.List.Sums.{sum_by-append, sum_by-cons}
+use Rattle.std.proofs.lemmas.Str.{chars_from_encodes, encode_ascii, encodes-append}
+use Rattle.std.specs.Prelude.{encode_utf8, encode_utf8_all}
 use Rattle.std.specs.Str.{chars, IsUtf8}
 use Rattle.std.specs.List.{count_by, flat_map}
 use Rattle.glob_text.specs.Text.{Text}
+use Rattle.glob_pattern.specs.Grammar.Characters.{star, question_mark, open_bracket, close_bracket}
 use Rattle.glob_pattern.specs.Escaping.{is_special, escaped_character, escaped_text}
 
 -- Another character stays as it is.
@@ -19,13 +21,19 @@ uncounted : (b : Bool) → ◌≡◌ {A = ℕ} (cond b 1 0) 0 → b ≡ false
 uncounted true e = absurd (omega arith)
 uncounted false e = refl
 
--- A text in which no special character is counted stays as it is.
-pub escaped_text-uncounted : (text : Text) → count_by is_special text ≡ 0 → escaped_text text ≡ text
+-- What is not counted in the bytes of a character is no special one.
+plain_by_bytes : (c : ℕ) → count_by is_special (encode_utf8 c) ≡ 0 → is_special c ≡ false
+plain_by_bytes c none = ⊎_elim
+    (λ low. uncounted (is_special c) (omega (arith, sum_by-cons (λ x. cond (is_special x) 1 0) c [], rw (encode_ascii c low) at none)))
+    (λ high. rw (ne_eqb c question_mark (λ e. omega (arith, e, high)), ne_eqb c star (λ e. omega (arith, e, high)), ne_eqb c open_bracket (λ e. omega (arith, e, high)), ne_eqb c close_bracket (λ e. omega (arith, e, high))) refl)
+    (cases_lt c 128)
+
+-- A text in whose bytes no special character is counted stays as it is.
+pub escaped_text-uncounted : (text : Text) → count_by is_special (encode_utf8_all text) ≡ 0 → escaped_text text ≡ text
 escaped_text-uncounted [] e = refl
 escaped_text-uncounted (c ∷ cs) e =
-    let both = sum_by-cons (λ x. cond (is_special x) 1 0) c cs in
-    let plain : is_special c ≡ false = uncounted (is_special c) (omega arith) in
-    rw (escaped_character-plain c plain, escaped_text-uncounted cs (omega arith)) refl
+    let both = sum_by-append (λ x. cond (is_special x) 1 0) (encode_utf8 c) (encode_utf8_all cs) in
+    rw (escaped_character-plain c (plain_by_bytes c (omega (arith, both, e))), escaped_text-uncounted cs (omega (arith, both, e))) refl
 
 -- What was written for each character of a text are the characters of what was written.
 pub written_chars : (f : ℕ → Text) (written cs : Text) → IsUtf8 written → written ≡ encode_utf8_all (flat_map f cs) → chars written ≡ flat_map f cs

@@ -26,11 +26,13 @@ impl<A: Allocator> Pattern<A> {
     }
 }
 
-/// How many special characters there are.
+/// How many special characters there are, which are of one byte each.
 fn count_special(text: &str) -> usize
-    ensures { result ≡ count_by is_special (chars text.now) }
+    ensures { result ≡ count_by is_special text.now }
 {
-    text.chars().filter(|c| is_special(*c)).count()
+    text.bytes()
+        .filter(|byte| is_special(char::from(*byte)))
+        .count()
 }
 
 /// Puts an escaped character at the end.

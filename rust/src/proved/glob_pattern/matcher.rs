@@ -7,7 +7,7 @@ mod positions;
 mod shape_word;
 
 pub use positions::{decide, Span};
-pub use shape_word::{shape_words, ShapeWord};
+pub use shape_word::{shape_words, with_bit, ShapeWord};
 
 /// How many tokens a word of 64 bits has. Its last bit is the position after them, as the first bit of the next word
 /// is.

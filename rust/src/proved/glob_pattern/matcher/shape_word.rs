@@ -98,6 +98,7 @@ impl ShapeWord {
 }
 
 /// The word with one more bit set.
-fn with_bit(word: u64, bit: usize) -> u64 {
+#[inline(always)]
+pub fn with_bit(word: u64, bit: usize) -> u64 {
     word | (1 << bit)
 }

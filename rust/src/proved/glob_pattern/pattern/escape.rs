@@ -23,9 +23,9 @@ impl Pattern {
     }
 }
 
-/// How many special characters there are.
+/// How many special characters there are, which are of one byte each.
 fn count_special(text: &str) -> usize {
-    text.chars().filter(|c| is_special(*c)).count()
+    text.bytes().filter(|byte| is_special(char::from(*byte))).count()
 }
 
 /// Puts an escaped character at the end.

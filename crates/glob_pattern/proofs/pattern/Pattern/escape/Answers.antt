@@ -3,15 +3,16 @@ use Rattle.std.proofs.lemmas.Iterator.{YieldsList-from_chars}
 use Rattle.std.proofs.lemmas.Iterator.Consumers.{YieldsList-end}
 use Rattle.std.proofs.lemmas.List.{map-id}
 use Rattle.std.proofs.lemmas.Result.{IfOk-weaker}
-use Rattle.std.proofs.lemmas.Str.{IsUtf8-string_bytes}
-use Rattle.glob_pattern.specs.Escaping.{escaped_character, escaped_text}
+use Rattle.std.proofs.lemmas.Str.{IsUtf8-string_bytes, encodes-chars}
+use Rattle.std.specs.List.{count_by}
+use Rattle.glob_pattern.specs.Escaping.{is_special, escaped_character, escaped_text}
 use Rattle.glob_pattern.proofs.EscapingLemmas.Written.{escaped_text-uncounted, written_chars, written_more}
 use Rattle.glob_pattern.proofs.pattern.Pattern.escape.Goals as goal
 
 pub returns-then-specials-eq0 : goal.returns-then-specials-eq0
 returns-then-specials-eq0 g c =
     IfOk-weaker c.from_str.result _ _
-    (λ t is. ap chars is ∙ sym (escaped_text-uncounted (chars c.args.s.now) (sym c.count_special-specials.ensures ∙ c.if-specials-eq0.true)))
+    (λ t is. ap chars is ∙ sym (escaped_text-uncounted (chars c.args.s.now) (ap (count_by is_special) (encodes-chars c.args.s.now c.utf8.s) ∙ sym c.count_special-specials.ensures ∙ c.if-specials-eq0.true)))
     c.from_str.ensures.ok
 
 pub returns : goal.returns

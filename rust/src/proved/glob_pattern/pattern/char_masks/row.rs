@@ -3,7 +3,7 @@
 //!
 //! A row of masks: for each class of characters, which of 63 neighbouring tokens take its characters.
 
-use crate::proved::glob_pattern::matcher::WORD;
+use crate::proved::glob_pattern::matcher::{with_bit, WORD};
 use crate::proved::glob_pattern::pattern::classes::{are_letters, Classes};
 use crate::proved::glob_pattern::token::bracket::{Bracket, Entry};
 use crate::proved::glob_pattern::token::Token;
@@ -71,17 +71,17 @@ fn list_token(
             list_literal(row, classes, bit, *c, case_sensitive);
             kinds
         }
-        Token::AnyChar | Token::AnySequence => Kinds { others: put_bit(kinds.others, bit), ..kinds },
+        Token::AnyChar | Token::AnySequence => Kinds { others: with_bit(kinds.others, bit), ..kinds },
         Token::Recursive => {
-            Kinds { others: put_bit(kinds.others, bit), recursive: put_bit(kinds.recursive, bit), ..kinds }
+            Kinds { others: with_bit(kinds.others, bit), recursive: with_bit(kinds.recursive, bit), ..kinds }
         }
         Token::OneOf(bracket) => {
             list_all(row, classes, bit, bracket.entries(), case_sensitive);
-            Kinds { brackets: put_bit(kinds.brackets, bit), ..kinds }
+            Kinds { brackets: with_bit(kinds.brackets, bit), ..kinds }
         }
         Token::NoneOf(bracket) => {
             list_all(row, classes, bit, bracket.entries(), case_sensitive);
-            Kinds { others: put_bit(kinds.others, bit), brackets: put_bit(kinds.brackets, bit), ..kinds }
+            Kinds { others: with_bit(kinds.others, bit), brackets: with_bit(kinds.brackets, bit), ..kinds }
         }
     }
 }
@@ -154,11 +154,5 @@ fn paint(row: &mut [u64], bit: usize, first: usize, last: usize) {
 /// Sets the bit in the mask of the class.
 #[inline(always)]
 fn list_class(row: &mut [u64], bit: usize, class: usize) {
-    row[class] = put_bit(row[class], bit);
-}
-
-/// The word with one more bit set.
-#[inline(always)]
-fn put_bit(word: u64, bit: usize) -> u64 {
-    word | (1 << bit)
+    row[class] = with_bit(row[class], bit);
 }
