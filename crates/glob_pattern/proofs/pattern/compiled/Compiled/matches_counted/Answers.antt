@@ -33,7 +33,7 @@ returns-clause-answer g c =
     let match = TokensMatch-iff_part c.args.options tokens text in
     let all = Splits-iff_prefix (table_within true c.args.options tokens text) (map shape_of tokens) in
     let whole : Splits (table_within true c.args.options tokens text) (map shape_of tokens) ↔ PrefixSplits (table_within true c.args.options tokens text) (map shape_of tokens) (length tokens) (length text) =
-        rw (length-map tokens shape_of) at all in
+    rw (length-map tokens shape_of) at all in
     let answer = rw (judge.opening, judge.options, judge.tokens, judge.text, c.as_slice-tokens.ensures.value) at c.in_ok-answer.ensures.answer in
     rw (sym c.self.view_is) (λ t. match.1 (whole.0 (answer.0 t)), λ m. answer.1 (whole.1 (match.0 m)))
 

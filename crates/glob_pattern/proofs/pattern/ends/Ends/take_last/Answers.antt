@@ -61,13 +61,16 @@ pub overflow_sub-end : goal.overflow_sub-end
 overflow_sub-end g c = omega (arith, fits c.args.tokens.now c.args.self.now c.requires.ends, c.requires.ends.few_last)
 
 pub loop-end-init : goal.loop-end-init
-loop-end-init g c = (c.requires.utf8, record {
-  same = sym c.chars-rest.ensures.rest;
-  low = omega (arith, c.requires.ends.few_last);
-  within = omega arith;
-  utf8 = rw c.chars-rest.ensures.rest c.requires.utf8;
-  taken = rw c.chars-rest.ensures.rest (λ text left. left);
-})
+loop-end-init g c = (
+  c.requires.utf8,
+  record {
+    same = sym c.chars-rest.ensures.rest;
+    low = omega (arith, c.requires.ends.few_last);
+    within = omega arith;
+    utf8 = rw c.chars-rest.ensures.rest c.requires.utf8;
+    taken = rw c.chars-rest.ensures.rest (λ text left. left);
+  },
+)
 
 pub loop-end-preserved : goal.loop-end-preserved
 loop-end-preserved g c =
@@ -76,15 +79,17 @@ loop-end-preserved g c =
     let t = c.index-tokens-end.result in
     let rest = chars_rest c.next_back.new.self in
     let at = get_or_read c.args.tokens.now (c.loop-end.end - 1) t (omega (arith, i.within, c.loop-end-test.true)) c.index-tokens-end.is AnyChar in
-    let v = subst IsUtf8 c.as_str-text.ensures c.as_str-text.utf8 in
-    (c.as_str-text.utf8, record {
-      same = c.as_str-text.ensures;
-      low = omega (arith, c.loop-end-test.true);
-      within = omega (arith, i.within);
-      utf8 = v;
-      taken = λ text before. taken c.args.options c.args.tokens.now c.args.self.now c.requires.ends c.loop-end.end i.within c.loop-end-test.true (chars_rest c.loop-end.rest) c.args.part.opening
-          t at d rest (c.takes_any.ensures c.if-takes_any.true (opens_within c.args.part.opening (chars rest) (length (chars rest))) d) i.utf8 v c.in_ok-next_back.ensures.steps text (i.taken text before);
-    })
+    let v = subst IsUtf8 c.as_str-text.ensures c.as_str-text.utf8 in (
+      c.as_str-text.utf8,
+      record {
+        same = c.as_str-text.ensures;
+        low = omega (arith, c.loop-end-test.true);
+        within = omega (arith, i.within);
+        utf8 = v;
+        taken = λ text before. taken c.args.options c.args.tokens.now c.args.self.now c.requires.ends c.loop-end.end i.within c.loop-end-test.true (chars_rest c.loop-end.rest) c.args.part.opening
+            t at d rest (c.takes_any.ensures c.if-takes_any.true (opens_within c.args.part.opening (chars rest) (length (chars rest))) d) i.utf8 v c.in_ok-next_back.ensures.steps text (i.taken text before);
+      },
+    )
 
 pub returns-in_err-next_back : goal.returns-in_err-next_back
 returns-in_err-next_back g c = λ text before.
@@ -105,15 +110,17 @@ loop-end-2-preserved g c =
     let at = get_or_read c.args.tokens.now (c.loop-end-2.end - 1) t (omega (arith, i.within, c.loop-end-2-test.true)) c.index-tokens-end-in-loop-end-2.is AnyChar in
     let left = c.as_str-text-in-loop-end-2 in
     let took = rw (c.opens_after-opening.ensures, left.ensures) at (sym c.takes.ensures ∙ c.if-not-takes.false) in
-    let v = subst IsUtf8 left.ensures left.utf8 in
-    (left.utf8, record {
-      same = left.ensures;
-      low = omega (arith, c.loop-end-2-test.true);
-      within = omega (arith, i.within);
-      utf8 = v;
-      taken = λ text before. taken c.args.options c.args.tokens.now c.args.self.now c.requires.ends c.loop-end-2.end i.within c.loop-end-2-test.true (chars_rest c.loop-end-2.rest) c.args.part.opening
-          t at d rest took i.utf8 v c.in_ok-c.ensures.steps text (i.taken text before);
-    })
+    let v = subst IsUtf8 left.ensures left.utf8 in (
+      left.utf8,
+      record {
+        same = left.ensures;
+        low = omega (arith, c.loop-end-2-test.true);
+        within = omega (arith, i.within);
+        utf8 = v;
+        taken = λ text before. taken c.args.options c.args.tokens.now c.args.self.now c.requires.ends c.loop-end-2.end i.within c.loop-end-2-test.true (chars_rest c.loop-end-2.rest) c.args.part.opening
+            t at d rest took i.utf8 v c.in_ok-c.ensures.steps text (i.taken text before);
+      },
+    )
 
 pub returns-in_err-c : goal.returns-in_err-c
 returns-in_err-c g c = λ text before.
