@@ -9,23 +9,22 @@ ghost use Rattle.glob_walk.specs.Walks.{IsFresh, RefusesWith};
 
 use crate::paths::{Paths, glob_in};
 use glob_pattern::{MatchOptions, PatternRefusal};
-use glob_tree::Disk;
+use glob_tree::{Disk, System};
 use std::alloc::Allocator;
-use std::fs::Files;
 
 /// Walks the file system that `rt` reaches after the components of a pattern, as [`glob_in`](crate::glob_in) does over
 /// a [`Disk`], with the options of `MatchOptions::new()` and the limit `u64::MAX`, which no walk reaches.
 ///
 /// `glob(rt, alloc, "src/*.rs")` gives `src/lib.rs` and `src/walk.rs`, in this order, where these files are there.
 /// The errors are those of [`glob_in`](crate::glob_in).
-pub fn glob<R: Files + Drop, A: Allocator + Copy>(
+pub fn glob<R: System, A: Allocator + Copy>(
     rt: R,
     alloc: A,
     pattern: &str,
 ) -> Result<Paths<Disk<R, A>>, PatternRefusal>
     ensures accepted { IfOk result (λ _. walk_fault pattern.now ≡ None) }
     ensures refused { IfErr result (RefusesWith (walk_fault pattern.now)) }
-    ensures fresh { IfOk result (IsFresh (record { files = None; asks = 0 }) (2 ^ 64 - 1)) }
+    ensures fresh { IfOk result (IsFresh (record { files = R.holds rt; asks = 0 }) (2 ^ 64 - 1)) }
     ensures aim { IfOk result
         (λ p. (c : Content) → listing_of c p.aim ≡ listing c new_options pattern.now) }
 {
@@ -34,7 +33,7 @@ pub fn glob<R: Files + Drop, A: Allocator + Copy>(
 
 /// As [`glob`], with these options. So with the dot rule `*` gives no dotted name. The errors are those of
 /// [`glob_in`](crate::glob_in).
-pub fn glob_with<R: Files + Drop, A: Allocator + Copy>(
+pub fn glob_with<R: System, A: Allocator + Copy>(
     rt: R,
     alloc: A,
     pattern: &str,
@@ -42,7 +41,7 @@ pub fn glob_with<R: Files + Drop, A: Allocator + Copy>(
 ) -> Result<Paths<Disk<R, A>>, PatternRefusal>
     ensures accepted { IfOk result (λ _. walk_fault pattern.now ≡ None) }
     ensures refused { IfErr result (RefusesWith (walk_fault pattern.now)) }
-    ensures fresh { IfOk result (IsFresh (record { files = None; asks = 0 }) (2 ^ 64 - 1)) }
+    ensures fresh { IfOk result (IsFresh (record { files = R.holds rt; asks = 0 }) (2 ^ 64 - 1)) }
     ensures aim { IfOk result
         (λ p. (c : Content) → listing_of c p.aim ≡ listing c options pattern.now) }
 {

@@ -1,10 +1,9 @@
 //! A program's walk over a disk, where what the system holds is known.
-ghost use Rattle.std.specs.Prelude.{IfOk, option_and_then};
+ghost use Rattle.std.specs.Prelude.{IfOk, Some, option_and_then};
 ghost use Rattle.glob_tree.specs.Followed.{followed};
 ghost use Rattle.glob_walk.specs.WalkGoals.{FindsExactly, FindsInOrder};
 
-use glob::{Disk, MatchOptions, PatternRefusal, Walk, walk_in};
-use glob_tree::System;
+use glob::{Disk, MatchOptions, MemSystem, MemTree, PatternRefusal, System, Walk, walk_in};
 use std::alloc::Allocator;
 
 /// The whole walk of a pattern over the disk that a system reaches. Where the system holds a known file system without
@@ -24,4 +23,22 @@ pub fn walk_disk<S: System, A: Allocator + Copy>(
         options pattern.now walk.items.items) }
 {
     walk_in(alloc, Disk::new(system, alloc), pattern, options, limit)
+}
+
+/// The whole walk of a pattern over a disk whose files are those of a tree in memory, with directories that are read in
+/// pieces of that many bytes. It finds what a walk over the tree itself does.
+pub fn walk_files<A: Allocator + Copy>(
+    alloc: A,
+    files: MemTree<A>,
+    piece: usize,
+    pattern: &str,
+    options: MatchOptions,
+    limit: u64,
+) -> Result<Walk<Disk<MemSystem<A>, A>>, PatternRefusal>
+    ensures exact { IfOk result (λ walk. FindsExactly (Some files.content)
+        options pattern.now walk.end walk.items.items) }
+    ensures orderly { IfOk result (λ walk. FindsInOrder (Some files.content)
+        options pattern.now walk.items.items) }
+{
+    walk_disk(alloc, MemSystem::new(files, piece), pattern, options, limit)
 }

@@ -10,8 +10,8 @@ ghost use Rattle.glob_tree.specs.FileSystems.{FileSystem, IsHeld, IsOpened, IsOp
 use std::fs::{Files, Metadata};
 use std::io::{self, Read};
 
-/// The calls of a system: what is at a path, and which names a directory has. Each `HostRuntime` is one, as every
-/// [`Files`] is, and says nothing of what it holds.
+/// The calls of a system: what is at a path, and which names a directory has. `HostRuntime` is the real one, and says
+/// nothing of what it holds.
 ///
 /// What contracts see of a system is the file system that it holds, where that is known. It then stays as it is, each
 /// call answers for paths of any length, and a call on what is there fails only where memory runs out, with an error of
@@ -76,8 +76,8 @@ pub trait Directory: Drop {
 }
 
 /// The real system: what is believed of it is that its calls do what [`System`] says.
-impl<R: Files + Drop> System for R {
-    type Dir = OpenDirectory<R::Dir>;
+impl System for HostRuntime {
+    type Dir = OpenDirectory;
 
     ghost holds = { λ _. None };
 
@@ -89,7 +89,7 @@ impl<R: Files + Drop> System for R {
         self.metadata(path)
     }
 
-    fn open(&self, path: &str) -> io::Result<OpenDirectory<R::Dir>> {
+    fn open(&self, path: &str) -> io::Result<OpenDirectory> {
         let names = self.open_dir(path)?;
         Ok(OpenDirectory { names })
     }
@@ -97,11 +97,11 @@ impl<R: Files + Drop> System for R {
 
 /// A directory that the real system has opened.
 #[derive(Drop)]
-pub struct OpenDirectory<D: Read + Drop> {
-    names: D,
+pub struct OpenDirectory {
+    names: <HostRuntime as Files>::Dir,
 }
 
-impl<D: Read + Drop> Directory for OpenDirectory<D> {
+impl Directory for OpenDirectory {
     ghost left = { λ _. None };
 
     ghost fault = { λ _. None };

@@ -1,10 +1,10 @@
 //! A scripted file system, which counts its calls.
 use glob_replay::raise;
 use glob_replay::words::has_word;
-use glob_tree::Strays;
+use glob_tree::{Directory, Strays, System};
 use std::cell::Cell;
-use std::fs::{File, Files, Metadata, OpenOptions};
-use std::io::{self, ErrorKind, Read};
+use std::fs::Metadata;
+use std::io::{self, ErrorKind};
 
 /// What stands at a path.
 #[derive(Clone, Copy)]
@@ -79,7 +79,13 @@ pub struct Names<'a> {
     system: &'a SystemCalls,
 }
 
-impl Read for Names<'_> {
+impl Directory for Names<'_> {
+    ghost use Rattle.std.specs.Prelude.{None};
+
+    ghost left = { λ _. None };
+
+    ghost fault = { λ _. None };
+
     fn read(&mut self, buf: &mut [u8]) -> io::Result<usize> {
         raise(&self.system.room, buf.len());
         let [block, rest @ ..] = self.blocks else {
@@ -103,16 +109,33 @@ impl<'a> Written<'a> {
     }
 }
 
-impl<'a> Files for Written<'a> {
-    type File = File;
-
+impl<'a> System for Written<'a> {
     type Dir = Names<'a>;
 
-    fn open_file(&self, _how: &OpenOptions, _path: &str) -> io::Result<File> {
-        Err(ErrorKind::Unsupported.into())
+    ghost use Rattle.std.specs.Prelude.{None};
+
+    ghost holds = { λ _. None };
+
+    fn lstat(&self, path: &str) -> io::Result<Metadata> {
+        match self.kind(path) {
+            Kind::LinkToFile | Kind::LinkToDir | Kind::Link(_) => {
+                raise(&self.system.lookups, 1);
+                Ok(Metadata::of_symlink(0))
+            }
+            _ => self.stat(path),
+        }
     }
 
-    fn open_dir(&self, path: &str) -> io::Result<Names<'a>> {
+    fn stat(&self, path: &str) -> io::Result<Metadata> {
+        raise(&self.system.lookups, 1);
+        match self.kind(path) {
+            Kind::File | Kind::LinkToFile => Ok(Metadata::of_file(0)),
+            Kind::Link(kind) | Kind::Lost(kind) => Err(io::Error::from(kind)),
+            _ => Ok(Metadata::of_dir()),
+        }
+    }
+
+    fn open(&self, path: &str) -> io::Result<Names<'a>> {
         let system = self.system;
         raise(&system.opens, 1);
         let (blocks, failure) = match self.kind(path) {
@@ -128,48 +151,5 @@ impl<'a> Files for Written<'a> {
             failure,
             system,
         })
-    }
-
-    fn metadata(&self, path: &str) -> io::Result<Metadata> {
-        raise(&self.system.lookups, 1);
-        match self.kind(path) {
-            Kind::File | Kind::LinkToFile => Ok(Metadata::of_file(0)),
-            Kind::Link(kind) | Kind::Lost(kind) => Err(io::Error::from(kind)),
-            _ => Ok(Metadata::of_dir()),
-        }
-    }
-
-    fn symlink_metadata(&self, path: &str) -> io::Result<Metadata> {
-        match self.kind(path) {
-            Kind::LinkToFile | Kind::LinkToDir | Kind::Link(_) => {
-                raise(&self.system.lookups, 1);
-                Ok(Metadata::of_symlink(0))
-            }
-            _ => self.metadata(path),
-        }
-    }
-
-    fn copy(&self, _from: &str, _to: &str) -> io::Result<u64> {
-        Err(ErrorKind::Unsupported.into())
-    }
-
-    fn rename(&self, _from: &str, _to: &str) -> io::Result<()> {
-        Err(ErrorKind::Unsupported.into())
-    }
-
-    fn remove_file(&self, _path: &str) -> io::Result<()> {
-        Err(ErrorKind::Unsupported.into())
-    }
-
-    fn create_dir(&self, _path: &str) -> io::Result<()> {
-        Err(ErrorKind::Unsupported.into())
-    }
-
-    fn remove_dir(&self, _path: &str) -> io::Result<()> {
-        Err(ErrorKind::Unsupported.into())
-    }
-
-    fn remove_dir_all<B: std::alloc::Allocator>(&self, _alloc: B, _path: &str) -> io::Result<()> {
-        Err(ErrorKind::Unsupported.into())
     }
 }

@@ -5,10 +5,10 @@ use crate::find::skipping::SharedRules;
 use crate::find::strays::StrayLines;
 use glob_console::FAULT;
 use glob_prune::{Links, PhysicalDisk};
+use glob_tree::System;
 use std::alloc::{Allocator, Global};
 use std::cell::Cell;
 use std::collections::BTreeSet;
-use std::fs::Files;
 use std::io::Write;
 
 /// A disk, for either way to take symbolic links.
@@ -34,7 +34,7 @@ impl<T: Drop, A: Allocator> Disks<'_, T, A> {
 
 /// The disk that `rt` reaches. Each name that is not UTF-8, ignored or not, is a line of `errors`, and so is each path
 /// that cannot be looked up and that the rules do not ignore. That there was one is noted. Tests, not clauses, show it.
-pub fn disk_of<'a, R: Files + AllocGlobal + Copy + Drop, E: Write>(
+pub fn disk_of<'a, R: System + AllocGlobal + Copy, E: Write>(
     rt: R,
     links: Links,
     errors: &'a mut E,
