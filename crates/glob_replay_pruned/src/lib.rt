@@ -3,12 +3,12 @@
 
 ghost use Rattle.std.specs.Prelude.{bytes_eq};
 
-use glob::Disk;
+use glob::{Disk, System};
 use glob_prune::{Exclusion, Pruned};
 use glob_replay::calls::{Calls, Make};
 use glob_replay::ration::Memory;
 use glob_replay::words::unusable;
-use glob_replay_walks::disks::files::Written;
+use glob_replay_walks::disks::files::SystemCalls;
 use glob_replay_walks::disks::{Asked, Disks, ask, ask_each, ask_failing};
 use std::alloc::AllocError;
 use std::io;
@@ -28,10 +28,10 @@ impl Make for PrunedDisks {
 }
 
 impl Disks for PrunedDisks {
-    fn ask<M: Memory>(
+    fn ask<M: Memory, R: System>(
         &self,
         calls: &mut Calls<M>,
-        files: Written<'_>,
+        (files, _): (R, &SystemCalls),
         _disk: &str,
         asked: Asked<'_>,
     ) -> io::Result<()> {

@@ -10,8 +10,9 @@ use ErrorKind::{
 };
 use files::Kind::{Dir, File, Link, LinkToDir, LinkToFile, Lost, Torn, Unopened, Unread};
 use files::{Noted, Planted, SystemCalls, Written};
-use glob::{Disk, GlobCause, GlobError, MatchOptions, Tree, glob_in, walk_in};
+use glob::{Disk, GlobCause, GlobError, MatchOptions, MemSystem, System, Tree, glob_in, walk_in};
 use glob_replay::calls::Calls;
+use glob_replay::contents::tree_of;
 use glob_replay::ration::Memory;
 use glob_replay::streams::error_of;
 use glob_replay::words::{are_same, cut, number_of, refused, unusable};
@@ -21,11 +22,11 @@ use std::io::{self, ErrorKind, Write};
 
 /// Disks that rows name.
 pub trait Disks: Copy {
-    /// Asks the disk of this name over a file system.
-    fn ask<M: Memory>(
+    /// Asks the disk of this name over a system. What is reported is noted.
+    fn ask<M: Memory, R: System>(
         &self,
         calls: &mut Calls<M>,
-        files: Written<'_>,
+        files: (R, &SystemCalls),
         disk: &str,
         asked: Asked<'_>,
     ) -> io::Result<()>;
@@ -36,24 +37,20 @@ pub trait Disks: Copy {
 pub struct PlainDisks;
 
 impl Disks for PlainDisks {
-    fn ask<M: Memory>(
+    fn ask<M: Memory, R: System>(
         &self,
         calls: &mut Calls<M>,
-        files: Written<'_>,
+        (files, system): (R, &SystemCalls),
         disk: &str,
         asked: Asked<'_>,
     ) -> io::Result<()> {
-        let (alloc, system) = (calls.alloc, files.system);
+        let (alloc, noted) = (calls.alloc, Noted { system });
         match disk {
             "disk" => ask(calls, Disk::new(files, alloc), asked),
-            "kept" => ask(
-                calls,
-                PhysicalDisk::new(files, Noted { system }, alloc),
-                asked,
-            ),
+            "kept" => ask(calls, PhysicalDisk::new(files, noted, alloc), asked),
             "followed" => {
                 let links = Links::Followed;
-                let followed = PhysicalDisk::with_links(files, Noted { system }, alloc, links);
+                let followed = PhysicalDisk::with_links(files, noted, alloc, links);
                 ask(calls, followed, asked)
             }
             _ => Err(unusable()),
@@ -71,7 +68,8 @@ fn answer_of<M: Memory, D: Disks>(
 ) -> io::Result<(String, SystemCalls)> {
     let (mut calls, made) = (Calls::new(alloc, alloc), SystemCalls::default());
     let system = &made;
-    match disks.ask(&mut calls, Written { paths, system }, disk, asked) {
+    let files = (Written { paths, system }, system);
+    match disks.ask(&mut calls, files, disk, asked) {
         Ok(()) => Ok((calls.words, made)),
         Err(error) if alloc.ration().has_refused() => Err(error),
         Err(_) => Ok((String::from_str(alloc.inner(), "$ ")?, made)),
@@ -171,11 +169,37 @@ pub fn ask_each<M: Memory, D: Disks>(
             let asked = (call, path);
             let (mut answer, system) = answer_of(calls.alloc, PATHS, (disks, disk), asked)?;
             add_calls(&mut answer, &system, call)?;
-            if calls.words.is_empty() {
-                calls.words.push_str(&answer)?;
-            } else if calls.words != answer {
-                write!(calls.words, ", and {disk} {path}: {answer}")?;
-            }
+            add_same(&mut calls.words, &answer, (disk, path))?;
+        }
+    }
+    Ok(())
+}
+
+/// Adds the answer of a disk, which is that of those before, or else which disk it is of.
+fn add_same(words: &mut String, answer: &str, disk: (&str, &str)) -> Result<(), AllocError> {
+    if words.is_empty() {
+        words.push_str(answer)?;
+    } else if words.as_str() != answer {
+        write!(words, ", and {} {}: {answer}", disk.0, disk.1)?;
+    }
+    Ok(())
+}
+
+/// Makes a call of each disk over a content in memory, whose directories are read in pieces of each size. The words are
+/// the answer, which is the same for all, and how much was reported.
+pub fn ask_in_memory<M: Memory>(calls: &mut Calls<M>, fields: &[&str]) -> io::Result<()> {
+    let [names, pieces, content, call, path] = *fields else {
+        return Err(unusable());
+    };
+    let alloc = calls.alloc;
+    for disk in names.split(' ') {
+        for piece in pieces.split(' ') {
+            let tree = tree_of(alloc, alloc.inner(), ("", ""), content)?;
+            let files = MemSystem::new(tree, number_of(piece)?);
+            let (mut made, noted) = (Calls::new(alloc, alloc), SystemCalls::default());
+            PlainDisks.ask(&mut made, (files, &noted), disk, (call, path))?;
+            write!(made.words, "{}", noted.reports.get())?;
+            add_same(&mut calls.words, &made.words, (disk, piece))?;
         }
     }
     Ok(())
