@@ -33,6 +33,12 @@ IsListAnswer NoDirectory answer = ⊤
 abbrev pub names_of : List DirEntry → List Text
 names_of entries = map (λ e. e.0) entries
 
+-- these names may be returned: those of the directory, each once and in any order; where there is none, any
+abbrev pub IsNameAnswer : ListAnswer → List Text → Type 0
+IsNameAnswer (Entries entries) names = IsPermutation (names_of entries) names
+IsNameAnswer (Fails kind) names = ⊥
+IsNameAnswer NoDirectory names = ⊤
+
 -- one that is said to be a directory is one
 abbrev pub AreDirectories : (answer entries : List DirEntry) → Type 0
 AreDirectories answer entries = (e : DirEntry) → Contains answer e → e.1 ≡ true → Contains entries e

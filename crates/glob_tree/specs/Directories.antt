@@ -24,12 +24,12 @@ abbrev pub HasEnded : (left : Option (List ℕ)) → (fault : Option ErrorKind) 
 HasEnded None fault = ⊤
 HasEnded (Some bytes) fault = (bytes ≡ []) × (fault ≡ None)
 
--- the error of a read: a failed allocation, or the one that comes after the last byte
-abbrev pub IsReadFault : (left : Option (List ℕ)) → (fault : Option ErrorKind) → Error → Type 0
-IsReadFault None fault e = ⊤
-IsReadFault (Some bytes) fault e = error_kind e ≢ OutOfMemory → (bytes ≡ []) × (fault ≡ Some (error_kind e))
+-- a read may fail by this error: memory ran out, or it is the one that comes after the last byte
+abbrev pub ReadMayFail : (left : Option (List ℕ)) → (fault : Option ErrorKind) → Error → Type 0
+ReadMayFail None fault e = ⊤
+ReadMayFail (Some bytes) fault e = error_kind e ≢ OutOfMemory → (bytes ≡ []) × (fault ≡ Some (error_kind e))
 
--- the error of a directory that is read to its end
-abbrev pub IsReadError : (fault : Option ErrorKind) → ListError → Type 0
-IsReadError fault (Read e) = fault ≡ Some (error_kind e)
-IsReadError fault Memory = ⊤
+-- reading a directory to its end may fail by this error
+abbrev pub ReadingMayFail : (fault : Option ErrorKind) → ListError → Type 0
+ReadingMayFail fault (Read e) = fault ≡ Some (error_kind e)
+ReadingMayFail fault Memory = ⊤

@@ -39,7 +39,7 @@ pub record FileSystem : Type 0 where
 abbrev pub plain_files : Content → FileSystem
 plain_files c = record { content = c; links = []; strays = [] }
 
--- the file system is known to be f, and f is well formed
+-- the file system is known to be f, and its content is well formed
 abbrev pub IsHeld : Option FileSystem → FileSystem → Type 0
 IsHeld known f = (known ≡ Some f) × (is_content f.content ≡ true)
 
@@ -53,27 +53,27 @@ pub data Found : Type 0 where
   Symlink : Found
   File : Found
 
--- of what `lstat` returns the metadata
-abbrev pub found_here : Kind → Option Target → Found
-found_here Dir target = Directory
-found_here (Shut kind) target = Directory
-found_here Other None = File
-found_here Other (Some target) = Symlink
+-- the type of what `lstat` returns the metadata of
+abbrev pub lstat_type : Kind → Option Target → Found
+lstat_type Dir target = Directory
+lstat_type (Shut kind) target = Directory
+lstat_type Other None = File
+lstat_type Other (Some target) = Symlink
 
--- of what `stat` returns it: of what a symbolic link points to
-abbrev pub found_there : Kind → Option Target → Option Found
-found_there Dir target = Some Directory
-found_there (Shut kind) target = Some Directory
-found_there Other None = Some File
-found_there Other (Some Nowhere) = None
-found_there Other (Some AFile) = Some File
-found_there Other (Some ADirectory) = Some Directory
+-- and `stat`: that of what a symbolic link points to
+abbrev pub stat_type : Kind → Option Target → Option Found
+stat_type Dir target = Some Directory
+stat_type (Shut kind) target = Some Directory
+stat_type Other None = Some File
+stat_type Other (Some Nowhere) = None
+stat_type Other (Some AFile) = Some File
+stat_type Other (Some ADirectory) = Some Directory
 
 abbrev pub lstat_at : FileSystem → Key → Option Found
-lstat_at f k = option_map (λ kind. found_here kind (target_at f k)) (kind_at f.content k)
+lstat_at f k = option_map (λ kind. lstat_type kind (target_at f k)) (kind_at f.content k)
 
 abbrev pub stat_at : FileSystem → Key → Option Found
-stat_at f k = option_and_then (λ kind. found_there kind (target_at f k)) (kind_at f.content k)
+stat_at f k = option_and_then (λ kind. stat_type kind (target_at f k)) (kind_at f.content k)
 
 -- what `lstat` finds at a path
 unfoldable pub lstat_found : FileSystem → Text → Option Found
@@ -138,6 +138,6 @@ IsReceived (Entries entries) strays old new = AreReceived strays old new
 IsReceived (Fails kind) strays old new = ⊤
 IsReceived NoDirectory strays old new = ⊤
 
--- the error where a directory is not opened: that of its listing, or a failed allocation
-abbrev pub IsOpenFault : ListAnswer → Error → Type 0
-IsOpenFault answer e = error_kind e ≢ OutOfMemory → IsListFault answer (error_kind e)
+-- opening a directory may fail by this error: that of its listing, or memory ran out
+abbrev pub OpenMayFail : ListAnswer → Error → Type 0
+OpenMayFail answer e = error_kind e ≢ OutOfMemory → IsListFault answer (error_kind e)

@@ -1,10 +1,11 @@
 -- What a tree answers that follows symbolic links.
-use Rattle.std.specs.Prelude.{Bool, true, false, ◌||◌, if◌then◌else◌, List, [], ◌∷◌, map, Option, Some, None}
+use Rattle.std.specs.Prelude.{◌≡◌, Bool, true, false, ◌||◌, if◌then◌else◌, List, [], ◌∷◌, map, Option, Some, None}
 use Rattle.std.specs.declared.io.ErrorKind.TheVariants.{InvalidFilename}
 use Rattle.glob_text.specs.Text.{Text}
 use Rattle.glob_tree.specs.Content.{Content, Key, DirEntry, ListAnswer, Entries, Fails, NoDirectory, list_result}
 use Rattle.glob_tree.specs.FileSystems.{FileSystem, Found, Directory, Symlink, File, has_directory_links, lstat_found, stat_found, strays_found}
 use Rattle.glob_tree.specs.Paths.{join}
+use Rattle.glob_tree.specs.Strays.{and_then}
 use Rattle.glob_tree.specs.declared.tree.Look.{Look}
 use Rattle.glob_tree.specs.declared.tree.Look.TheVariants as look
 
@@ -55,3 +56,8 @@ has_strays (s ∷ ss) = true
 -- so with one nothing is known.
 abbrev pub followed : FileSystem → Option Content
 followed f = if has_directory_links f || has_strays f.strays then None else Some f.content
+
+-- One path was received: that of a symbolic link to a directory, which was taken for one on the way down to the link.
+abbrev pub IsLinkReceived : FileSystem → (old new : Option (List Text)) → Type 0
+IsLinkReceived f old new =
+    (link : Text) × (lstat_found f link ≡ Some Symlink) × (is_found_directory (stat_found f link) ≡ true) × (new ≡ and_then old (link ∷ []))

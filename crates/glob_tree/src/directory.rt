@@ -1,6 +1,6 @@
 //! The names of an opened directory.
 ghost use Rattle.std.specs.Prelude.{◌≡◌, ◌+◌, ◌<◌, length, map, vec_len, None, IfOk, IfErr, OnOk, IfSome, IsSome};
-ghost use Rattle.glob_tree.specs.Directories.{HasEnded, IsReadError, names_in as names_of_bytes};
+ghost use Rattle.glob_tree.specs.Directories.{HasEnded, ReadingMayFail, names_in as names_of_bytes};
 ghost use Rattle.glob_tree.specs.Private.Gathering.{Gathers};
 
 use crate::name::names_entry;
@@ -30,7 +30,7 @@ pub fn read_directory<D: Directory, A: Allocator>(
     ensures whole { IsSome (D.left directory.old)
         → OnOk result (D.fault directory.old ≡ None) }
     ensures fails { IsSome (D.left directory.old)
-        → IfErr result (λ e. IsReadError (D.fault directory.old) e) }
+        → IfErr result (λ e. ReadingMayFail (D.fault directory.old) e) }
 {
     let mut bytes = Vec::new(alloc);
     let mut block = [0; BLOCK];
@@ -54,7 +54,7 @@ fn read_rest<D: Directory, A: Allocator>(
     ensures whole { IsSome (D.left directory.old)
         → OnOk result (D.fault directory.old ≡ None) }
     ensures fails { IsSome (D.left directory.old)
-        → IfErr result (λ e. IsReadError (D.fault directory.old) e) }
+        → IfErr result (λ e. ReadingMayFail (D.fault directory.old) e) }
 {
     let mut block = [0; LARGE_BLOCK];
     while read_block(directory, &mut block, bytes)? > 0 {}
@@ -76,7 +76,7 @@ fn read_block<D: Directory, A: Allocator>(
     ensures known { OnOk result (IsSome (D.left directory.old) → IsSome (D.left directory.new)) }
     ensures kept { D.fault directory.new ≡ D.fault directory.old }
     ensures fails { IsSome (D.left directory.old)
-        → IfErr result (λ e. IsReadError (D.fault directory.old) e) }
+        → IfErr result (λ e. ReadingMayFail (D.fault directory.old) e) }
 {
     let count = directory.read(block)?;
     bytes.extend_from_slice(&block[..count])?;

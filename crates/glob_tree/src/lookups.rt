@@ -1,14 +1,14 @@
 //! What the calls of a system say of paths, and of the entries of a directory, where links are kept or followed.
 ghost use Rattle.std.specs.Prelude.{if◌then◌else◌, ◌≡◌, ◌≢◌, ◌⊎◌, ◌++◌, ◌∷◌, [], true, false, Option, None, Some, map, string_bytes, IfOk, IfErr, IfSome, IsSome, OnOk};
 ghost use Rattle.std.specs.Fs.{file_type, IsDir, IsSymlink};
-ghost use Rattle.glob_tree.specs.Answers.{IsListAnswer, IsListError, entries_of, names_of};
+ghost use Rattle.glob_tree.specs.Answers.{IsListAnswer, IsListError, IsNameAnswer, entries_of, names_of};
 ghost use Rattle.glob_tree.specs.Content.{list_result, look_result};
 ghost use Rattle.glob_tree.specs.Directories.{HasEnded, names_in as names_of_bytes};
 ghost use Rattle.glob_tree.specs.FileSystems.{FileSystem, IsHeld, IsReceived, is_direct, lstat_found, stat_found, strays_found};
-ghost use Rattle.glob_tree.specs.Followed.{is_found_directory, look_followed};
+ghost use Rattle.glob_tree.specs.Followed.{is_found_directory, IsLinkReceived, look_followed};
 ghost use Rattle.glob_tree.specs.Looks.{is_directory};
 ghost use Rattle.glob_tree.specs.Paths.{is_proper as is_proper_text};
-ghost use Rattle.glob_tree.specs.Private.Looking.{AreDirect, HasWay, IsFoundAs, IsSeen, IsWay, LeadsOn};
+ghost use Rattle.glob_tree.specs.Private.Looking.{AreDirect, HasWay, IsFoundAs, IsReasoned, IsSeen, IsWay, LeadsOn};
 ghost use Rattle.glob_tree.specs.Private.Listing.{IsEntriesError, IsNameError, are_text_names, is_dir_in as is_in, said_entries};
 ghost use Rattle.glob_tree.specs.Strays.{and_then, texts_of, strays_of};
 ghost use Rattle.glob_tree.specs.declared.physical.Links.TheVariants.{Followed};
@@ -68,6 +68,9 @@ impl<R: System, S: Strays, A: Allocator + Copy> Lookups<R, S, A> {
         ensures links { self.new.links ≡ self.old.links }
         ensures seen { (f : FileSystem) → IsSeen self.old.links self.old.files f
             → IfOk result (λ seen. seen ≡ look_result f.content path.now) }
+        ensures followed { (f : FileSystem) → IsHeld self.old.files f → is_direct f path.now ≡ true
+            → self.old.links ≡ Followed → IfOk result (λ seen. (seen ≡ look_followed f path.now)
+            ⊎ IsLinkReceived f (S.paths self.old.strays) (S.paths self.new.strays)) }
     {
         if self.has_way(path)? {
             self.look_at(path)
@@ -82,6 +85,10 @@ impl<R: System, S: Strays, A: Allocator + Copy> Lookups<R, S, A> {
         ensures links { self.new.links ≡ self.old.links }
         ensures way { (f : FileSystem) → IsSeen self.old.links self.old.files f
             → IfOk result (HasWay f path.now) }
+        ensures followed { (f : FileSystem) → IsHeld self.old.files f → is_direct f path.now ≡ true
+            → self.old.links ≡ Followed
+            → IfOk result (IsReasoned f (S.paths self.old.strays) (S.paths self.new.strays)
+            (HasWay f path.now false)) }
     {
         let Some((above, _)) = cut_last(path) else {
             return Ok(true);
@@ -103,6 +110,10 @@ impl<R: System, S: Strays, A: Allocator + Copy> Lookups<R, S, A> {
         ensures links { self.new.links ≡ self.old.links }
         ensures leads { (f : FileSystem) → IsSeen self.old.links self.old.files f
             → IfOk result (LeadsOn f above.now) }
+        ensures followed { (f : FileSystem) → IsHeld self.old.files f → is_direct f above.now ≡ true
+            → self.old.links ≡ Followed
+            → IfOk result (IsReasoned f (S.paths self.old.strays) (S.paths self.new.strays)
+            (LeadsOn f above.now false)) }
     {
         let mut directory = above;
         while !self.is_known(directory) {
@@ -135,9 +146,10 @@ impl<R: System, S: Strays, A: Allocator + Copy> Lookups<R, S, A> {
             → is_direct f path.now ≡ true
             → IfOk result (λ seen. seen ≡ look_result f.content path.now) }
         ensures followed { (f : FileSystem) → IsHeld self.old.files f → is_direct f path.now ≡ true
-            → self.old.links ≡ Followed
-            → IfOk result (λ seen. (seen ≡ look_followed f path.now)
-            ⊎ (S.paths self.new.strays ≡ and_then (S.paths self.old.strays) (path.now ∷ []))) }
+            → self.old.links ≡ Followed → IfOk result (λ seen. (seen ≡ look_followed f path.now)
+            ⊎ IsLinkReceived f (S.paths self.old.strays) (S.paths self.new.strays)) }
+        ensures settled { IfOk result (λ seen. is_directory seen ≡ true
+            → S.paths self.new.strays ≡ S.paths self.old.strays) }
     {
         match self.found(path)? {
             None => Ok(Look::Missing),
@@ -155,7 +167,9 @@ impl<R: System, S: Strays, A: Allocator + Copy> Lookups<R, S, A> {
         ensures strays { (f : FileSystem) → IsHeld self.old.files f
             → OnOk result (IsReceived (list_result f.content path.now) (strays_found f path.now)
             (S.names self.old.strays) (S.names self.new.strays)) }
-        ensures fails { (f : FileSystem) → IsSeen self.old.links self.old.files f
+        ensures named { (f : FileSystem) → IsHeld self.old.files f → IfOk result
+            (λ v. IsNameAnswer (list_result f.content path.now) (names_of (entries_of v.items))) }
+        ensures fails { (f : FileSystem) → IsHeld self.old.files f
             → IfErr result (λ e. IsListError (list_result f.content path.now) e) }
     {
         // The separator at its end, so that a link there is followed.
@@ -293,6 +307,12 @@ impl<R: System, S: Strays, A: Allocator + Copy> Lookups<R, S, A> {
         ensures directory { (f : FileSystem) → IsSeen self.old.links self.old.files f
             → is_direct f path.now ≡ true
             → IfOk result (λ yes. yes ≡ is_directory (look_result f.content path.now)) }
+        ensures followed { (f : FileSystem) → IsHeld self.old.files f → is_direct f path.now ≡ true
+            → self.old.links ≡ Followed
+            → IfOk result (λ yes. (yes ≡ is_directory (look_followed f path.now))
+            ⊎ IsLinkReceived f (S.paths self.old.strays) (S.paths self.new.strays)) }
+        ensures settled { IfOk result (λ yes. yes ≡ true
+            → S.paths self.new.strays ≡ S.paths self.old.strays) }
     {
         Ok(self.look_at(path)?.is_dir())
     }
@@ -304,8 +324,10 @@ impl<R: System, S: Strays, A: Allocator + Copy> Lookups<R, S, A> {
         ensures strays { S.names self.new.strays ≡ S.names self.old.strays }
         ensures leads { (f : FileSystem) → IsHeld self.old.files f → is_direct f link.now ≡ true
             → IfOk result (λ yes. (yes ≡ is_found_directory (stat_found f link.now))
-            ⊎ ((yes ≡ false)
+            ⊎ ((yes ≡ false) × (is_found_directory (stat_found f link.now) ≡ true)
             × (S.paths self.new.strays ≡ and_then (S.paths self.old.strays) (link.now ∷ [])))) }
+        ensures settled { IfOk result (λ yes. yes ≡ true
+            → S.paths self.new.strays ≡ S.paths self.old.strays) }
     {
         let Some(target) = self.target(link)? else {
             return Ok(false);

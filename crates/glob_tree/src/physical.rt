@@ -1,10 +1,11 @@
 //! The file system, where a symbolic link is no directory.
-ghost use Rattle.std.specs.Prelude.{◌≡◌, ◌+◌, IfOk, IfErr, OnOk, option_and_then};
-ghost use Rattle.glob_tree.specs.Answers.{IsListAnswer, IsListError, IsTold, entries_of, entry_count};
+ghost use Rattle.std.specs.Prelude.{◌≡◌, ◌+◌, ◌⊎◌, true, IfOk, IfErr, OnOk, option_and_then};
+ghost use Rattle.glob_tree.specs.Answers.{IsListAnswer, IsListError, IsNameAnswer, IsTold, entries_of, entry_count, names_of};
 ghost use Rattle.glob_tree.specs.Content.{Content, list_result, look_result};
 ghost use Rattle.glob_tree.specs.Disks.{content_with_links};
-ghost use Rattle.glob_tree.specs.FileSystems.{FileSystem, IsHeld, IsReceived, strays_found};
-ghost use Rattle.glob_tree.specs.declared.physical.Links.TheVariants.{Kept};
+ghost use Rattle.glob_tree.specs.FileSystems.{FileSystem, IsHeld, IsReceived, is_direct, strays_found};
+ghost use Rattle.glob_tree.specs.Followed.{IsLinkReceived, look_followed};
+ghost use Rattle.glob_tree.specs.declared.physical.Links.TheVariants.{Followed, Kept};
 
 use crate::asks::Asks;
 use crate::lookups::Lookups;
@@ -107,6 +108,9 @@ impl<R: System, S: Strays, A: Allocator + Copy> Tree for PhysicalDisk<R, S, A> {
         ensures seen { (c : Content)
             → IsTold (option_and_then (content_with_links self.old.links) self.old.files) c
             → IfOk result (λ seen. seen ≡ look_result c path.now) }
+        ensures followed { (f : FileSystem) → IsHeld self.old.files f → is_direct f path.now ≡ true
+            → self.old.links ≡ Followed → IfOk result (λ seen. (seen ≡ look_followed f path.now)
+            ⊎ IsLinkReceived f (S.paths self.old.strays) (S.paths self.new.strays)) }
     {
         self.asks = self.asks.after(1);
         self.lookups.look(path)
@@ -124,6 +128,10 @@ impl<R: System, S: Strays, A: Allocator + Copy> Tree for PhysicalDisk<R, S, A> {
         ensures fails { (c : Content)
             → IsTold (option_and_then (content_with_links self.old.links) self.old.files) c
             → IfErr result (λ e. IsListError (list_result c path.now) e) }
+        ensures named { (f : FileSystem) → IsHeld self.old.files f → IfOk result
+            (λ v. IsNameAnswer (list_result f.content path.now) (names_of (entries_of v.items))) }
+        ensures unread { (f : FileSystem) → IsHeld self.old.files f
+            → IfErr result (λ e. IsListError (list_result f.content path.now) e) }
         ensures strays { (f : FileSystem) → IsHeld self.old.files f
             → OnOk result (IsReceived (list_result f.content path.now) (strays_found f path.now)
             (S.names self.old.strays) (S.names self.new.strays)) }

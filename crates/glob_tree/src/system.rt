@@ -4,8 +4,8 @@ ghost use Rattle.std.specs.Io.{ReadsAtMost};
 ghost use Rattle.std.specs.Io.KnownBytes.{ReadConsumes};
 ghost use Rattle.std.specs.declared.io.ErrorKind.{ErrorKind};
 ghost use Rattle.glob_tree.specs.Content.{list_result};
-ghost use Rattle.glob_tree.specs.Directories.{HasEnded, IsReadFault};
-ghost use Rattle.glob_tree.specs.FileSystems.{FileSystem, IsHeld, IsOpened, IsOpenFault, IsStatAnswer, is_direct, lstat_found, stat_found, strays_found};
+ghost use Rattle.glob_tree.specs.Directories.{HasEnded, ReadMayFail};
+ghost use Rattle.glob_tree.specs.FileSystems.{FileSystem, IsHeld, IsOpened, OpenMayFail, IsStatAnswer, is_direct, lstat_found, stat_found, strays_found};
 
 use std::fs::{Files, Metadata};
 use std::io::{self, Read};
@@ -49,7 +49,7 @@ pub trait System: Drop {
             → IfOk result (λ dir. IsOpened (list_result f.content path.now)
             (strays_found f path.now) (Self.Dir.left dir) (Self.Dir.fault dir)) }
         ensures fails { (f : FileSystem) → IsHeld (holds self.now) f → is_direct f path.now ≡ true
-            → IfErr result (λ e. IsOpenFault (list_result f.content path.now) e) };
+            → IfErr result (λ e. OpenMayFail (list_result f.content path.now) e) };
 }
 
 /// A directory that is open: its names are read, each with a NUL after it, in pieces of any size. `.` and `..` may be
@@ -72,7 +72,7 @@ pub trait Directory: Drop {
         ensures kept { fault self.new ≡ fault self.old }
         ensures end { IfOk result (λ n. n ≡ 0 → 0 < length block.new
             → HasEnded (left self.new) (fault self.new)) }
-        ensures fails { IfErr result (λ e. IsReadFault (left self.old) (fault self.old) e) };
+        ensures fails { IfErr result (λ e. ReadMayFail (left self.old) (fault self.old) e) };
 }
 
 /// The real system: what is believed of it is that its calls do what [`System`] says.

@@ -78,7 +78,7 @@ impl Make for All {
             ] => { Walks.make(calls, row) }
             ["ask disks" | "ask failing disks", "pruned", ..] => PrunedDisks.make(calls, row),
             [
-                "ask disks" | "ask failing disks" | "ask a large directory",
+                "ask disks" | "ask failing disks" | "ask disks in memory" | "ask a large directory",
                 ..
             ] => { Walks.make(calls, row) }
             _ => Matches.make(calls, row),

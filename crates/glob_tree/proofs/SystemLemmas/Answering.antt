@@ -5,10 +5,10 @@ use Rattle.std.specs.Result.{IsErrAnd}
 use Rattle.std.specs.declared.io.Error.{Error}
 use Rattle.std.specs.declared.io.ErrorKind.{ErrorKind}
 use Rattle.glob_text.specs.Text.{Text}
-use Rattle.glob_tree.specs.Answers.{entries_of, IsEntriesAnswer, IsListAnswer, IsListError, IsListErrorOf, IsTold}
+use Rattle.glob_tree.specs.Answers.{entries_of, names_of, IsEntriesAnswer, IsListAnswer, IsListError, IsListErrorOf, IsNameAnswer, IsTold}
 use Rattle.glob_tree.specs.Content.{Content, ListAnswer, is_content, list_result, look_result}
 use Rattle.glob_tree.specs.Directories.{names_in}
-use Rattle.glob_tree.specs.FileSystems.{FileSystem, IsHeld, IsOpened, IsOpenFault, IsReceived, is_direct, strays_found}
+use Rattle.glob_tree.specs.FileSystems.{FileSystem, IsHeld, IsOpened, OpenMayFail, IsReceived, is_direct, strays_found}
 use Rattle.glob_tree.specs.Followed.{followed, list_followed, look_followed}
 use Rattle.glob_tree.specs.Paths.{join}
 use Rattle.glob_tree.specs.Private.Listing.{are_looked_up, is_said_dir, is_dir_in, said_entries, are_text_names, IsEntriesError}
@@ -20,7 +20,7 @@ use Rattle.glob_tree.specs.declared.tree.ListError.{ListError}
 use Rattle.glob_tree.specs.declared.tree.Look.{Look}
 use Rattle.glob_tree.proofs.SystemLemmas.Finding.{Follows-from_told, is_direct-from_links, look_followed-plain}
 use Rattle.glob_tree.proofs.SystemLemmas.Listing.{list_followed-plain}
-use Rattle.glob_tree.proofs.SystemLemmas.Opening.{followed_answer, followed_fault, followed_unopened, kept_answer, kept_fault, kept_strays, kept_unopened}
+use Rattle.glob_tree.proofs.SystemLemmas.Opening.{followed_answer, followed_fault, followed_unopened, kept_answer, kept_fault, kept_names, kept_strays, kept_unopened}
 
 -- what was opened, by another text of its path
 pub opened_at : (f : FileSystem) (text buffer : Text) → text ≡ buffer → (left : Option (List ℕ)) (fault : Option ErrorKind)
@@ -67,6 +67,12 @@ module _ (f : FileSystem) (w : is_content f.content ≡ true) (path buffer : Tex
         (subst (λ b. AreDirect f b
         → IfSome left (λ bytes. entries_of v.items ≡ said_entries (is_dir_in f.content b) (texts_of (names_in bytes)))) same is) whole
 
+    pub named_kept : {A E : Type 0} (r : Result (Vec (Entry A) A) E)
+        → IfOk r (λ v. IfSome left (λ bytes. names_of (entries_of v.items) ≡ texts_of (names_in bytes)))
+        → (IsSome left → OnOk r (fault ≡ None)) → IfOk r (λ v. IsNameAnswer (list_result f.content path) (names_of (entries_of v.items)))
+    named_kept (Err e) is whole = tt
+    named_kept (Ok v) is whole = kept_names f w path left fault opened_join (names_of (entries_of v.items)) is whole
+
     pub fault_kept : {T : Type 0} (r : Result T ListError)
         → IfErr r (λ e. IfSome left (λ bytes. IsEntriesError (are_text_names (texts_of (names_in bytes))) fault e))
         → IfErr r (λ e. IsListError (list_result f.content path) e)
@@ -80,9 +86,9 @@ module _ (f : FileSystem) (w : is_content f.content ≡ true) (path buffer : Tex
     received (Err e) old new is = tt
     received (Ok x) old new is = kept_strays f w path left fault opened_join old new is
 
-  module _ (e : Error) (fault : is_direct f buffer ≡ true → IsOpenFault (list_result f.content buffer) e) where
-    fault_join : is_direct f (join path []) ≡ true → IsOpenFault (list_result f.content (join path [])) e
-    fault_join = subst (λ b. is_direct f b ≡ true → IsOpenFault (list_result f.content b) e) same fault
+  module _ (e : Error) (fault : is_direct f buffer ≡ true → OpenMayFail (list_result f.content buffer) e) where
+    fault_join : is_direct f (join path []) ≡ true → OpenMayFail (list_result f.content (join path [])) e
+    fault_join = subst (λ b. is_direct f b ≡ true → OpenMayFail (list_result f.content b) e) same fault
 
     pub unopened_followed : {T : Type 0} (r : Result T ListError) → IsErrAnd r (IsListErrorOf e)
         → IfErr r (λ made. IsListError (list_followed f path) made)

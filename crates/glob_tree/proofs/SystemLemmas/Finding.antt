@@ -14,7 +14,7 @@ use Rattle.glob_text.specs.Pieces.{pieces}
 use Rattle.glob_text.specs.Text.{Text}
 use Rattle.glob_tree.specs.Answers.{IsTold}
 use Rattle.glob_tree.specs.Content.{Content, Key, same_key, is_content, kind_at, is_dir_at, step, origin, resolve, look_of, look_result}
-use Rattle.glob_tree.specs.FileSystems.{FileSystem, Target, Nowhere, AFile, ADirectory, is_a_directory, IsHeld, target_at, Found, Directory, Symlink, File, found_here, found_there, lstat_at, stat_at, lstat_found, stat_found, IsStatAnswer, is_directory_link, passes_link, is_direct, has_directory_links}
+use Rattle.glob_tree.specs.FileSystems.{FileSystem, Target, Nowhere, AFile, ADirectory, is_a_directory, IsHeld, target_at, Found, Directory, Symlink, File, lstat_type, stat_type, lstat_at, stat_at, lstat_found, stat_found, IsStatAnswer, is_directory_link, passes_link, is_direct, has_directory_links}
 use Rattle.glob_tree.specs.Followed.{look_found, look_through, look_followed, is_found_directory, has_strays, followed}
 use Rattle.glob_tree.specs.Looks.{is_directory}
 use Rattle.glob_tree.specs.declared.kind.Kind.{Kind}
@@ -81,11 +81,11 @@ pub lstat_look : (f : FileSystem) (path : Text) → look_found look.Missing (lst
 unfolding lstat_found look_result
 lstat_look f path = at_key (resolve f.content path)
   where
-    at_target : (t : Option Target) → look_found look.Missing (Some (found_here Other t)) ≡ look.Other
+    at_target : (t : Option Target) → look_found look.Missing (Some (lstat_type Other t)) ≡ look.Other
     at_target None = refl
     at_target (Some t) = refl
 
-    at_kind : (k : Key) (o : Option Kind) → look_found look.Missing (option_map (λ kind. found_here kind (target_at f k)) o) ≡ look_of o
+    at_kind : (k : Key) (o : Option Kind) → look_found look.Missing (option_map (λ kind. lstat_type kind (target_at f k)) o) ≡ look_of o
     at_kind k None = refl
     at_kind k (Some Dir) = refl
     at_kind k (Some (Shut kind)) = refl
@@ -101,14 +101,14 @@ pub stat_look : (f : FileSystem) → list_any (λ e. is_a_directory e.1) f.links
 unfolding lstat_found stat_found look_result
 stat_look f non path h = at_key (resolve f.content path) h
   where
-    at_target : (k : Key) (t : Option Target) → target_at f k ≡ t → look_found look.Other (found_there Other t) ≡ look.Other
+    at_target : (k : Key) (t : Option Target) → target_at f k ≡ t → look_found look.Other (stat_type Other t) ≡ look.Other
     at_target k None is = refl
     at_target k (Some Nowhere) is = refl
     at_target k (Some AFile) is = refl
     at_target k (Some ADirectory) is = absurd (no_target k f.links non is)
 
-    at_kind : (k : Key) (o : Option Kind) → option_map (λ kind. found_here kind (target_at f k)) o ≡ Some Symlink
-        → look_found look.Other (option_and_then (λ kind. found_there kind (target_at f k)) o) ≡ look_of o
+    at_kind : (k : Key) (o : Option Kind) → option_map (λ kind. lstat_type kind (target_at f k)) o ≡ Some Symlink
+        → look_found look.Other (option_and_then (λ kind. stat_type kind (target_at f k)) o) ≡ look_of o
     at_kind k None h = absurd (none-some Symlink h)
     at_kind k (Some Dir) h = refl
     at_kind k (Some (Shut kind)) h = refl
@@ -124,13 +124,13 @@ pub stat_directory : (f : FileSystem) → list_any (λ e. is_a_directory e.1) f.
 unfolding stat_found look_result
 stat_directory f non path = at_key (resolve f.content path)
   where
-    at_target : (k : Key) (t : Option Target) → target_at f k ≡ t → is_directory (look_found look.Missing (found_there Other t)) ≡ false
+    at_target : (k : Key) (t : Option Target) → target_at f k ≡ t → is_directory (look_found look.Missing (stat_type Other t)) ≡ false
     at_target k None is = refl
     at_target k (Some Nowhere) is = refl
     at_target k (Some AFile) is = refl
     at_target k (Some ADirectory) is = absurd (no_target k f.links non is)
 
-    at_kind : (k : Key) (o : Option Kind) → is_directory (look_found look.Missing (option_and_then (λ kind. found_there kind (target_at f k)) o)) ≡ is_directory (look_of o)
+    at_kind : (k : Key) (o : Option Kind) → is_directory (look_found look.Missing (option_and_then (λ kind. stat_type kind (target_at f k)) o)) ≡ is_directory (look_of o)
     at_kind k None = refl
     at_kind k (Some Dir) = refl
     at_kind k (Some (Shut kind)) = refl
@@ -193,7 +193,7 @@ is_missing look.Dir = false
 is_missing look.Other = false
 is_missing look.Missing = true
 
-missing_other : (l : Look) → l ≡ look.Missing → l ≡ look.Other → ⊥
+pub missing_other : (l : Look) → l ≡ look.Missing → l ≡ look.Other → ⊥
 unfolding is_missing
 missing_other l missing other = both_ways false refl (ap is_missing (sym other ∙ missing))
 

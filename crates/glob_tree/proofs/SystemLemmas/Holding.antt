@@ -28,33 +28,23 @@ use Rattle.glob_tree.proofs.StraysLemmas.{names_more}
 use Rattle.glob_tree.proofs.SystemLemmas.Listing.{texts_read}
 use Rattle.glob_tree.proofs.SystemLemmas.Opening.{no_strays, texts_same}
 
--- what `lstat` and `stat` find, without links
-pub lstat_plain : (c : Content) (path : Text) → found_by (look_result c path) ≡ lstat_found (plain_files c) path
-unfolding lstat_found look_result
-lstat_plain c path = at_key (resolve c path)
+-- without links, `lstat` and `stat` find the same
+pub plain_found : (c : Content) (path : Text)
+    → (found_by (look_result c path) ≡ lstat_found (plain_files c) path) × (found_by (look_result c path) ≡ stat_found (plain_files c) path)
+unfolding lstat_found stat_found look_result
+plain_found c path = at_key (resolve c path)
   where
-    at_kind : (k : Key) (o : Option Kind) → kind_at c k ≡ o → found_by (look_of (kind_at c k)) ≡ lstat_at (plain_files c) k
-    at_kind k None e = rw e refl
-    at_kind k (Some Dir) e = rw e refl
-    at_kind k (Some (Shut kind)) e = rw e refl
-    at_kind k (Some Other) e = rw e refl
+    at_kind : (k : Key) (o : Option Kind) → kind_at c k ≡ o
+        → (found_by (look_of (kind_at c k)) ≡ lstat_at (plain_files c) k) × (found_by (look_of (kind_at c k)) ≡ stat_at (plain_files c) k)
+    at_kind k None e = rw e (refl, refl)
+    at_kind k (Some Dir) e = rw e (refl, refl)
+    at_kind k (Some (Shut kind)) e = rw e (refl, refl)
+    at_kind k (Some Other) e = rw e (refl, refl)
 
-    at_key : (o : Option Key) → found_by (look_of (option_and_then (kind_at c) o)) ≡ option_and_then (lstat_at (plain_files c)) o
-    at_key None = refl
-    at_key (Some k) = at_kind k (kind_at c k) refl
-
-pub stat_plain : (c : Content) (path : Text) → found_by (look_result c path) ≡ stat_found (plain_files c) path
-unfolding stat_found look_result
-stat_plain c path = at_key (resolve c path)
-  where
-    at_kind : (k : Key) (o : Option Kind) → kind_at c k ≡ o → found_by (look_of (kind_at c k)) ≡ stat_at (plain_files c) k
-    at_kind k None e = rw e refl
-    at_kind k (Some Dir) e = rw e refl
-    at_kind k (Some (Shut kind)) e = rw e refl
-    at_kind k (Some Other) e = rw e refl
-
-    at_key : (o : Option Key) → found_by (look_of (option_and_then (kind_at c) o)) ≡ option_and_then (stat_at (plain_files c)) o
-    at_key None = refl
+    at_key : (o : Option Key)
+        → (found_by (look_of (option_and_then (kind_at c) o)) ≡ option_and_then (lstat_at (plain_files c)) o)
+        × (found_by (look_of (option_and_then (kind_at c) o)) ≡ option_and_then (stat_at (plain_files c)) o)
+    at_key None = (refl, refl)
     at_key (Some k) = at_kind k (kind_at c k) refl
 
 no_nul : (name : Text) → list_any is_barred name ≡ false → All (λ b. (b == nul) ≡ false) name
@@ -106,19 +96,12 @@ opened_plain c w path es from =
     )
 
 -- in the files that are held
-pub lstat_held : (c : Content) (f : FileSystem) → Some (plain_files c) ≡ Some f → (path : Text) (r : Result Metadata Error)
+pub found_held : (c : Content) (f : FileSystem) → Some (plain_files c) ≡ Some f → (path : Text) (r : Result Metadata Error)
     → IsStatAnswer (found_by (look_result c path)) r
-    → IsStatAnswer (lstat_found f path) r
-lstat_held c f held path r is =
-    subst (λ g. IsStatAnswer (lstat_found g path) r) (same_Some (plain_files c) f held)
-    (subst (λ o. IsStatAnswer o r) (lstat_plain c path) is)
-
-pub stat_held : (c : Content) (f : FileSystem) → Some (plain_files c) ≡ Some f → (path : Text) (r : Result Metadata Error)
-    → IsStatAnswer (found_by (look_result c path)) r
-    → IsStatAnswer (stat_found f path) r
-stat_held c f held path r is =
-    subst (λ g. IsStatAnswer (stat_found g path) r) (same_Some (plain_files c) f held)
-    (subst (λ o. IsStatAnswer o r) (stat_plain c path) is)
+    → IsStatAnswer (lstat_found f path) r × IsStatAnswer (stat_found f path) r
+found_held c f held path r is =
+    subst (λ g. IsStatAnswer (lstat_found g path) r × IsStatAnswer (stat_found g path) r) (same_Some (plain_files c) f held)
+    (subst (λ o. IsStatAnswer o r) (plain_found c path).0 is, subst (λ o. IsStatAnswer o r) (plain_found c path).1 is)
 
 pub opened_held : (c : Content) (f : FileSystem) → IsHeld (Some (plain_files c)) f → (path : Text) (es : List DirEntry)
     → list_result c path ≡ Entries es

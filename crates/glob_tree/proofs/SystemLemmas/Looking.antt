@@ -1,5 +1,5 @@
 -- What lookups that keep or follow links say of a path.
-use Rattle.std.proofs.Common.{◌≡◌, ◌≢◌, ℕ, Bool, true, false, cond, inl, inr, [], ◌∷◌, ◌++◌, Option, Some, None, Ok, Err, refl, ap, sym, subst, ◌∙◌}
+use Rattle.std.proofs.Common.{◌≡◌, ◌≢◌, ℕ, Bool, true, false, cond, inl, inr, ⊎_elim, List, [], ◌∷◌, ◌++◌, Option, Some, None, Ok, Err, refl, ap, sym, subst, ◌∙◌}
 use Rattle.std.specs.Prelude.{option_map, option_and_then}
 use Rattle.std.specs.Fs.{file_type, IsDir, IsSymlink}
 use Rattle.std.specs.IoError.{error_kind}
@@ -15,16 +15,16 @@ use Rattle.glob_text.specs.Text.{Text}
 use Rattle.glob_tree.specs.Answers.{IsTold}
 use Rattle.glob_tree.specs.Content.{Content, Key, is_content, kind_at, resolve, look_result}
 use Rattle.glob_tree.specs.Disks.{content_with_links}
-use Rattle.glob_tree.specs.FileSystems.{FileSystem, Target, Nowhere, AFile, ADirectory, is_a_directory, target_at, Found, Directory, Symlink, File, found_here, found_there, lstat_at, stat_at, lstat_found, stat_found, IsStatAnswer, is_direct, has_directory_links}
-use Rattle.glob_tree.specs.Followed.{look_found, look_through, look_followed, is_found_directory}
+use Rattle.glob_tree.specs.FileSystems.{FileSystem, Target, Nowhere, AFile, ADirectory, is_a_directory, target_at, Found, Directory, Symlink, File, lstat_type, stat_type, lstat_at, stat_at, lstat_found, stat_found, IsStatAnswer, is_direct, has_directory_links}
+use Rattle.glob_tree.specs.Followed.{look_found, look_through, look_followed, is_found_directory, IsLinkReceived}
 use Rattle.glob_tree.specs.Looks.{is_directory}
-use Rattle.glob_tree.specs.Private.Looking.{has_places, IsSeen, IsFoundAs, IsWay, HasWay, LeadsOn, IsOnWay}
+use Rattle.glob_tree.specs.Private.Looking.{has_places, IsSeen, IsFoundAs, IsReasoned, IsWay, HasWay, LeadsOn, IsOnWay}
 use Rattle.glob_tree.specs.declared.kind.Kind.{Kind}
 use Rattle.glob_tree.specs.declared.kind.Kind.TheVariants.{Dir, Shut, Other}
 use Rattle.glob_tree.specs.declared.physical.Links.{Links}
 use Rattle.glob_tree.specs.declared.physical.Links.TheVariants.{Kept, Followed}
 use Rattle.glob_tree.specs.declared.tree.Look.TheVariants as look
-use Rattle.glob_tree.proofs.SystemLemmas.Finding.{no_target, lstat_look, answer_directory, answer_other, answer_symlink}
+use Rattle.glob_tree.proofs.SystemLemmas.Finding.{missing_other, no_target, lstat_look, answer_directory, answer_other, answer_symlink}
 use Rattle.glob_tree.proofs.SystemLemmas.Ways.{direct_one, direct_below, nothing_below, said_no, way_above}
 
 -- a told content is that of files that are seen
@@ -80,13 +80,13 @@ no_directory_there f path places h is = at_key (resolve f.content path) h is
     no_links : list_any (λ e. is_a_directory e.1) f.links ≡ false
     no_links = not-true (list_any (λ e. is_a_directory e.1) f.links) places
 
-    at_target : (k : Key) (t : Option Target) → target_at f k ≡ t → found_there Other t ≡ Some Directory → ⊥
+    at_target : (k : Key) (t : Option Target) → target_at f k ≡ t → stat_type Other t ≡ Some Directory → ⊥
     at_target k None e is = both_ways false refl (ap is_found_directory is)
     at_target k (Some Nowhere) e is = both_ways false refl (ap is_found_directory is)
     at_target k (Some AFile) e is = both_ways false refl (ap is_found_directory is)
     at_target k (Some ADirectory) e is = no_target k f.links no_links e
 
-    at_kind : (k : Key) (o : Option Kind) → option_map (λ kind. found_here kind (target_at f k)) o ≡ Some Symlink → option_and_then (λ kind. found_there kind (target_at f k)) o ≡ Some Directory → ⊥
+    at_kind : (k : Key) (o : Option Kind) → option_map (λ kind. lstat_type kind (target_at f k)) o ≡ Some Symlink → option_and_then (λ kind. stat_type kind (target_at f k)) o ≡ Some Directory → ⊥
     at_kind k None h is = none-some Symlink h
     at_kind k (Some Dir) h is = both_ways true (ap is_found_directory h) refl
     at_kind k (Some (Shut kind)) h is = both_ways true (ap is_found_directory h) refl
@@ -102,6 +102,10 @@ link_found f path m h s = answer_symlink (lstat_found f path) m (as_answer (lsta
 -- a link that is followed is looked at as no directory
 pub look_link : (f : FileSystem) (path : Text) → lstat_found f path ≡ Some Symlink → look.Other ≡ look_result f.content path
 look_link f path is = ap (look_found look.Missing) (sym is) ∙ lstat_look f path
+
+-- a link was received after nothing was
+pub received_after : (f : FileSystem) (old mid new : Option (List Text)) → mid ≡ old → IsLinkReceived f mid new → IsLinkReceived f old new
+received_after f old mid new same is = subst (λ o. IsLinkReceived f o new) same is
 
 pub no_found : (o : Option Found) → o ≢ Some Directory → is_found_directory o ≡ false
 no_found None non = refl
@@ -157,6 +161,34 @@ followed_something f path m d h non is back =
     by_found (Some Directory) h = refl
     by_found (Some Symlink) h = absurd (non h)
     by_found (Some File) h = refl
+
+-- what is no directory where links are followed is none
+pub no_directory_followed : (f : FileSystem) (path : Text) → is_directory (look_followed f path) ≡ false → is_directory (look_result f.content path) ≡ false
+unfolding look_followed
+no_directory_followed f path h = ap is_directory (sym (lstat_look f path)) ∙ by_found (lstat_found f path) h
+  where
+    by_found : (o : Option Found) → is_directory (look_through o (stat_found f path)) ≡ false → is_directory (look_found look.Missing o) ≡ false
+    by_found None h = refl
+    by_found (Some Directory) h = h
+    by_found (Some Symlink) h = refl
+    by_found (Some File) h = refl
+
+-- and nothing is where nothing is
+pub missing_followed : (f : FileSystem) (path : Text) → look_result f.content path ≡ look.Missing → look.Missing ≡ look_followed f path
+unfolding look_followed
+missing_followed f path h = by_found (lstat_found f path) (lstat_look f path ∙ h)
+  where
+    by_found : (o : Option Found) → look_found look.Missing o ≡ look.Missing → look.Missing ≡ look_through o (stat_found f path)
+    by_found None h = refl
+    by_found (Some Directory) h = sym h
+    by_found (Some Symlink) h = absurd (missing_other (look_found look.Missing (Some Symlink)) h refl)
+    by_found (Some File) h = sym h
+
+-- a no has its reason
+pub reasoned : (f : FileSystem) (old mid new : Option (List Text)) → mid ≡ old → (P Q : Type 0) → (P → Q) → (yes : Bool) → yes ≡ false
+    → IsReasoned f mid new P yes → IsReasoned f old new Q false
+reasoned f old mid new same P Q of true non is = absurd (both_ways true non refl)
+reasoned f old mid new same P Q of false non is = ⊎_elim (λ p. inl (of p)) (λ r. inr (received_after f old mid new same r)) is
 
 -- the ways of a path
 pub way_of_one : (f : FileSystem) → is_content f.content ≡ true → (path : Text) → has_no_slash path ≡ true → HasWay f path true

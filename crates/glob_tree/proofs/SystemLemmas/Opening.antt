@@ -14,10 +14,10 @@ use Rattle.std.proofs.lemmas.Option.{none-some, same_Some}
 use Rattle.glob_text.specs.Characters.{slash}
 use Rattle.glob_text.specs.Pieces.{ends_with}
 use Rattle.glob_text.specs.Text.{Text}
-use Rattle.glob_tree.specs.Answers.{entries_of, names_of, IsEntriesAnswer, IsListAnswer, IsListError, IsListErrorOf, IsListFault}
+use Rattle.glob_tree.specs.Answers.{entries_of, names_of, IsEntriesAnswer, IsListAnswer, IsListError, IsListErrorOf, IsListFault, IsNameAnswer}
 use Rattle.glob_tree.specs.Content.{Content, Key, is_content, kind_at, resolve, DirEntry, ListAnswer, Entries, Fails, NoDirectory, list_of, list_found, list_result}
 use Rattle.glob_tree.specs.Directories.{names_in}
-use Rattle.glob_tree.specs.FileSystems.{FileSystem, IsOpened, IsOpenFault, IsReceived, is_direct, strays_at, strays_found}
+use Rattle.glob_tree.specs.FileSystems.{FileSystem, IsOpened, OpenMayFail, IsReceived, is_direct, strays_at, strays_found}
 use Rattle.glob_tree.specs.Followed.{answer_followed, entry_followed, list_followed}
 use Rattle.glob_tree.specs.Paths.{join, is_proper}
 use Rattle.glob_tree.specs.Private.Listing.{are_looked_up, is_said_dir, is_dir_in, said_entries, is_text_name, are_text_names, IsEntriesError}
@@ -256,6 +256,21 @@ module _ (f : FileSystem) (w : is_content f.content ≡ true) (path : Text) (lef
       by_leads (Not none) = subst (λ a. IsListError a (Read x)) (sym none) tt
       by_leads (Leads k at) = by_answer (list_result f.content path) refl (opened_there k at)
 
+  -- the names, wherever links point
+  pub kept_names : (names : List Text) → IfSome left (λ bytes. names ≡ texts_of (names_in bytes))
+      → (IsSome left → fault ≡ None) → IsNameAnswer (list_result f.content path) names
+  kept_names names is whole = by_leads (leads_or_not f.content path)
+    where
+      by_answer : (a : ListAnswer) → list_result f.content path ≡ a → IsOpened a (strays_found f path) left fault → IsNameAnswer a names
+      by_answer (Entries es) from (bytes, known, end, (moved, strays)) =
+          subst (IsPermutation (names_of es)) (sym (subst (λ o. IfSome o (λ bs. names ≡ texts_of (names_in bs))) known is)) moved
+      by_answer (Fails kind) from (known, ends) = absurd (none-some kind (sym (whole known) ∙ ends))
+      by_answer NoDirectory from opened = tt
+
+      by_leads : LeadsOrNot f.content path → IsNameAnswer (list_result f.content path) names
+      by_leads (Not none) = subst (λ a. IsNameAnswer a names) (sym none) tt
+      by_leads (Leads k at) = by_answer (list_result f.content path) refl (opened_there k at)
+
   -- each name that is no text is received, once
   pub kept_strays : (old new : Option (List Text)) → IfSome left (λ bytes. new ≡ and_then old (strays_of (names_in bytes)))
       → IsReceived (list_result f.content path) (strays_found f path) old new
@@ -274,8 +289,8 @@ module _ (f : FileSystem) (w : is_content f.content ≡ true) (path : Text) (lef
 
 -- the error where the directory was not opened
 module _ (f : FileSystem) (w : is_content f.content ≡ true) (path : Text) (e : Error) (made : ListError)
-    (fault : is_direct f (join path []) ≡ true → IsOpenFault (list_result f.content (join path [])) e) (of : IsListErrorOf e made) where
-  unopened : (a : ListAnswer) (b : ListAnswer) → ((kind : ErrorKind) → IsListFault a kind → IsListFault b kind) → IsOpenFault a e
+    (fault : is_direct f (join path []) ≡ true → OpenMayFail (list_result f.content (join path [])) e) (of : IsListErrorOf e made) where
+  unopened : (a : ListAnswer) (b : ListAnswer) → ((kind : ErrorKind) → IsListFault a kind → IsListFault b kind) → OpenMayFail a e
       → IsListError b made
   unopened a b onto closed = made_of (IsListError b) e tt (λ non. onto (error_kind e) (closed non)) made of
 
@@ -286,7 +301,7 @@ module _ (f : FileSystem) (w : is_content f.content ≡ true) (path : Text) (e :
       by_leads (Not none) = subst (λ a. IsListError a made) (sym none) (unopened NoDirectory NoDirectory (λ kind is. is) (λ non. tt))
       by_leads (Leads k at) =
           unopened (list_result f.content path) (list_result f.content path) (λ kind is. is)
-          (subst (λ a. IsOpenFault a e) (list_result-join f.content path) (fault (direct_itself f w path k at)))
+          (subst (λ a. OpenMayFail a e) (list_result-join f.content path) (fault (direct_itself f w path k at)))
 
   pub followed_unopened : IsListError (list_followed f path) made
   unfolding list_followed
@@ -305,4 +320,4 @@ module _ (f : FileSystem) (w : is_content f.content ≡ true) (path : Text) (e :
       by_leads (Leads k at) =
           unopened (list_result f.content path) (answer_followed f path (list_result f.content path) (strays_found f path))
           (as_followed (list_result f.content path) (strays_found f path))
-          (subst (λ a. IsOpenFault a e) (list_result-join f.content path) (fault (direct_itself f w path k at)))
+          (subst (λ a. OpenMayFail a e) (list_result-join f.content path) (fault (direct_itself f w path k at)))

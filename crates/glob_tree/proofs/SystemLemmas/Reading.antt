@@ -8,7 +8,7 @@ use Rattle.std.specs.declared.io.ErrorKind.{ErrorKind}
 use Rattle.std.specs.declared.io.ErrorKind.TheVariants.{OutOfMemory}
 use Rattle.std.proofs.lemmas.Bool.{both_ways}
 use Rattle.glob_tree.specs.Answers.{IsListErrorOf}
-use Rattle.glob_tree.specs.Directories.{IsReadError, IsReadFault}
+use Rattle.glob_tree.specs.Directories.{ReadingMayFail, ReadMayFail}
 use Rattle.glob_tree.specs.declared.tree.ListError.{ListError}
 use Rattle.glob_tree.specs.declared.tree.ListError.TheVariants.{Read, Memory}
 
@@ -30,8 +30,8 @@ made_of Q e memory read (Read x) of =
     subst (λ y. Q (Read y)) (sym (ap (read_or e) (of.1 non))) (read non)
 
 -- the error of a read that failed
-pub read_fault : {T : Type 0} (left : Option (List ℕ)) (fault : Option ErrorKind) (e : Error) → IsReadFault left fault e → IsSome left
-    → (r : Result T ListError) → IsErrAnd r (IsListErrorOf e) → IfErr r (λ made. IsReadError fault made)
+pub read_fault : {T : Type 0} (left : Option (List ℕ)) (fault : Option ErrorKind) (e : Error) → ReadMayFail left fault e → IsSome left
+    → (r : Result T ListError) → IsErrAnd r (IsListErrorOf e) → IfErr r (λ made. ReadingMayFail fault made)
 read_fault left fault e of known (Ok x) is = tt
 read_fault None fault e of known (Err made) is = absurd (both_ways false refl known)
-read_fault (Some bytes) fault e of known (Err made) is = made_of (IsReadError fault) e tt (λ non. (of non).1) made is
+read_fault (Some bytes) fault e of known (Err made) is = made_of (ReadingMayFail fault) e tt (λ non. (of non).1) made is

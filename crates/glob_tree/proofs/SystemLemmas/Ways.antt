@@ -3,7 +3,7 @@ use Rattle.std.proofs.Common.{◌≡◌, ◌<◌, Bool, true, false, cond, not, 
 use Rattle.std.specs.Prelude.{option_and_then}
 use Rattle.std.specs.List.{list_any}
 use Rattle.std.specs.Path.{has_no_slash}
-use Rattle.std.proofs.lemmas.Bool.{and_parts, both_ways, not-true, or_from}
+use Rattle.std.proofs.lemmas.Bool.{and_parts, both_ways, not-true, not_from_false, or_from, or_parts}
 use Rattle.std.proofs.lemmas.List.{length-append}
 use Rattle.std.proofs.lemmas.List.Sums.{fold-append}
 use Rattle.std.proofs.lemmas.Option.{none-some, same_Some}
@@ -94,6 +94,26 @@ direct_below f w dir name path way plain is = ap (λ p. not (passes_link f (Some
         ap (λ o. passes_link f (Some o) (pieces (dir ++ slash ∷ name))) (origin-append f.content dir (slash ∷ name) some)
         ∙ ap (passes_link f (Some (origin f.content dir))) cut
         ∙ passes_below f (Some (origin f.content dir)) (pieces dir) k name (sym (resolve_steps f.content dir some) ∙ at.resolved) at.directory
+
+passes_front : (f : FileSystem) (at : Option Key) (ps qs : List Text) → passes_link f at (ps ++ qs) ≡ false → passes_link f at ps ≡ false
+passes_front f None ps qs h = refl
+passes_front f (Some k) [] qs h = refl
+passes_front f (Some k) (p ∷ ps) qs h =
+    let parts = or_parts (is_directory_link f k) (passes_link f (step f.content p k) (ps ++ qs)) h in
+    or_from (is_directory_link f k) (passes_link f (step f.content p k) ps) parts.0 (passes_front f (step f.content p k) ps qs parts.1)
+
+-- what is above a direct path is direct
+pub direct_above : (f : FileSystem) → is_content f.content ≡ true → (dir more : Text) → is_direct f (dir ++ slash ∷ more) ≡ true → is_direct f dir ≡ true
+unfolding is_direct
+direct_above f w [] more direct = direct_one f w [] refl
+direct_above f w (x ∷ xs) more direct =
+    let dir = x ∷ xs in
+    let whole =
+    ap (passes_link f (Some (origin f.content dir))) (sym (pieces-append dir more))
+    ∙ ap (λ o. passes_link f (Some o) (pieces (dir ++ slash ∷ more))) (sym (origin-append f.content dir (slash ∷ more) (omega arith)))
+    ∙ not-true (passes_link f (Some (origin f.content (dir ++ slash ∷ more))) (pieces (dir ++ slash ∷ more))) direct in
+    not_from_false (passes_link f (Some (origin f.content dir)) (pieces dir))
+    (passes_front f (Some (origin f.content dir)) (pieces dir) (pieces more) whole)
 
 -- what is no directory, or behind a link to one, has nothing below it
 pub nothing_below : (c : Content) (dir more : Text) → (dir ≡ [] → ⊥) → is_directory (look_result c dir) ≡ false → look_result c (dir ++ slash ∷ more) ≡ look.Missing

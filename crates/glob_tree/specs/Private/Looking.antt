@@ -1,5 +1,5 @@
 -- What lookups say of paths, where links are kept or followed.
-use Rattle.std.specs.Prelude.{◌≡◌, ◌≢◌, ◌⊎◌, ◌++◌, ◌∷◌, [], Bool, true, false, not, Option, None, Some, ⊤}
+use Rattle.std.specs.Prelude.{◌≡◌, ◌≢◌, ◌⊎◌, ◌++◌, ◌∷◌, [], Bool, true, false, not, List, Option, None, Some, ⊤}
 use Rattle.std.specs.Fs.{file_type}
 use Rattle.std.specs.Path.{has_no_slash}
 use Rattle.std.specs.declared.fs.attrs.Metadata.{Metadata}
@@ -7,6 +7,7 @@ use Rattle.glob_text.specs.Characters.{slash}
 use Rattle.glob_text.specs.Text.{Text}
 use Rattle.glob_tree.specs.Content.{Content, look_result}
 use Rattle.glob_tree.specs.FileSystems.{FileSystem, Found, HasType, IsHeld, has_directory_links, is_direct}
+use Rattle.glob_tree.specs.Followed.{IsLinkReceived}
 use Rattle.glob_tree.specs.Looks.{is_directory}
 use Rattle.glob_tree.specs.declared.physical.Links.{Links}
 use Rattle.glob_tree.specs.declared.physical.Links.TheVariants.{Kept, Followed}
@@ -51,6 +52,11 @@ HasWay f path false = look_result f.content path ≡ look.Missing
 abbrev pub LeadsOn : FileSystem → Text → Bool → Type 0
 LeadsOn f path true = IsWay f.content path
 LeadsOn f path false = (path ≢ []) × (is_directory (look_result f.content path) ≡ false)
+
+-- A yes receives no path. A no has this reason, or a link was received in its place.
+abbrev pub IsReasoned : FileSystem → (old new : Option (List Text)) → (reason : Type 0) → Bool → Type 0
+IsReasoned f old new reason true = new ≡ old
+IsReasoned f old new reason false = reason ⊎ IsLinkReceived f old new
 
 -- whether a directory is empty, the last of a way, or above it
 abbrev pub IsOnWay : (directory way : Text) → Bool → Type 0

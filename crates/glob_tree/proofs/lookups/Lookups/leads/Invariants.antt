@@ -1,9 +1,9 @@
 -- The way to the whole path goes through the directory, whose directories are left to look at.
-use Rattle.std.proofs.Common.{◌≡◌, ◌≢◌, false, [], length}
+use Rattle.std.proofs.Common.{◌≡◌, ◌≢◌, true, false, [], length}
 use denote.Shadow.{shadow}
 use denote.Text.{Utf8}
 use Rattle.glob_tree.specs.Content.{look_result}
-use Rattle.glob_tree.specs.FileSystems.{FileSystem}
+use Rattle.glob_tree.specs.FileSystems.{FileSystem, IsHeld, is_direct}
 use Rattle.glob_tree.specs.Looks.{is_directory}
 use Rattle.glob_tree.specs.Private.Looking.{IsSeen, IsWay, LeadsOn}
 use Rattle.glob_tree.proofs.lookups.Lookups.leads.Given as goal
@@ -11,8 +11,10 @@ use Rattle.glob_tree.proofs.lookups.Lookups.leads.Given as goal
 abbrev pub invariant-loop-directory : goal.invariant-loop-directory
 invariant-loop-directory g l = shadow (Utf8 l.directory)
     × (l.self.files ≡ l.initial.self.files) × (l.self.links ≡ l.initial.self.links)
-    × ((f : FileSystem) → IsSeen l.initial.self.links l.initial.self.files f
-    → (IsWay f.content l.directory → IsWay f.content l.above) × (l.directory ≢ [] → is_directory (look_result f.content l.directory) ≡ false → LeadsOn f l.above false))
+    × ((f : FileSystem) → IsSeen l.initial.self.links l.initial.self.files f → IsWay f.content l.directory → IsWay f.content l.above)
+    × ((f : FileSystem) → l.directory ≢ [] → is_directory (look_result f.content l.directory) ≡ false → LeadsOn f l.above false)
+    × ((f : FileSystem) → IsHeld l.initial.self.files f → is_direct f l.above ≡ true → is_direct f l.directory ≡ true)
+    × (g.S.Strays.paths l.self.strays ≡ g.S.Strays.paths l.initial.self.strays)
 
 abbrev pub decreases-loop-directory : goal.decreases-loop-directory
 decreases-loop-directory g l = length l.directory

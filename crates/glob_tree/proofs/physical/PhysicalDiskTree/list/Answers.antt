@@ -3,6 +3,7 @@ use Rattle.std.specs.Prelude.{option_and_then}
 use Rattle.glob_tree.specs.Answers.{IsTold, IsListError}
 use Rattle.glob_tree.specs.Content.{list_result}
 use Rattle.glob_tree.specs.Disks.{PhysicalModel, content_with_links}
+use Rattle.glob_tree.specs.FileSystems.{IsHeld}
 use Rattle.glob_tree.proofs.MemoryLemmas.Refusing.{fails_by}
 use Rattle.glob_tree.proofs.SystemLemmas.Looking.{Sees-from_told}
 use Rattle.glob_tree.proofs.physical.PhysicalDiskTree.list.Goals as goal
@@ -12,4 +13,9 @@ returns-in_err-entries-clause-fails g c = λ x told.
     let is = Sees-from_told c.self.inside.lookups.links c.self.inside.lookups.files x
     (subst (λ (d : PhysicalModel _). IsTold (option_and_then (content_with_links d.links) d.files) x) (sym c.self.view_is) told) in
     fails_by (IsListError (list_result x c.args.path.now)) c.from_residual.result c.in_err-entries.field-0.0 c.from_residual.ensures.1
-    (subst (λ d. IsListError (list_result d c.args.path.now) c.in_err-entries.field-0.0) is.same (c.in_err-entries.ensures.fails is.f is.seen))
+    (subst (λ d. IsListError (list_result d c.args.path.now) c.in_err-entries.field-0.0) is.same (c.in_err-entries.ensures.fails is.f is.seen.0))
+
+pub returns-in_err-entries-clause-unread : goal.returns-in_err-entries-clause-unread
+returns-in_err-entries-clause-unread g c = λ f held.
+    fails_by (IsListError (list_result f.content c.args.path.now)) c.from_residual.result c.in_err-entries.field-0.0 c.from_residual.ensures.1
+    (c.in_err-entries.ensures.fails f (subst (λ (d : PhysicalModel _). IsHeld d.files f) (sym c.self.view_is) held))
