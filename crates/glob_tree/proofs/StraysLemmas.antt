@@ -1,5 +1,5 @@
 -- What is received, name by name.
-use Rattle.std.proofs.Common.{◌≡◌, ◌++◌, ◌∷◌, [], cond, Bool, true, false, not, List, Option, None, Some, refl, ap, ◌∙◌}
+use Rattle.std.proofs.Common.{◌≡◌, ◌++◌, ◌∷◌, [], cond, Bool, true, false, not, List, Option, None, Some, refl, ap, sym, ◌∙◌}
 use Rattle.std.specs.Str.{IsUtf8, is_utf8}
 use Rattle.std.proofs.lemmas.List.{append_assoc, append-nil, map-append}
 use Rattle.std.proofs.lemmas.List.Elements.{filter-append}
@@ -8,7 +8,7 @@ use Rattle.glob_text.specs.Text.{Text}
 use Rattle.glob_tree.specs.Answers.{entries_of, names_of}
 use Rattle.glob_tree.specs.Content.{DirEntry}
 use Rattle.glob_tree.specs.declared.tree.Entry.{Entry}
-use Rattle.glob_tree.specs.Strays.{and_then, texts_of, strays_of}
+use Rattle.glob_tree.specs.Strays.{and_then, Grows, texts_of, strays_of}
 
 -- nothing more
 pub and_then-nil : (known : Option (List Text)) → and_then known [] ≡ known
@@ -19,6 +19,16 @@ and_then-nil (Some xs) = ap Some (append-nil xs)
 pub and_then-append : (known : Option (List Text)) (xs ys : List Text) → and_then (and_then known xs) ys ≡ and_then known (xs ++ ys)
 and_then-append None xs ys = refl
 and_then-append (Some zs) xs ys = ap Some (append_assoc zs xs ys)
+
+pub grows_none : (known : Option (List Text)) → Grows known known
+grows_none known = ([], sym (and_then-nil known))
+
+-- nothing more, by another name of the same
+pub grows_same : (old new : Option (List Text)) → new ≡ old → Grows old new
+grows_same old new same = ([], same ∙ sym (and_then-nil old))
+
+pub grows_then : (old mid new : Option (List Text)) → Grows old mid → Grows mid new → Grows old new
+grows_then old mid new (xs, first) (ys, then) = (xs ++ ys, then ∙ ap (λ o. and_then o ys) first ∙ and_then-append old xs ys)
 
 no_text_by : (name : Text) (b : Bool) → is_utf8 name ≡ b → (IsUtf8 name → ⊥) → is_utf8 name ≡ false
 no_text_by name true is none = absurd (none (IsUtf8-from_is_utf8 name is))

@@ -1,5 +1,5 @@
 -- What a tree answers that follows symbolic links.
-use Rattle.std.specs.Prelude.{◌≡◌, Bool, true, false, ◌||◌, if◌then◌else◌, List, [], ◌∷◌, map, Option, Some, None}
+use Rattle.std.specs.Prelude.{◌≡◌, Bool, true, false, ◌||◌, if◌then◌else◌, List, [], ◌∷◌, ◌++◌, map, Option, Some, None}
 use Rattle.std.specs.declared.io.ErrorKind.TheVariants.{InvalidFilename}
 use Rattle.glob_text.specs.Text.{Text}
 use Rattle.glob_tree.specs.Content.{Content, Key, DirEntry, ListAnswer, Entries, Fails, NoDirectory, list_result}
@@ -57,7 +57,12 @@ has_strays (s ∷ ss) = true
 abbrev pub followed : FileSystem → Option Content
 followed f = if has_directory_links f || has_strays f.strays then None else Some f.content
 
--- One path was received: that of a symbolic link to a directory, which was taken for one on the way down to the link.
+-- Paths were received, among them that of a symbolic link to a directory, which was taken for one on the way to it.
 abbrev pub IsLinkReceived : FileSystem → (old new : Option (List Text)) → Type 0
 IsLinkReceived f old new =
-    (link : Text) × (lstat_found f link ≡ Some Symlink) × (is_found_directory (stat_found f link) ≡ true) × (new ≡ and_then old (link ∷ []))
+    (before after : List Text) × (link : Text) × (lstat_found f link ≡ Some Symlink) × (is_found_directory (stat_found f link) ≡ true)
+    × (new ≡ and_then old (before ++ link ∷ after))
+
+-- what a listing of a path returns, but for names that are not UTF-8
+abbrev pub list_looked : FileSystem → Text → ListAnswer
+list_looked f path = answer_followed f path (list_result f.content path) []

@@ -19,3 +19,7 @@ strays_of names = filter (λ name. not (is_utf8 name)) names
 -- each of the strays of a directory was received, once and in any order
 abbrev pub AreReceived : (strays : List Text) → (old new : Option (List Text)) → Type 0
 AreReceived strays old new = (more : List Text) × (new ≡ and_then old more) × IsPermutation strays more
+
+-- nothing was received, or more
+abbrev pub Grows : (old new : Option (List Text)) → Type 0
+Grows old new = (more : List Text) × (new ≡ and_then old more)

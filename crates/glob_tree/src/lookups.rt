@@ -5,12 +5,12 @@ ghost use Rattle.glob_tree.specs.Answers.{IsListAnswer, IsListError, IsNameAnswe
 ghost use Rattle.glob_tree.specs.Content.{list_result, look_result};
 ghost use Rattle.glob_tree.specs.Directories.{HasEnded, names_in as names_of_bytes};
 ghost use Rattle.glob_tree.specs.FileSystems.{FileSystem, IsHeld, IsReceived, is_direct, lstat_found, stat_found, strays_found};
-ghost use Rattle.glob_tree.specs.Followed.{is_found_directory, IsLinkReceived, look_followed};
+ghost use Rattle.glob_tree.specs.Followed.{is_found_directory, IsLinkReceived, list_looked, look_followed};
 ghost use Rattle.glob_tree.specs.Looks.{is_directory};
 ghost use Rattle.glob_tree.specs.Paths.{is_proper as is_proper_text};
 ghost use Rattle.glob_tree.specs.Private.Looking.{AreDirect, HasWay, IsFoundAs, IsReasoned, IsSeen, IsWay, LeadsOn};
-ghost use Rattle.glob_tree.specs.Private.Listing.{IsEntriesError, IsNameError, are_text_names, is_dir_in as is_in, said_entries};
-ghost use Rattle.glob_tree.specs.Strays.{and_then, texts_of, strays_of};
+ghost use Rattle.glob_tree.specs.Private.Listing.{IsEntriesError, IsNameError, are_text_names, is_dir_in as is_in, is_followed_dir, said_entries};
+ghost use Rattle.glob_tree.specs.Strays.{and_then, Grows, texts_of, strays_of};
 ghost use Rattle.glob_tree.specs.declared.physical.Links.TheVariants.{Followed};
 
 use crate::directory::{names_in, read_directory};
@@ -150,6 +150,7 @@ impl<R: System, S: Strays, A: Allocator + Copy> Lookups<R, S, A> {
             ⊎ IsLinkReceived f (S.paths self.old.strays) (S.paths self.new.strays)) }
         ensures settled { IfOk result (λ seen. is_directory seen ≡ true
             → S.paths self.new.strays ≡ S.paths self.old.strays) }
+        ensures grows { OnOk result (Grows (S.paths self.old.strays) (S.paths self.new.strays)) }
     {
         match self.found(path)? {
             None => Ok(Look::Missing),
@@ -167,6 +168,9 @@ impl<R: System, S: Strays, A: Allocator + Copy> Lookups<R, S, A> {
         ensures strays { (f : FileSystem) → IsHeld self.old.files f
             → OnOk result (IsReceived (list_result f.content path.now) (strays_found f path.now)
             (S.names self.old.strays) (S.names self.new.strays)) }
+        ensures followed { (f : FileSystem) → IsHeld self.old.files f → self.old.links ≡ Followed
+            → IfOk result (λ v. IsListAnswer (list_looked f path.now) (entries_of v.items)
+            ⊎ IsLinkReceived f (S.paths self.old.strays) (S.paths self.new.strays)) }
         ensures named { (f : FileSystem) → IsHeld self.old.files f → IfOk result
             (λ v. IsNameAnswer (list_result f.content path.now) (names_of (entries_of v.items))) }
         ensures fails { (f : FileSystem) → IsHeld self.old.files f
@@ -196,6 +200,11 @@ impl<R: System, S: Strays, A: Allocator + Copy> Lookups<R, S, A> {
             → IfOk result (λ v. IfSome (D.left directory.old) (λ bytes. entries_of v.items
             ≡ said_entries (is_in f.content (string_bytes path.old))
             (texts_of (names_of_bytes bytes)))) }
+        ensures followed { (f : FileSystem) → IsHeld self.old.files f
+            → AreDirect f (string_bytes path.old) → self.old.links ≡ Followed
+            → IfOk result (λ v. IfSome (D.left directory.old) (λ bytes. (entries_of v.items
+            ≡ said_entries (is_followed_dir f (string_bytes path.old)) (texts_of (names_of_bytes bytes)))
+            ⊎ IsLinkReceived f (S.paths self.old.strays) (S.paths self.new.strays))) }
         ensures fails { IfErr result (λ e. IfSome (D.left directory.old) (λ bytes.
             IsEntriesError (are_text_names (texts_of (names_of_bytes bytes)))
             (D.fault directory.old) e)) }
@@ -224,6 +233,11 @@ impl<R: System, S: Strays, A: Allocator + Copy> Lookups<R, S, A> {
             → IfOk result (λ v. entries_of v.items
             ≡ said_entries (is_in f.content (string_bytes path.old))
             (texts_of (names_of_bytes bytes.now))) }
+        ensures followed { (f : FileSystem) → IsHeld self.old.files f
+            → AreDirect f (string_bytes path.old) → self.old.links ≡ Followed
+            → IfOk result (λ v. (entries_of v.items
+            ≡ said_entries (is_followed_dir f (string_bytes path.old)) (texts_of (names_of_bytes bytes.now)))
+            ⊎ IsLinkReceived f (S.paths self.old.strays) (S.paths self.new.strays)) }
         ensures fails { IfErr result
             (λ e. IsNameError (are_text_names (texts_of (names_of_bytes bytes.now))) e) }
     {
@@ -248,6 +262,11 @@ impl<R: System, S: Strays, A: Allocator + Copy> Lookups<R, S, A> {
             → IfOk result (λ v. entries_of v.items
             ≡ said_entries (is_in f.content (string_bytes path.old))
             (texts_of (map (λ n. n.now) names.now))) }
+        ensures followed { (f : FileSystem) → IsHeld self.old.files f
+            → AreDirect f (string_bytes path.old) → self.old.links ≡ Followed
+            → IfOk result (λ v. (entries_of v.items
+            ≡ said_entries (is_followed_dir f (string_bytes path.old)) (texts_of (map (λ n. n.now) names.now)))
+            ⊎ IsLinkReceived f (S.paths self.old.strays) (S.paths self.new.strays)) }
         ensures fails { IfErr result
             (λ e. IsNameError (are_text_names (texts_of (map (λ n. n.now) names.now))) e) }
     {
@@ -272,6 +291,12 @@ impl<R: System, S: Strays, A: Allocator + Copy> Lookups<R, S, A> {
             → AreDirect f (string_bytes path.old)
             → IfOk result (λ entry. entry.is_dir
             ≡ is_directory (look_result f.content (string_bytes path.old ++ name.now))) }
+        ensures followed { (f : FileSystem) → IsHeld self.old.files f
+            → AreDirect f (string_bytes path.old) → self.old.links ≡ Followed
+            → IfOk result (λ entry. (entry.is_dir
+            ≡ is_directory (look_followed f (string_bytes path.old ++ name.now)))
+            ⊎ IsLinkReceived f (S.paths self.old.strays) (S.paths self.new.strays)) }
+        ensures grows { OnOk result (Grows (S.paths self.old.strays) (S.paths self.new.strays)) }
         ensures fails { IfErr result (λ e. IsNameError (is_proper_text name.now) e) }
     {
         if !is_proper(name) {
@@ -291,6 +316,12 @@ impl<R: System, S: Strays, A: Allocator + Copy> Lookups<R, S, A> {
         ensures directory { (f : FileSystem) → IsSeen self.old.links self.old.files f
             → is_direct f (string_bytes path.old ++ name.now) ≡ true → IfOk result (λ yes. yes
             ≡ is_directory (look_result f.content (string_bytes path.old ++ name.now))) }
+        ensures followed { (f : FileSystem) → IsHeld self.old.files f
+            → is_direct f (string_bytes path.old ++ name.now) ≡ true → self.old.links ≡ Followed
+            → IfOk result (λ yes. (yes
+            ≡ is_directory (look_followed f (string_bytes path.old ++ name.now)))
+            ⊎ IsLinkReceived f (S.paths self.old.strays) (S.paths self.new.strays)) }
+        ensures grows { OnOk result (Grows (S.paths self.old.strays) (S.paths self.new.strays)) }
     {
         let length = path.len();
         path.push_str(name)?;
@@ -313,6 +344,7 @@ impl<R: System, S: Strays, A: Allocator + Copy> Lookups<R, S, A> {
             ⊎ IsLinkReceived f (S.paths self.old.strays) (S.paths self.new.strays)) }
         ensures settled { IfOk result (λ yes. yes ≡ true
             → S.paths self.new.strays ≡ S.paths self.old.strays) }
+        ensures grows { OnOk result (Grows (S.paths self.old.strays) (S.paths self.new.strays)) }
     {
         Ok(self.look_at(path)?.is_dir())
     }
@@ -328,6 +360,7 @@ impl<R: System, S: Strays, A: Allocator + Copy> Lookups<R, S, A> {
             × (S.paths self.new.strays ≡ and_then (S.paths self.old.strays) (link.now ∷ [])))) }
         ensures settled { IfOk result (λ yes. yes ≡ true
             → S.paths self.new.strays ≡ S.paths self.old.strays) }
+        ensures grows { OnOk result (Grows (S.paths self.old.strays) (S.paths self.new.strays)) }
     {
         let Some(target) = self.target(link)? else {
             return Ok(false);
@@ -390,6 +423,7 @@ impl<R: System, S: Strays, A: Allocator + Copy> Lookups<R, S, A> {
             → IfOk result (λ metadata. IsFoundAs (lstat_found f path.now) metadata) }
         ensures known { IfOk result (λ metadata. IsSome metadata
             → S.paths self.new.strays ≡ S.paths self.old.strays) }
+        ensures grows { OnOk result (Grows (S.paths self.old.strays) (S.paths self.new.strays)) }
     {
         let answer = self.rt.lstat(path);
         settle(&mut self.strays, path, answer)
@@ -404,6 +438,7 @@ impl<R: System, S: Strays, A: Allocator + Copy> Lookups<R, S, A> {
             → IfOk result (λ metadata. IsFoundAs (stat_found f link.now) metadata) }
         ensures known { IfOk result (λ metadata. IsSome metadata
             → S.paths self.new.strays ≡ S.paths self.old.strays) }
+        ensures grows { OnOk result (Grows (S.paths self.old.strays) (S.paths self.new.strays)) }
     {
         let answer = self.rt.stat(link);
         settle(&mut self.strays, link, answer)

@@ -4,7 +4,7 @@ ghost use Rattle.glob_tree.specs.Answers.{IsListAnswer, IsListError, IsNameAnswe
 ghost use Rattle.glob_tree.specs.Content.{Content, list_result, look_result};
 ghost use Rattle.glob_tree.specs.Disks.{content_with_links};
 ghost use Rattle.glob_tree.specs.FileSystems.{FileSystem, IsHeld, IsReceived, is_direct, strays_found};
-ghost use Rattle.glob_tree.specs.Followed.{IsLinkReceived, look_followed};
+ghost use Rattle.glob_tree.specs.Followed.{IsLinkReceived, list_looked, look_followed};
 ghost use Rattle.glob_tree.specs.declared.physical.Links.TheVariants.{Followed, Kept};
 
 use crate::asks::Asks;
@@ -128,6 +128,9 @@ impl<R: System, S: Strays, A: Allocator + Copy> Tree for PhysicalDisk<R, S, A> {
         ensures fails { (c : Content)
             → IsTold (option_and_then (content_with_links self.old.links) self.old.files) c
             → IfErr result (λ e. IsListError (list_result c path.now) e) }
+        ensures followed { (f : FileSystem) → IsHeld self.old.files f → self.old.links ≡ Followed
+            → IfOk result (λ v. IsListAnswer (list_looked f path.now) (entries_of v.items)
+            ⊎ IsLinkReceived f (S.paths self.old.strays) (S.paths self.new.strays)) }
         ensures named { (f : FileSystem) → IsHeld self.old.files f → IfOk result
             (λ v. IsNameAnswer (list_result f.content path.now) (names_of (entries_of v.items))) }
         ensures unread { (f : FileSystem) → IsHeld self.old.files f

@@ -1,5 +1,5 @@
 -- The answers of listings, whose path has a separator at its end.
-use Rattle.std.proofs.Common.{◌≡◌, ℕ, true, [], List, Option, None, Result, Ok, Err, subst}
+use Rattle.std.proofs.Common.{◌≡◌, ◌⊎◌, ℕ, true, [], List, Option, None, Result, Ok, Err, subst}
 use Rattle.std.specs.Prelude.{option_and_then, IfErr, IfOk, IfSome, IsSome, OnOk, Vec}
 use Rattle.std.specs.Result.{IsErrAnd}
 use Rattle.std.specs.declared.io.Error.{Error}
@@ -9,9 +9,9 @@ use Rattle.glob_tree.specs.Answers.{entries_of, names_of, IsEntriesAnswer, IsLis
 use Rattle.glob_tree.specs.Content.{Content, ListAnswer, is_content, list_result, look_result}
 use Rattle.glob_tree.specs.Directories.{names_in}
 use Rattle.glob_tree.specs.FileSystems.{FileSystem, IsHeld, IsOpened, OpenMayFail, IsReceived, is_direct, strays_found}
-use Rattle.glob_tree.specs.Followed.{followed, list_followed, look_followed}
+use Rattle.glob_tree.specs.Followed.{followed, list_followed, list_looked, look_followed}
 use Rattle.glob_tree.specs.Paths.{join}
-use Rattle.glob_tree.specs.Private.Listing.{are_looked_up, is_said_dir, is_dir_in, said_entries, are_text_names, IsEntriesError}
+use Rattle.glob_tree.specs.Private.Listing.{are_looked_up, is_said_dir, is_followed_dir, is_dir_in, said_entries, are_text_names, IsEntriesError}
 use Rattle.glob_tree.specs.Private.Looking.{AreDirect}
 use Rattle.glob_tree.specs.Strays.{and_then, texts_of, strays_of}
 use Rattle.glob_tree.specs.declared.disk.Kinds.{Kinds}
@@ -20,7 +20,7 @@ use Rattle.glob_tree.specs.declared.tree.ListError.{ListError}
 use Rattle.glob_tree.specs.declared.tree.Look.{Look}
 use Rattle.glob_tree.proofs.SystemLemmas.Finding.{Follows-from_told, is_direct-from_links, look_followed-plain}
 use Rattle.glob_tree.proofs.SystemLemmas.Listing.{list_followed-plain}
-use Rattle.glob_tree.proofs.SystemLemmas.Opening.{followed_answer, followed_fault, followed_unopened, kept_answer, kept_fault, kept_names, kept_strays, kept_unopened}
+use Rattle.glob_tree.proofs.SystemLemmas.Opening.{followed_answer, followed_fault, followed_unopened, kept_answer, kept_fault, kept_names, kept_strays, looked_answer, kept_unopened}
 
 -- what was opened, by another text of its path
 pub opened_at : (f : FileSystem) (text buffer : Text) → text ≡ buffer → (left : Option (List ℕ)) (fault : Option ErrorKind)
@@ -66,6 +66,17 @@ module _ (f : FileSystem) (w : is_content f.content ≡ true) (path buffer : Tex
         kept_answer f w path left fault opened_join v
         (subst (λ b. AreDirect f b
         → IfSome left (λ bytes. entries_of v.items ≡ said_entries (is_dir_in f.content b) (texts_of (names_in bytes)))) same is) whole
+
+    pub read_looked : {A E : Type 0} (R : Type 0) (r : Result (Vec (Entry A) A) E)
+        → (AreDirect f buffer
+        → IfOk r (λ v. IfSome left
+        (λ bytes. (entries_of v.items ≡ said_entries (is_followed_dir f buffer) (texts_of (names_in bytes))) ⊎ R)))
+        → (IsSome left → OnOk r (fault ≡ None)) → IfOk r (λ v. IsListAnswer (list_looked f path) (entries_of v.items) ⊎ R)
+    read_looked R (Err e) is whole = tt
+    read_looked {A} R (Ok v) is whole =
+        looked_answer f w path left fault opened_join v R
+        (subst (λ b. AreDirect f b
+        → IfSome left (λ bytes. (entries_of v.items ≡ said_entries (is_followed_dir f b) (texts_of (names_in bytes))) ⊎ R)) same is) whole
 
     pub named_kept : {A E : Type 0} (r : Result (Vec (Entry A) A) E)
         → IfOk r (λ v. IfSome left (λ bytes. names_of (entries_of v.items) ≡ texts_of (names_in bytes)))

@@ -9,6 +9,7 @@ use Rattle.std.specs.declared.fs.attrs.Metadata.{Metadata}
 use Rattle.std.specs.declared.io.Error.{Error}
 use Rattle.std.specs.declared.io.ErrorKind.TheVariants.{OutOfMemory}
 use Rattle.std.proofs.lemmas.Bool.{both_ways, not-true, not_from_false}
+use Rattle.std.proofs.lemmas.List.{append_assoc}
 use Rattle.std.proofs.lemmas.Option.{none-some, same_Some}
 use Rattle.glob_text.specs.Characters.{slash}
 use Rattle.glob_text.specs.Text.{Text}
@@ -19,11 +20,13 @@ use Rattle.glob_tree.specs.FileSystems.{FileSystem, Target, Nowhere, AFile, ADir
 use Rattle.glob_tree.specs.Followed.{look_found, look_through, look_followed, is_found_directory, IsLinkReceived}
 use Rattle.glob_tree.specs.Looks.{is_directory}
 use Rattle.glob_tree.specs.Private.Looking.{has_places, IsSeen, IsFoundAs, IsReasoned, IsWay, HasWay, LeadsOn, IsOnWay}
+use Rattle.glob_tree.specs.Strays.{and_then, Grows}
 use Rattle.glob_tree.specs.declared.kind.Kind.{Kind}
 use Rattle.glob_tree.specs.declared.kind.Kind.TheVariants.{Dir, Shut, Other}
 use Rattle.glob_tree.specs.declared.physical.Links.{Links}
 use Rattle.glob_tree.specs.declared.physical.Links.TheVariants.{Kept, Followed}
 use Rattle.glob_tree.specs.declared.tree.Look.TheVariants as look
+use Rattle.glob_tree.proofs.StraysLemmas.{and_then-append, grows_same}
 use Rattle.glob_tree.proofs.SystemLemmas.Finding.{missing_other, no_target, lstat_look, answer_directory, answer_other, answer_symlink}
 use Rattle.glob_tree.proofs.SystemLemmas.Ways.{direct_one, direct_below, nothing_below, said_no, way_above}
 
@@ -103,9 +106,18 @@ link_found f path m h s = answer_symlink (lstat_found f path) m (as_answer (lsta
 pub look_link : (f : FileSystem) (path : Text) → lstat_found f path ≡ Some Symlink → look.Other ≡ look_result f.content path
 look_link f path is = ap (look_found look.Missing) (sym is) ∙ lstat_look f path
 
--- a link was received after nothing was
-pub received_after : (f : FileSystem) (old mid new : Option (List Text)) → mid ≡ old → IsLinkReceived f mid new → IsLinkReceived f old new
-received_after f old mid new same is = subst (λ o. IsLinkReceived f o new) same is
+-- a link was received, and other paths before or after it
+pub received_after : (f : FileSystem) (old mid new : Option (List Text)) → Grows old mid → IsLinkReceived f mid new → IsLinkReceived f old new
+received_after f old mid new (xs, first) (before, after, link, here, there, is) =
+    (xs ++ before, after, link, here, there,
+    is ∙ ap (λ o. and_then o (before ++ link ∷ after)) first ∙ and_then-append old xs (before ++ link ∷ after)
+    ∙ ap (and_then old) (sym (append_assoc xs before (link ∷ after))))
+
+pub received_before : (f : FileSystem) (old mid new : Option (List Text)) → IsLinkReceived f old mid → Grows mid new → IsLinkReceived f old new
+received_before f old mid new (before, after, link, here, there, is) (ys, then) =
+    (before, after ++ ys, link, here, there,
+    then ∙ ap (λ o. and_then o ys) is ∙ and_then-append old (before ++ link ∷ after) ys
+    ∙ ap (and_then old) (append_assoc before (link ∷ after) ys))
 
 pub no_found : (o : Option Found) → o ≢ Some Directory → is_found_directory o ≡ false
 no_found None non = refl
@@ -162,6 +174,32 @@ followed_something f path m d h non is back =
     by_found (Some Symlink) h = absurd (non h)
     by_found (Some File) h = refl
 
+-- a look that follows links finds a directory where `stat` does
+pub directory_followed : (f : FileSystem) (path : Text) → is_directory (look_followed f path) ≡ is_found_directory (stat_found f path)
+unfolding look_followed lstat_found stat_found
+directory_followed f path = at_key (resolve f.content path)
+  where
+    at_target : (t : Option Target)
+        → is_directory (look_through (Some (lstat_type Other t)) (stat_type Other t)) ≡ is_found_directory (stat_type Other t)
+    at_target None = refl
+    at_target (Some Nowhere) = refl
+    at_target (Some AFile) = refl
+    at_target (Some ADirectory) = refl
+
+    at_kind : (k : Key) (o : Option Kind)
+        → is_directory (look_through (option_map (λ kind. lstat_type kind (target_at f k)) o) (option_and_then (λ kind. stat_type kind (target_at f k)) o))
+        ≡ is_found_directory (option_and_then (λ kind. stat_type kind (target_at f k)) o)
+    at_kind k None = refl
+    at_kind k (Some Dir) = refl
+    at_kind k (Some (Shut kind)) = refl
+    at_kind k (Some Other) = at_target (target_at f k)
+
+    at_key : (o : Option Key)
+        → is_directory (look_through (option_and_then (lstat_at f) o) (option_and_then (stat_at f) o))
+        ≡ is_found_directory (option_and_then (stat_at f) o)
+    at_key None = refl
+    at_key (Some k) = at_kind k (kind_at f.content k)
+
 -- what is no directory where links are followed is none
 pub no_directory_followed : (f : FileSystem) (path : Text) → is_directory (look_followed f path) ≡ false → is_directory (look_result f.content path) ≡ false
 unfolding look_followed
@@ -188,7 +226,7 @@ missing_followed f path h = by_found (lstat_found f path) (lstat_look f path ∙
 pub reasoned : (f : FileSystem) (old mid new : Option (List Text)) → mid ≡ old → (P Q : Type 0) → (P → Q) → (yes : Bool) → yes ≡ false
     → IsReasoned f mid new P yes → IsReasoned f old new Q false
 reasoned f old mid new same P Q of true non is = absurd (both_ways true non refl)
-reasoned f old mid new same P Q of false non is = ⊎_elim (λ p. inl (of p)) (λ r. inr (received_after f old mid new same r)) is
+reasoned f old mid new same P Q of false non is = ⊎_elim (λ p. inl (of p)) (λ r. inr (received_after f old mid new (grows_same old mid same) r)) is
 
 -- the ways of a path
 pub way_of_one : (f : FileSystem) → is_content f.content ≡ true → (path : Text) → has_no_slash path ≡ true → HasWay f path true

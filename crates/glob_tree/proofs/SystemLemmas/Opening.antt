@@ -1,5 +1,5 @@
 -- A listing, by what an opened directory has to read: of a path that leads to a directory, all that is asked is direct.
-use Rattle.std.proofs.Common.{◌≡◌, ℕ, ◌-◌, Bool, true, false, not, cond, inl, inr, ⊎_elim, List, [], ◌∷◌, ◌++◌, length, map, take, Option, Some, None, refl, ap, sym, subst, ◌∙◌, arith}
+use Rattle.std.proofs.Common.{◌≡◌, ◌⊎◌, ℕ, ◌-◌, Bool, true, false, not, cond, inl, inr, ⊎_elim, List, [], ◌∷◌, ◌++◌, length, map, take, Option, Some, None, refl, ap, sym, subst, ◌∙◌, arith}
 use Rattle.std.specs.Prelude.{IfSome, IsSome, IsPermutation, Vec}
 use Rattle.std.specs.IoError.{error_kind}
 use Rattle.std.specs.List.{list_all}
@@ -18,9 +18,9 @@ use Rattle.glob_tree.specs.Answers.{entries_of, names_of, IsEntriesAnswer, IsLis
 use Rattle.glob_tree.specs.Content.{Content, Key, is_content, kind_at, resolve, DirEntry, ListAnswer, Entries, Fails, NoDirectory, list_of, list_found, list_result}
 use Rattle.glob_tree.specs.Directories.{names_in}
 use Rattle.glob_tree.specs.FileSystems.{FileSystem, IsOpened, OpenMayFail, IsReceived, is_direct, strays_at, strays_found}
-use Rattle.glob_tree.specs.Followed.{answer_followed, entry_followed, list_followed}
+use Rattle.glob_tree.specs.Followed.{answer_followed, entry_followed, list_followed, list_looked}
 use Rattle.glob_tree.specs.Paths.{join, is_proper}
-use Rattle.glob_tree.specs.Private.Listing.{are_looked_up, is_said_dir, is_dir_in, said_entries, is_text_name, are_text_names, IsEntriesError}
+use Rattle.glob_tree.specs.Private.Listing.{are_looked_up, is_said_dir, is_followed_dir, is_dir_in, said_entries, is_text_name, are_text_names, IsEntriesError}
 use Rattle.glob_tree.specs.Private.Looking.{AreDirect, IsWay}
 use Rattle.glob_tree.specs.Strays.{and_then, texts_of, strays_of}
 use Rattle.glob_tree.specs.declared.disk.Kinds.{Kinds}
@@ -255,6 +255,29 @@ module _ (f : FileSystem) (w : is_content f.content ≡ true) (path : Text) (lef
       by_leads : LeadsOrNot f.content path → IsListError (list_result f.content path) (Read x)
       by_leads (Not none) = subst (λ a. IsListError a (Read x)) (sym none) tt
       by_leads (Leads k at) = by_answer (list_result f.content path) refl (opened_there k at)
+
+  -- and where they are followed
+  pub looked_answer : {A : Type 0} (v : Vec (Entry A) A) (R : Type 0)
+      → (AreDirect f (join path [])
+      → IfSome left (λ bytes. (entries_of v.items ≡ said_entries (is_followed_dir f (join path [])) (texts_of (names_in bytes))) ⊎ R))
+      → (IsSome left → fault ≡ None) → IsListAnswer (list_looked f path) (entries_of v.items) ⊎ R
+  looked_answer {A} v R is whole = by_leads (leads_or_not f.content path)
+    where
+      by_answer : (k : Key) → LeadsTo f.content path k → (a : ListAnswer) → list_result f.content path ≡ a
+          → IsOpened a (strays_found f path) left fault → IsListAnswer (answer_followed f path a []) (entries_of v.items) ⊎ R
+      by_answer k at (Entries es) from (bytes, known, end, (moved, strays)) =
+          ⊎_elim
+          (λ said. inl (subst (IsPermutation (map (entry_followed f path) es)) (sym said)
+              (entries_followed f path LookedUp es (texts_of (names_in bytes)) moved)))
+          (λ r. inr r)
+          (subst (λ o. IfSome o (λ bs. (entries_of v.items ≡ said_entries (is_followed_dir f (join path [])) (texts_of (names_in bs))) ⊎ R)) known
+          (is (direct_names f w path k at)))
+      by_answer k at (Fails kind) from (known, ends) = absurd (none-some kind (sym (whole known) ∙ ends))
+      by_answer k at NoDirectory from opened = inl tt
+
+      by_leads : LeadsOrNot f.content path → IsListAnswer (list_looked f path) (entries_of v.items) ⊎ R
+      by_leads (Not none) = inl (subst (λ a. IsListAnswer (answer_followed f path a []) (entries_of v.items)) (sym none) tt)
+      by_leads (Leads k at) = by_answer k at (list_result f.content path) refl (opened_there k at)
 
   -- the names, wherever links point
   pub kept_names : (names : List Text) → IfSome left (λ bytes. names ≡ texts_of (names_in bytes))

@@ -22,9 +22,13 @@ abbrev pub are_looked_up : Kinds → Bool
 are_looked_up LookedUp = true
 are_looked_up LeftOut = false
 
--- Whether a name in a directory is said to be one, where links are followed. The path ends in a separator.
+-- Whether a name in a directory is one, where links are followed. The path ends in a separator.
+abbrev pub is_followed_dir : FileSystem → (path name : Text) → Bool
+is_followed_dir f path name = is_found_directory (stat_found f (path ++ name))
+
+-- and whether it is said to be one
 abbrev pub is_said_dir : FileSystem → Kinds → (path name : Text) → Bool
-is_said_dir f LookedUp path name = is_found_directory (stat_found f (path ++ name))
+is_said_dir f LookedUp path name = is_followed_dir f path name
 is_said_dir f LeftOut path name = false
 
 -- and where the content has each link

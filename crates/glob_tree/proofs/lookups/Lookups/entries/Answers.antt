@@ -2,7 +2,7 @@ use Rattle.std.proofs.Common.{sym, subst, ◌∙◌}
 use Rattle.std.specs.String.{string_bytes}
 use Rattle.glob_tree.specs.FileSystems.{IsHeld}
 use Rattle.glob_tree.specs.Private.Looking.{LookupsModel}
-use Rattle.glob_tree.proofs.SystemLemmas.Answering.{opened_at, read_kept, fault_kept, named_kept, received, unopened_kept}
+use Rattle.glob_tree.proofs.SystemLemmas.Answering.{opened_at, read_kept, read_looked, fault_kept, named_kept, received, unopened_kept}
 use Rattle.glob_tree.proofs.lookups.Lookups.entries.Goals as goal
 
 pub returns-in_err-directory-clause-fails : goal.returns-in_err-directory-clause-fails
@@ -38,3 +38,10 @@ returns-clause-named g c = λ f held.
     (opened_at f c.as_str.result.now (string_bytes c.in_ok-path.path) c.as_str.ensures.value _ _
     (c.in_ok-directory.ensures.opened f (subst (λ (d : LookupsModel _). IsHeld d.files f) (sym c.self.view_is) held)))
     c.read_entries.result c.read_entries.ensures.names c.read_entries.ensures.whole
+
+pub returns-clause-followed : goal.returns-clause-followed
+returns-clause-followed g c = λ f held links.
+    read_looked f held.1 c.args.path.now (string_bytes c.in_ok-path.path) c.in_ok-path.ensures (g.R.Dir.Directory.left c.in_ok-directory.directory) (g.R.Dir.Directory.fault c.in_ok-directory.directory)
+    (opened_at f c.as_str.result.now (string_bytes c.in_ok-path.path) c.as_str.ensures.value _ _
+    (c.in_ok-directory.ensures.opened f (subst (λ (d : LookupsModel _). IsHeld d.files f) (sym c.self.view_is) held)))
+    _ c.read_entries.result (λ direct. c.read_entries.ensures.followed f held direct links) c.read_entries.ensures.whole

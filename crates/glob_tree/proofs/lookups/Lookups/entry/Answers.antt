@@ -7,3 +7,8 @@ pub returns-clause-kind : goal.returns-clause-kind
 returns-clause-kind g c = λ f seen direct.
     let proper : is_proper c.args.name.now ≡ true = search rules in
     c.in_ok-is_dir.ensures.directory f seen (direct c.args.name.now (IsName-from_proper c.args.name.now proper).plain)
+
+pub returns-clause-followed : goal.returns-clause-followed
+returns-clause-followed g c = λ f held direct links.
+    let proper : is_proper c.args.name.now ≡ true = search rules in
+    c.in_ok-is_dir.ensures.followed f held (direct c.args.name.now (IsName-from_proper c.args.name.now proper).plain) links

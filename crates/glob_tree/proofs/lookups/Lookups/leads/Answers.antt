@@ -1,6 +1,7 @@
 use Rattle.std.proofs.Common.{rules, ◌≡◌, true, false, inl, inr, ⊎_elim, refl, sym, subst, ◌∙◌}
 use Rattle.glob_tree.specs.FileSystems.{IsHeld, is_direct}
 use Rattle.glob_tree.specs.Private.Looking.{IsSeen}
+use Rattle.glob_tree.proofs.StraysLemmas.{grows_same}
 use Rattle.glob_tree.proofs.SystemLemmas.Looking.{no_directory_followed, received_after, step_way, last_way, step_none, no_way}
 use Rattle.glob_tree.proofs.SystemLemmas.Ways.{direct_above}
 use Rattle.glob_tree.proofs.lookups.Lookups.leads.Goals as goal
@@ -19,7 +20,7 @@ returns-then-not-branch-clause-followed g c = λ f held direct links.
     let none : c.in_ok-is_dir.field-0 ≡ false = search rules in
     ⊎_elim
     (λ is. inl (kept.4 f (c.loop-directory-test.ensures.some refl) (no_directory_followed f c.loop-directory.directory.now (sym is ∙ none))))
-    (λ r. inr (received_after f _ _ _ kept.6 r))
+    (λ r. inr (received_after f _ _ _ (grows_same _ _ kept.6) r))
     (c.in_ok-is_dir.ensures.followed f (subst (λ o. IsHeld o f) (sym kept.1) held) (kept.5 f held direct) (kept.2 ∙ links))
 
 pub loop-directory-preserved : goal.loop-directory-preserved
