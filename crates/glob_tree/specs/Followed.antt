@@ -1,11 +1,13 @@
 -- What a tree answers that follows symbolic links.
-use Rattle.std.specs.Prelude.{◌≡◌, Bool, true, false, ◌||◌, if◌then◌else◌, List, [], ◌∷◌, ◌++◌, map, Option, Some, None}
+use Rattle.std.specs.Prelude.{◌≡◌, Bool, true, false, if◌then◌else◌, List, [], ◌∷◌, ◌++◌, map, Option, Some, None}
 use Rattle.std.specs.declared.io.ErrorKind.TheVariants.{InvalidFilename}
 use Rattle.glob_text.specs.Text.{Text}
 use Rattle.glob_tree.specs.Content.{Content, Key, DirEntry, ListAnswer, Entries, Fails, NoDirectory, list_result}
-use Rattle.glob_tree.specs.FileSystems.{FileSystem, Found, Directory, Symlink, File, has_directory_links, lstat_found, stat_found, strays_found}
+use Rattle.glob_tree.specs.Disks.{content_with_links}
+use Rattle.glob_tree.specs.FileSystems.{FileSystem, Found, Directory, Symlink, File, lstat_found, stat_found, strays_found}
 use Rattle.glob_tree.specs.Paths.{join}
 use Rattle.glob_tree.specs.Strays.{and_then}
+use Rattle.glob_tree.specs.declared.physical.Links.TheVariants.{Followed}
 use Rattle.glob_tree.specs.declared.tree.Look.{Look}
 use Rattle.glob_tree.specs.declared.tree.Look.TheVariants as look
 
@@ -52,10 +54,9 @@ abbrev pub has_strays : List (Key × Text) → Bool
 has_strays [] = false
 has_strays (s ∷ ss) = true
 
--- What such a tree has of a file system. A link to a directory and a name that is not UTF-8 have no place in a content,
--- so with one nothing is known.
+-- What such a tree has of a file system. A name that is not UTF-8 has no place in a content either.
 abbrev pub followed : FileSystem → Option Content
-followed f = if has_directory_links f || has_strays f.strays then None else Some f.content
+followed f = if has_strays f.strays then None else content_with_links Followed f
 
 -- Paths were received, among them that of a symbolic link to a directory, which was taken for one on the way to it.
 abbrev pub IsLinkReceived : FileSystem → (old new : Option (List Text)) → Type 0

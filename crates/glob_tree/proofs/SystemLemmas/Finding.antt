@@ -1,13 +1,11 @@
 -- What is found at a path, and the look that reports it.
-use Rattle.std.proofs.Common.{◌≡◌, ◌≢◌, Bool, true, false, cond, ◌&&◌, not, ◌||◌, List, [], ◌∷◌, Option, Some, None, Result, Ok, Err, refl, ap, sym, ◌∙◌, arith}
+use Rattle.std.proofs.Common.{◌≡◌, Bool, true, false, cond, ◌&&◌, not, List, [], ◌∷◌, Option, Some, None, Result, Ok, Err, refl, ap, sym, ◌∙◌, arith}
 use Rattle.std.specs.Prelude.{find, option_map, option_and_then, IfOk, IsOkAnd}
 use Rattle.std.specs.Fs.{file_type, IsDir, IsSymlink}
-use Rattle.std.specs.IoError.{error_kind}
 use Rattle.std.specs.List.{list_any}
 use Rattle.std.specs.declared.fs.attrs.FileType.{FileType}
 use Rattle.std.specs.declared.fs.attrs.Metadata.{Metadata}
 use Rattle.std.specs.declared.io.Error.{Error}
-use Rattle.std.specs.declared.io.ErrorKind.TheVariants.{OutOfMemory}
 use Rattle.std.proofs.lemmas.Bool.{both_ways, not_from_false, or_from, or_parts}
 use Rattle.std.proofs.lemmas.Option.{none-some, same_Some}
 use Rattle.glob_text.specs.Pieces.{pieces}
@@ -32,14 +30,15 @@ pub record Follows (files : Option FileSystem) (c : Content) : Type 0 where
 
 pub Follows-from_told : (files : Option FileSystem) (c : Content) → IsTold (option_and_then followed files) c → Follows files c
 Follows-from_told None c told = absurd (none-some c told.0)
-Follows-from_told (Some f) c told = by_test (has_directory_links f || has_strays f.strays) refl told.0
+Follows-from_told (Some f) c told = by_test (has_strays f.strays) (has_directory_links f) refl refl told.0
   where
-    by_test : (b : Bool) → (has_directory_links f || has_strays f.strays) ≡ b → cond b None (Some f.content) ≡ Some c → Follows (Some f) c
-    by_test true e h = absurd (none-some c h)
-    by_test false e h =
+    by_test : (strays links : Bool) → has_strays f.strays ≡ strays → has_directory_links f ≡ links
+        → cond strays None (cond links None (Some f.content)) ≡ Some c → Follows (Some f) c
+    by_test true links d e h = absurd (none-some c h)
+    by_test false true d e h = absurd (none-some c h)
+    by_test false false d e h =
         let same = same_Some f.content c h in
-        let parts = or_parts (has_directory_links f) (has_strays f.strays) e in
-        record { f = f; held = (refl, ap is_content same ∙ told.1); same = same; no_links = parts.0; no_strays = parts.1 }
+        record { f = f; held = (refl, ap is_content same ∙ told.1); same = same; no_links = e; no_strays = d }
 
 and_no : (a b : Bool) → b ≡ false → (a && b) ≡ false
 and_no true b h = h
@@ -161,9 +160,6 @@ answer_symlink None m h s = absurd h
 answer_symlink (Some Directory) m h s = absurd (type_differs (file_type m) h s)
 answer_symlink (Some Symlink) m h s = refl
 answer_symlink (Some File) m h s = absurd (h.1 s)
-
-pub answer_none : (absent : Look) (found : Option Found) (e : Error) → IsStatAnswer found (Err e) → error_kind e ≢ OutOfMemory → absent ≡ look_found absent found
-answer_none absent found e h non = sym (ap (look_found absent) (h non))
 
 found_looked : (o : Option Found) → is_found_directory o ≡ is_directory (look_found look.Missing o)
 found_looked None = refl

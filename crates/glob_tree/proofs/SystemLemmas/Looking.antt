@@ -1,14 +1,11 @@
 -- What lookups that keep or follow links say of a path.
-use Rattle.std.proofs.Common.{◌≡◌, ◌≢◌, ℕ, Bool, true, false, cond, inl, inr, ⊎_elim, List, [], ◌∷◌, ◌++◌, Option, Some, None, Ok, Err, refl, ap, sym, subst, ◌∙◌}
-use Rattle.std.specs.Prelude.{option_map, option_and_then}
+use Rattle.std.proofs.Common.{◌≡◌, ◌≢◌, ℕ, Bool, true, false, cond, inl, inr, ⊎_elim, List, [], ◌∷◌, ◌++◌, Option, Some, None, Ok, refl, ap, sym, subst, ◌∙◌}
+use Rattle.std.specs.Prelude.{is_some, option_map, option_and_then}
 use Rattle.std.specs.Fs.{file_type, IsDir, IsSymlink}
-use Rattle.std.specs.IoError.{error_kind}
 use Rattle.std.specs.List.{list_any}
 use Rattle.std.specs.Path.{has_no_slash}
 use Rattle.std.specs.declared.fs.attrs.Metadata.{Metadata}
-use Rattle.std.specs.declared.io.Error.{Error}
-use Rattle.std.specs.declared.io.ErrorKind.TheVariants.{OutOfMemory}
-use Rattle.std.proofs.lemmas.Bool.{both_ways, not-true, not_from_false}
+use Rattle.std.proofs.lemmas.Bool.{both_ways}
 use Rattle.std.proofs.lemmas.List.{append_assoc}
 use Rattle.std.proofs.lemmas.Option.{none-some, same_Some}
 use Rattle.glob_text.specs.Characters.{slash}
@@ -47,19 +44,12 @@ Sees-from_told Followed (Some f) c told = by_test (has_directory_links f) refl t
     by_test true e h = absurd (none-some c h)
     by_test false e h =
         let same = same_Some f.content c h in
-        record { f = f; seen = ((refl, ap is_content same ∙ told.1), not_from_false (has_directory_links f) e); same = same }
+        record { f = f; seen = ((refl, ap is_content same ∙ told.1), ap (λ b. is_some (cond b None (Some f.content))) e); same = same }
 
--- what a disk is told of metadata
-pub as_found : (found : Option Found) (m : Metadata) → IsStatAnswer found (Ok m) → IsFoundAs found (Some m)
-as_found None m h = absurd h
-as_found (Some t) m h = h
-
+-- the metadata of what is found
 as_answer : (found : Option Found) (m : Metadata) → IsFoundAs found (Some m) → IsStatAnswer found (Ok m)
 as_answer None m h = absurd h
 as_answer (Some t) m h = h
-
-pub as_nothing : (found : Option Found) (e : Error) → IsStatAnswer found (Err e) → error_kind e ≢ OutOfMemory → IsFoundAs found None
-as_nothing found e h non = subst (λ o. IsFoundAs o None) (sym (h non)) tt
 
 none_found : (found : Option Found) → IsFoundAs found None → look.Missing ≡ look_found look.Missing found
 none_found None h = refl
@@ -81,7 +71,11 @@ unfolding lstat_found stat_found
 no_directory_there f path places h is = at_key (resolve f.content path) h is
   where
     no_links : list_any (λ e. is_a_directory e.1) f.links ≡ false
-    no_links = not-true (list_any (λ e. is_a_directory e.1) f.links) places
+    no_links = by_test (has_directory_links f) places
+      where
+        by_test : (b : Bool) → is_some (cond b None (Some f.content)) ≡ true → b ≡ false
+        by_test true h = absurd (both_ways false refl h)
+        by_test false h = refl
 
     at_target : (k : Key) (t : Option Target) → target_at f k ≡ t → stat_type Other t ≡ Some Directory → ⊥
     at_target k None e is = both_ways false refl (ap is_found_directory is)
@@ -108,16 +102,26 @@ look_link f path is = ap (look_found look.Missing) (sym is) ∙ lstat_look f pat
 
 -- a link was received, and other paths before or after it
 pub received_after : (f : FileSystem) (old mid new : Option (List Text)) → Grows old mid → IsLinkReceived f mid new → IsLinkReceived f old new
-received_after f old mid new (xs, first) (before, after, link, here, there, is) =
-    (xs ++ before, after, link, here, there,
-    is ∙ ap (λ o. and_then o (before ++ link ∷ after)) first ∙ and_then-append old xs (before ++ link ∷ after)
-    ∙ ap (and_then old) (sym (append_assoc xs before (link ∷ after))))
+received_after f old mid new (xs, first) (before, after, link, here, there, is) = (
+  xs ++ before,
+  after,
+  link,
+  here,
+  there,
+  is ∙ ap (λ o. and_then o (before ++ link ∷ after)) first ∙ and_then-append old xs (before ++ link ∷ after)
+      ∙ ap (and_then old) (sym (append_assoc xs before (link ∷ after))),
+)
 
 pub received_before : (f : FileSystem) (old mid new : Option (List Text)) → IsLinkReceived f old mid → Grows mid new → IsLinkReceived f old new
-received_before f old mid new (before, after, link, here, there, is) (ys, then) =
-    (before, after ++ ys, link, here, there,
-    then ∙ ap (λ o. and_then o ys) is ∙ and_then-append old (before ++ link ∷ after) ys
-    ∙ ap (and_then old) (append_assoc before (link ∷ after) ys))
+received_before f old mid new (before, after, link, here, there, is) (ys, then) = (
+  before,
+  after ++ ys,
+  link,
+  here,
+  there,
+  then ∙ ap (λ o. and_then o ys) is ∙ and_then-append old (before ++ link ∷ after) ys
+      ∙ ap (and_then old) (append_assoc before (link ∷ after) ys),
+)
 
 pub no_found : (o : Option Found) → o ≢ Some Directory → is_found_directory o ≡ false
 no_found None non = refl

@@ -268,7 +268,7 @@ module _ (f : FileSystem) (w : is_content f.content ≡ true) (path : Text) (lef
       by_answer k at (Entries es) from (bytes, known, end, (moved, strays)) =
           ⊎_elim
           (λ said. inl (subst (IsPermutation (map (entry_followed f path) es)) (sym said)
-              (entries_followed f path LookedUp es (texts_of (names_in bytes)) moved)))
+          (entries_followed f path LookedUp es (texts_of (names_in bytes)) moved)))
           (λ r. inr r)
           (subst (λ o. IfSome o (λ bs. (entries_of v.items ≡ said_entries (is_followed_dir f (join path [])) (texts_of (names_in bs))) ⊎ R)) known
           (is (direct_names f w path k at)))

@@ -1,16 +1,16 @@
 -- What lookups say of paths, where links are kept or followed.
-use Rattle.std.specs.Prelude.{◌≡◌, ◌≢◌, ◌⊎◌, ◌++◌, ◌∷◌, [], Bool, true, false, not, List, Option, None, Some, ⊤}
+use Rattle.std.specs.Prelude.{◌≡◌, ◌≢◌, ◌⊎◌, ◌++◌, ◌∷◌, [], Bool, true, false, List, Option, None, Some, is_some, ⊤}
 use Rattle.std.specs.Fs.{file_type}
 use Rattle.std.specs.Path.{has_no_slash}
 use Rattle.std.specs.declared.fs.attrs.Metadata.{Metadata}
 use Rattle.glob_text.specs.Characters.{slash}
 use Rattle.glob_text.specs.Text.{Text}
 use Rattle.glob_tree.specs.Content.{Content, look_result}
-use Rattle.glob_tree.specs.FileSystems.{FileSystem, Found, HasType, IsHeld, has_directory_links, is_direct}
+use Rattle.glob_tree.specs.Disks.{content_with_links}
+use Rattle.glob_tree.specs.FileSystems.{FileSystem, Found, HasType, IsHeld, is_direct}
 use Rattle.glob_tree.specs.Followed.{IsLinkReceived}
 use Rattle.glob_tree.specs.Looks.{is_directory}
 use Rattle.glob_tree.specs.declared.physical.Links.{Links}
-use Rattle.glob_tree.specs.declared.physical.Links.TheVariants.{Kept, Followed}
 use Rattle.glob_tree.specs.declared.tree.Look.TheVariants as look
 
 -- what contracts see of the lookups of a disk
@@ -21,8 +21,7 @@ pub record LookupsModel (S : Type 0) : Type 0 where
 
 -- a content has a place for each link, if links are kept or none points to a directory
 abbrev pub has_places : Links → FileSystem → Bool
-has_places Kept f = true
-has_places Followed f = not (has_directory_links f)
+has_places links f = is_some (content_with_links links f)
 
 -- the files are known to be f, and f has a content
 abbrev pub IsSeen : Links → Option FileSystem → FileSystem → Type 0

@@ -53,13 +53,13 @@ loop-name-preserved g c = elim c.match-from_utf8.branch [
     grows = grows_then _ _ _ c.loop-name.invariant.grows w.in_ok-entry-in-Ok.ensures.grows;
     followed = λ f held direct links. ⊎_elim
         (λ so_far. ⊎_elim
-            (λ kind. inl (ap entries_of w.in_ok-push-in-Ok.ensures.items
-                ∙ text_said c.args.names.now c.loop-name.name-index _ c.loop-name-test.true (is_followed_dir f) (string_bytes c.args.path.now) (string_bytes c.loop-name.path) c.loop-name.invariant.path
-                c.loop-name.entries.items w.in_ok-entry-in-Ok.field-0 w.in-Ok.name.now so_far w.in_ok-entry-in-Ok.ensures.name
-                w.in-Ok.ensures.cases.0 w.in-Ok.ensures.cases.1 (kind ∙ directory_followed f (string_bytes c.loop-name.path ++ w.in-Ok.name.now))))
-            (λ r. inr (received_after f _ _ _ c.loop-name.invariant.grows r))
-            (w.in_ok-entry-in-Ok.ensures.followed f (subst (λ o. IsHeld o f) (sym c.loop-name.invariant.files) held)
-            (subst (AreDirect f) (sym c.loop-name.invariant.path) direct) (c.loop-name.invariant.links ∙ links)))
+        (λ kind. inl (ap entries_of w.in_ok-push-in-Ok.ensures.items
+        ∙ text_said c.args.names.now c.loop-name.name-index _ c.loop-name-test.true (is_followed_dir f) (string_bytes c.args.path.now) (string_bytes c.loop-name.path) c.loop-name.invariant.path
+        c.loop-name.entries.items w.in_ok-entry-in-Ok.field-0 w.in-Ok.name.now so_far w.in_ok-entry-in-Ok.ensures.name
+        w.in-Ok.ensures.cases.0 w.in-Ok.ensures.cases.1 (kind ∙ directory_followed f (string_bytes c.loop-name.path ++ w.in-Ok.name.now))))
+        (λ r. inr (received_after f _ _ _ c.loop-name.invariant.grows r))
+        (w.in_ok-entry-in-Ok.ensures.followed f (subst (λ o. IsHeld o f) (sym c.loop-name.invariant.files) held)
+        (subst (AreDirect f) (sym c.loop-name.invariant.path) direct) (c.loop-name.invariant.links ∙ links)))
         (λ r. inr (received_before f _ _ _ r w.in_ok-entry-in-Ok.ensures.grows))
         (c.loop-name.invariant.followed f held direct links);
   })
@@ -83,7 +83,7 @@ loop-name-preserved g c = elim c.match-from_utf8.branch [
             let same = w.stray.ensures.paths ∙ ap (λ (d : LookupsModel _). g.S.Strays.paths d.strays) w.self-in-Err.view_is in
             ⊎_elim
             (λ so_far. inl (so_far ∙ ap (said_entries (is_followed_dir f (string_bytes c.args.path.now)))
-                (sym (no_text_next c.args.names.now c.loop-name.name-index _ c.loop-name-test.true w.in-Err.ensures.cases.0))))
+            (sym (no_text_next c.args.names.now c.loop-name.name-index _ c.loop-name-test.true w.in-Err.ensures.cases.0))))
             (λ r. inr (received_before f _ _ _ r (grows_same _ _ same)))
             (c.loop-name.invariant.followed f held direct links);
       })
