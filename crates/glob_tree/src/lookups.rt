@@ -1,17 +1,18 @@
 //! What the calls of a system say of paths, and of the entries of a directory, where links are kept or followed.
-ghost use Rattle.std.specs.Prelude.{if◌then◌else◌, ◌≡◌, ◌≢◌, ◌⊎◌, ◌++◌, ◌∷◌, [], true, false, Option, None, Some, map, string_bytes, IfOk, IfErr, IfSome, IsSome, OnOk};
-ghost use Rattle.std.specs.Fs.{file_type, IsDir, IsSymlink};
+ghost use Rattle.std.specs.Prelude.{if◌then◌else◌, ◌≡◌, ◌≢◌, ◌⊎◌, ◌++◌, [], true, false, None, map, string_bytes, IfOk, IfErr, IfSome, IsSome, OnOk};
 ghost use Rattle.glob_tree.specs.Answers.{IsListAnswer, IsListError, IsNameAnswer, entries_of, names_of};
 ghost use Rattle.glob_tree.specs.Content.{list_result, look_result};
 ghost use Rattle.glob_tree.specs.Directories.{HasEnded, names_in as names_of_bytes};
-ghost use Rattle.glob_tree.specs.FileSystems.{FileSystem, IsHeld, IsReceived, is_direct, lstat_found, stat_found, strays_found};
-ghost use Rattle.glob_tree.specs.Followed.{is_found_directory, IsLinkReceived, list_looked, look_followed};
+ghost use Rattle.glob_tree.specs.FileSystems.{FileSystem, IsHeld, IsReceived, is_direct, lstat_found, strays_found};
+ghost use Rattle.glob_tree.specs.Followed.{IsLinkReceived, list_looked, look_followed};
 ghost use Rattle.glob_tree.specs.Looks.{is_directory};
 ghost use Rattle.glob_tree.specs.Paths.{is_proper as is_proper_text};
 ghost use Rattle.glob_tree.specs.Private.Looking.{AreDirect, HasWay, IsFoundAs, IsReasoned, IsSeen, IsWay, LeadsOn};
 ghost use Rattle.glob_tree.specs.Private.Listing.{IsEntriesError, IsNameError, are_text_names, is_dir_in as is_in, is_followed_dir, said_entries};
 ghost use Rattle.glob_tree.specs.Strays.{and_then, Grows, texts_of, strays_of};
 ghost use Rattle.glob_tree.specs.declared.physical.Links.TheVariants.{Followed};
+
+mod following;
 
 use crate::directory::{names_in, read_directory};
 use crate::name::{is_proper, name_from_proper};
@@ -24,8 +25,6 @@ use std::alloc::{AllocError, Allocator};
 use std::fs::Metadata;
 use std::io::{self, ErrorKind};
 use std::marker::Model;
-use std::os::unix::fs::MetadataExt;
-use std::path::Path;
 
 /// The calls of a system, whether they follow links, and who receives what they leave unsettled.
 #[derive(Drop)]
@@ -349,71 +348,6 @@ impl<R: System, S: Strays, A: Allocator + Copy> Lookups<R, S, A> {
         Ok(self.look_at(path)?.is_dir())
     }
 
-    /// Whether a link points to a directory that is not on the way down to it: one that is would be entered for ever.
-    fn leads_on(&mut self, link: &str) -> Result<bool, AllocError>
-        ensures files { self.new.files ≡ self.old.files }
-        ensures links { self.new.links ≡ self.old.links }
-        ensures strays { S.names self.new.strays ≡ S.names self.old.strays }
-        ensures leads { (f : FileSystem) → IsHeld self.old.files f → is_direct f link.now ≡ true
-            → IfOk result (λ yes. (yes ≡ is_found_directory (stat_found f link.now))
-            ⊎ ((yes ≡ false) × (is_found_directory (stat_found f link.now) ≡ true)
-            × (S.paths self.new.strays ≡ and_then (S.paths self.old.strays) (link.now ∷ [])))) }
-        ensures settled { IfOk result (λ yes. yes ≡ true
-            → S.paths self.new.strays ≡ S.paths self.old.strays) }
-        ensures grows { OnOk result (Grows (S.paths self.old.strays) (S.paths self.new.strays)) }
-    {
-        let Some(target) = self.target(link)? else {
-            return Ok(false);
-        };
-        if !target.is_dir() {
-            return Ok(false);
-        }
-        let is_loop = self.is_above(&target, link)?;
-        if is_loop {
-            self.strays
-                .unsettled(link, &io::Error::from(ErrorKind::FilesystemLoop));
-        }
-        Ok(!is_loop)
-    }
-
-    /// Whether a directory is on the way down to a path: from the root or the current directory, or from the last `..`.
-    fn is_above(&self, directory: &Metadata, path: &str) -> Result<bool, AllocError> {
-        for above in Path::new(path).ancestors().skip(1) {
-            if self.is_at(directory, above.as_str())? {
-                return Ok(true);
-            }
-            if above.file_name().is_none() {
-                break;
-            }
-        }
-        Ok(false)
-    }
-
-    /// Whether a directory is the one at a path; the empty path is the current directory. Where the system numbers no
-    /// files, all of them have the number 0, and none is known to be another.
-    fn is_at(&self, directory: &Metadata, path: &str) -> Result<bool, AllocError> {
-        let path = if path.is_empty() { "." } else { path };
-        match self.rt.stat(path) {
-            Ok(found) => Ok(
-                directory.ino() != 0
-                    && found.ino() == directory.ino()
-                    && found.dev() == directory.dev(),
-            ),
-            Err(error) if error.kind() == ErrorKind::OutOfMemory => Err(AllocError),
-            Err(_) => Ok(false),
-        }
-    }
-
-    /// Whether what has this metadata is a link that is followed.
-    fn is_followed(&self, found: &Metadata) -> bool
-        ensures yes { result ≡ true
-            → (self.now.links ≡ Followed) × IsSymlink (file_type found.now) }
-        ensures no { result ≡ false → self.now.links ≡ Followed
-            → IsSymlink (file_type found.now) → ⊥ }
-    {
-        self.links == Links::Followed && found.is_symlink()
-    }
-
     /// What is at a path, itself a link or not.
     fn found(&mut self, path: &str) -> Result<Option<Metadata>, AllocError>
         ensures files { self.new.files ≡ self.old.files }
@@ -427,21 +361,6 @@ impl<R: System, S: Strays, A: Allocator + Copy> Lookups<R, S, A> {
     {
         let answer = self.rt.lstat(path);
         settle(&mut self.strays, path, answer)
-    }
-
-    /// What the link at a path points to.
-    fn target(&mut self, link: &str) -> Result<Option<Metadata>, AllocError>
-        ensures files { self.new.files ≡ self.old.files }
-        ensures links { self.new.links ≡ self.old.links }
-        ensures strays { S.names self.new.strays ≡ S.names self.old.strays }
-        ensures found { (f : FileSystem) → IsHeld self.old.files f → is_direct f link.now ≡ true
-            → IfOk result (λ metadata. IsFoundAs (stat_found f link.now) metadata) }
-        ensures known { IfOk result (λ metadata. IsSome metadata
-            → S.paths self.new.strays ≡ S.paths self.old.strays) }
-        ensures grows { OnOk result (Grows (S.paths self.old.strays) (S.paths self.new.strays)) }
-    {
-        let answer = self.rt.stat(link);
-        settle(&mut self.strays, link, answer)
     }
 }
 
