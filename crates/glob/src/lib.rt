@@ -20,8 +20,8 @@
 //!
 //! [`glob`] walks the file system and gives each path that a pattern leads to; [`glob_with`] takes options. [`glob_in`]
 //! walks any [`Tree`] within a limit, item by item, and [`walk_in`] gathers a whole walk. [`MemTree`] is a tree in
-//! memory, and [`Disk`] the file system. A [`WalkMachine`] is a walk without a tree, whose questions any program
-//! answers.
+//! memory, and [`Disk`] the file system that a [`System`] reaches: the real one or, for tests, a [`MemSystem`]. A
+//! [`WalkMachine`] is a walk without a tree, whose questions any program answers.
 //!
 //! A call that makes or grows something takes its allocator, and reports an allocation failure as an error.
 #![tactic(auto)]
