@@ -37,7 +37,8 @@ pub use glob_pattern::{
     Judge, MatchOptions, Pattern, PatternError, PatternRefusal, Shape, run_positions,
 };
 pub use glob_tree::{
-    Asks, Directory, Disk, Entry, ListError, Look, MemSystem, MemTree, Name, System, Tree, TreeRefusal,
+    Asks, Directory, Disk, Entry, ListError, Look, MemSystem, MemTree, Name, System, Tree,
+    TreeRefusal,
 };
 pub use glob_walk::{Answer, End, GlobCause, GlobError, GlobResult, Step, WalkMachine, is_plain};
 pub use paths::{Paths, glob_in};

@@ -202,7 +202,8 @@ impl<R: System, S: Strays, A: Allocator + Copy> Lookups<R, S, A> {
         ensures followed { (f : FileSystem) → IsHeld self.old.files f
             → AreDirect f (string_bytes path.old) → self.old.links ≡ Followed
             → IfOk result (λ v. IfSome (D.left directory.old) (λ bytes. (entries_of v.items
-            ≡ said_entries (is_followed_dir f (string_bytes path.old)) (texts_of (names_of_bytes bytes)))
+            ≡ said_entries (is_followed_dir f (string_bytes path.old))
+            (texts_of (names_of_bytes bytes)))
             ⊎ IsLinkReceived f (S.paths self.old.strays) (S.paths self.new.strays))) }
         ensures fails { IfErr result (λ e. IfSome (D.left directory.old) (λ bytes.
             IsEntriesError (are_text_names (texts_of (names_of_bytes bytes)))
@@ -235,7 +236,8 @@ impl<R: System, S: Strays, A: Allocator + Copy> Lookups<R, S, A> {
         ensures followed { (f : FileSystem) → IsHeld self.old.files f
             → AreDirect f (string_bytes path.old) → self.old.links ≡ Followed
             → IfOk result (λ v. (entries_of v.items
-            ≡ said_entries (is_followed_dir f (string_bytes path.old)) (texts_of (names_of_bytes bytes.now)))
+            ≡ said_entries (is_followed_dir f (string_bytes path.old))
+            (texts_of (names_of_bytes bytes.now)))
             ⊎ IsLinkReceived f (S.paths self.old.strays) (S.paths self.new.strays)) }
         ensures fails { IfErr result
             (λ e. IsNameError (are_text_names (texts_of (names_of_bytes bytes.now))) e) }
@@ -264,7 +266,8 @@ impl<R: System, S: Strays, A: Allocator + Copy> Lookups<R, S, A> {
         ensures followed { (f : FileSystem) → IsHeld self.old.files f
             → AreDirect f (string_bytes path.old) → self.old.links ≡ Followed
             → IfOk result (λ v. (entries_of v.items
-            ≡ said_entries (is_followed_dir f (string_bytes path.old)) (texts_of (map (λ n. n.now) names.now)))
+            ≡ said_entries (is_followed_dir f (string_bytes path.old))
+            (texts_of (map (λ n. n.now) names.now)))
             ⊎ IsLinkReceived f (S.paths self.old.strays) (S.paths self.new.strays)) }
         ensures fails { IfErr result
             (λ e. IsNameError (are_text_names (texts_of (map (λ n. n.now) names.now))) e) }

@@ -101,7 +101,8 @@ pub look_link : (f : FileSystem) (path : Text) → lstat_found f path ≡ Some S
 look_link f path is = ap (look_found look.Missing) (sym is) ∙ lstat_look f path
 
 -- a link was received, and other paths before or after it
-pub received_after : (f : FileSystem) (old mid new : Option (List Text)) → Grows old mid → IsLinkReceived f mid new → IsLinkReceived f old new
+pub received_after : (f : FileSystem) (old mid new : Option (List Text)) → Grows old mid → IsLinkReceived f mid new
+    → IsLinkReceived f old new
 received_after f old mid new (xs, first) (before, after, link, here, there, is) = (
   xs ++ before,
   after,
@@ -112,7 +113,8 @@ received_after f old mid new (xs, first) (before, after, link, here, there, is) 
       ∙ ap (and_then old) (sym (append_assoc xs before (link ∷ after))),
 )
 
-pub received_before : (f : FileSystem) (old mid new : Option (List Text)) → IsLinkReceived f old mid → Grows mid new → IsLinkReceived f old new
+pub received_before : (f : FileSystem) (old mid new : Option (List Text)) → IsLinkReceived f old mid → Grows mid new
+    → IsLinkReceived f old new
 received_before f old mid new (before, after, link, here, there, is) (ys, then) = (
   before,
   after ++ ys,
@@ -191,7 +193,8 @@ directory_followed f path = at_key (resolve f.content path)
     at_target (Some ADirectory) = refl
 
     at_kind : (k : Key) (o : Option Kind)
-        → is_directory (look_through (option_map (λ kind. lstat_type kind (target_at f k)) o) (option_and_then (λ kind. stat_type kind (target_at f k)) o))
+        → is_directory (look_through (option_map (λ kind. lstat_type kind (target_at f k)) o)
+        (option_and_then (λ kind. stat_type kind (target_at f k)) o))
         ≡ is_found_directory (option_and_then (λ kind. stat_type kind (target_at f k)) o)
     at_kind k None = refl
     at_kind k (Some Dir) = refl
@@ -205,11 +208,13 @@ directory_followed f path = at_key (resolve f.content path)
     at_key (Some k) = at_kind k (kind_at f.content k)
 
 -- what is no directory where links are followed is none
-pub no_directory_followed : (f : FileSystem) (path : Text) → is_directory (look_followed f path) ≡ false → is_directory (look_result f.content path) ≡ false
+pub no_directory_followed : (f : FileSystem) (path : Text) → is_directory (look_followed f path) ≡ false
+    → is_directory (look_result f.content path) ≡ false
 unfolding look_followed
 no_directory_followed f path h = ap is_directory (sym (lstat_look f path)) ∙ by_found (lstat_found f path) h
   where
-    by_found : (o : Option Found) → is_directory (look_through o (stat_found f path)) ≡ false → is_directory (look_found look.Missing o) ≡ false
+    by_found : (o : Option Found) → is_directory (look_through o (stat_found f path)) ≡ false
+        → is_directory (look_found look.Missing o) ≡ false
     by_found None h = refl
     by_found (Some Directory) h = h
     by_found (Some Symlink) h = refl
@@ -230,7 +235,8 @@ missing_followed f path h = by_found (lstat_found f path) (lstat_look f path ∙
 pub reasoned : (f : FileSystem) (old mid new : Option (List Text)) → mid ≡ old → (P Q : Type 0) → (P → Q) → (yes : Bool) → yes ≡ false
     → IsReasoned f mid new P yes → IsReasoned f old new Q false
 reasoned f old mid new same P Q of true non is = absurd (both_ways true non refl)
-reasoned f old mid new same P Q of false non is = ⊎_elim (λ p. inl (of p)) (λ r. inr (received_after f old mid new (grows_same old mid same) r)) is
+reasoned f old mid new same P Q of false non is =
+    ⊎_elim (λ p. inl (of p)) (λ r. inr (received_after f old mid new (grows_same old mid same) r)) is
 
 -- the ways of a path
 pub way_of_one : (f : FileSystem) → is_content f.content ≡ true → (path : Text) → has_no_slash path ≡ true → HasWay f path true

@@ -103,7 +103,8 @@ passes_front f (Some k) (p ∷ ps) qs h =
     or_from (is_directory_link f k) (passes_link f (step f.content p k) ps) parts.0 (passes_front f (step f.content p k) ps qs parts.1)
 
 -- what is above a direct path is direct
-pub direct_above : (f : FileSystem) → is_content f.content ≡ true → (dir more : Text) → is_direct f (dir ++ slash ∷ more) ≡ true → is_direct f dir ≡ true
+pub direct_above : (f : FileSystem) → is_content f.content ≡ true → (dir more : Text) → is_direct f (dir ++ slash ∷ more) ≡ true
+    → is_direct f dir ≡ true
 unfolding is_direct
 direct_above f w [] more direct = direct_one f w [] refl
 direct_above f w (x ∷ xs) more direct =

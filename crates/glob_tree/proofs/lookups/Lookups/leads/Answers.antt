@@ -36,7 +36,8 @@ loop-directory-preserved g c =
           c.in_ok-is_dir.field-0 yes (λ direct. c.in_ok-is_dir.ensures.directory f still direct) way),
       λ f some none. kept.4 f (c.loop-directory-test.ensures.some refl)
           (step_none f.content c.loop-directory.directory.now c.in-Some.further.now c.in-Some.field-0-1.now c.in-Some.ensures.0 some none),
-      λ f held direct. direct_above f held.1 c.in-Some.further.now c.in-Some.field-0-1.now (subst (λ p. is_direct f p ≡ true) c.in-Some.ensures.0 (kept.5 f held direct)),
+      λ f held direct. direct_above f held.1 c.in-Some.further.now c.in-Some.field-0-1.now
+          (subst (λ p. is_direct f p ≡ true) c.in-Some.ensures.0 (kept.5 f held direct)),
       c.in_ok-is_dir.ensures.settled yes ∙ kept.6,
     )
 
