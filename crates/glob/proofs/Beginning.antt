@@ -6,7 +6,8 @@ use Rattle.glob_tree.specs.Answers.{IsTold}
 use Rattle.glob_tree.specs.Content.{Content}
 use Rattle.glob_walk.specs.Marks.{Mark}
 use Rattle.glob.specs.Private.Walking.{EndsAs}
-use Rattle.glob_walk.specs.Walks.{Walking, IsFresh, IsWalk, IsWalkAsked}
+use Rattle.glob_walk.specs.Iterating.{Walking, IsFresh}
+use Rattle.glob_walk.specs.Walks.{IsWalk, IsWalkAsked}
 use Rattle.glob_walk.specs.declared.error.GlobError.{GlobError}
 use Rattle.glob_walk.specs.declared.ending.End.{End}
 

@@ -4,11 +4,12 @@ use Rattle.std.specs.Prelude.{option_map}
 use Rattle.std.proofs.lemmas.Bool.{both_ways}
 use Rattle.glob_tree.specs.Content.{Content}
 use Rattle.glob_tree.specs.Answers.{IsTold}
-use Rattle.glob_walk.specs.Aims.{listing_of}
+use Rattle.glob_walk.specs.Listing.{listing_of}
 use Rattle.glob_walk.specs.Marks.{Mark, Work, Give, Item}
 use Rattle.glob_walk.specs.Questions.{question_path, question_units}
-use Rattle.glob_walk.specs.Machines.{MachineState, Agrees, Saying, AsksLook, AsksList, Says, Ends, StepGoes, TakesStep, IsAskedAfter, IsCharged, left_of, step_outcome, is_last_step, step_units, StepTakes}
-use Rattle.glob_walk.specs.Walks.{Gives, LimitAt, NoMemory, Walking, Charges, IsUpTo, TakesFront, IsAsked, Takes, Goes, is_last, item_number, works}
+use Rattle.glob_walk.specs.Machines.{MachineState, Progress, Agrees, Saying, AsksLook, AsksList, Says, Ends, StepGoes, TakesStep, IsAskedAfter, IsCharged, left_of, step_outcome, is_last_step, step_units, StepTakes}
+use Rattle.glob_walk.specs.Iterating.{Walking, Charges, IsUpTo, TakesFront, IsAsked, Takes, Goes, is_last, item_number, works}
+use Rattle.glob_walk.specs.Walks.{Gives, LimitAt, NoMemory}
 use Rattle.glob.specs.Private.Walking.{IsDriven}
 use Rattle.glob_walk.proofs.WalkLemmas.Charging.{Charges-trans, Charges-asked}
 use Rattle.glob_walk.proofs.ListingLemmas.Marks.{cost-append}
@@ -26,7 +27,7 @@ IsUpTo-item listing old new spent spent' item u c =
     }
 
 -- what contracts see of it
-abbrev pub seen_walk : {X A : Type 0} → (X → Option Content) → X → MachineState A → Walking X
+abbrev pub seen_walk : {X : Type 0} {P : Progress} → (X → Option Content) → X → MachineState P → Walking X
 seen_walk tells t c = record {
   tree = t;
   aim = c.aim;
@@ -38,7 +39,7 @@ seen_walk tells t c = record {
 }
 
 -- what the steps since one item took, over a content
-pub record DriveTakes {X A : Type 0} (v : Walking X) (c : MachineState A) (x : Content) : Type 0 where
+pub record DriveTakes {X : Type 0} {P : Progress} (v : Walking X) (c : MachineState P) (x : Content) : Type 0 where
   pub old_left : List Mark
   pub had : v.left ≡ Some old_left
   pub agrees : Agrees x c
@@ -46,7 +47,7 @@ pub record DriveTakes {X A : Type 0} (v : Walking X) (c : MachineState A) (x : C
   pub charges : Charges old_left v.spent (left_of x c) c.spent
 
 -- The steps of a walk since one item: each asked a question, and the last of these may be open.
-pub record Drives {X A : Type 0} (asks : X → ℕ) (tells : X → Option Content) (v : Walking X) (t : X) (c : MachineState A) : Type 0 where
+pub record Drives {X : Type 0} {P : Progress} (asks : X → ℕ) (tells : X → Option Content) (v : Walking X) (t : X) (c : MachineState P) : Type 0 where
   pub limit : c.limit ≡ v.limit
   pub aim : c.aim ≡ v.aim
   pub grows : v.spent ≤ c.spent
@@ -58,7 +59,7 @@ pub record Drives {X A : Type 0} (asks : X → ℕ) (tells : X → Option Conten
   pub takes : (x : Content) → IsTold (tells v.tree) x → v.over ≡ false → DriveTakes v c x
 
 -- one more step, by a tree that answered the question that was open
-module _ {X A : Type 0} (asks : X → ℕ) (tells : X → Option Content) (v : Walking X) (t t' : X) (c c' : MachineState A) (s : Saying) (n : ℕ)
+module _ {X : Type 0} {P : Progress} (asks : X → ℕ) (tells : X → Option Content) (v : Walking X) (t t' : X) (c c' : MachineState P) (s : Saying) (n : ℕ)
     (h : Drives asks tells v t c) (same : tells t' ≡ tells t) (untouched : c.asked ≡ None → t' ≡ t) (more : asks t' ≡ asks t + question_units c.asked + n)
     (k : StepGoes (IsTold (tells t)) n c s c') where
   told_here : (x : Content) → IsTold (tells v.tree) x → IsTold (tells t) x

@@ -12,12 +12,13 @@ use Rattle.glob_tree.specs.Answers.{IsTold}
 use Rattle.glob_tree.specs.Content.{Content}
 use Rattle.glob_pattern.specs.declared.options.MatchOptions.{MatchOptions}
 use Rattle.glob_walk.specs.declared.error.GlobError.{GlobError}
-use Rattle.glob_walk.specs.Goal.{goal, IsPlainWalk, ReachesGoal}
+use Rattle.glob_walk.specs.Goal.{goal, IsSensitiveWalk, ReachesGoal}
 use Rattle.glob_walk.specs.Listing.{listing}
 use Rattle.glob_walk.specs.Order.{IsOrderly}
 use Rattle.glob_walk.specs.Marks.{Item, Found, Unread, Mark, Give, items, cost, paths, Work}
 use Rattle.glob_walk.specs.WalkGoals.{Answers, item_of, given_items}
-use Rattle.glob_walk.specs.Walks.{Gives, LimitAt, NoMemory, outcome, works, AreItems, Charges, StopsAt, Goes, IsFresh, Walking}
+use Rattle.glob_walk.specs.Iterating.{works, Charges, StopsAt, Goes, IsFresh, Walking}
+use Rattle.glob_walk.specs.Walks.{Gives, LimitAt, NoMemory, outcome, AreItems}
 use Rattle.glob_walk.proofs.GoalLemmas.Clauses.{reaches_goal, comes_in_order, IsBeginning-whole}
 
 -- the items of a walk that has no error among them
@@ -74,18 +75,18 @@ goal-found c o pattern given found IsWhole is whole reaches path =
     )
 
 -- The paths of all items of a plain walk, where no item is an error: they are exactly the goal,
-pub goal-listed : (c : Content) (o : MatchOptions) (pattern : Text) → IsPlainWalk c o pattern → (found : List Text) → found_items found ≡ items (listing c o pattern)
+pub goal-listed : (c : Content) (o : MatchOptions) (pattern : Text) → IsSensitiveWalk c o pattern → (found : List Text) → found_items found ≡ items (listing c o pattern)
     → (path : Text) → Contains found path ↔ Contains (goal c o pattern) path
 goal-listed c o pattern plain found whole =
     goal-found c o pattern (found_items found) found _ refl whole
     (reaches_goal c o pattern plain (found_items found) _ (IsBeginning-whole (found_items found) (items (listing c o pattern)) whole) (λ e. e))
 
 -- they come once and in order, as far as the runs of `**` allow,
-pub orderly-listed : (c : Content) (o : MatchOptions) (pattern : Text) → IsPlainWalk c o pattern → (found : List Text) → found_items found ≡ items (listing c o pattern)
+pub orderly-listed : (c : Content) (o : MatchOptions) (pattern : Text) → IsSensitiveWalk c o pattern → (found : List Text) → found_items found ≡ items (listing c o pattern)
     → IsOrderly pattern found
 orderly-listed c o pattern plain found whole =
     subst (IsOrderly pattern) (paths-found found)
-    (comes_in_order c o pattern plain (found_items found) (IsBeginning-whole (found_items found) (items (listing c o pattern)) whole))
+    (comes_in_order c o pattern plain.plain (found_items found) (IsBeginning-whole (found_items found) (items (listing c o pattern)) whole))
 
 -- and they are the paths of the written listing.
 pub paths-listed : (found : List Text) (ms : List Mark) → found_items found ≡ items ms → found ≡ paths (items ms)

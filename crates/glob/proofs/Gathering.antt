@@ -3,12 +3,13 @@ use Rattle.std.proofs.Common.{◌≡◌, ℕ, ◌+◌, ◌-◌, ◌≤◌, suc, 
 use Rattle.std.proofs.lemmas.List.{append-nil, map-append}
 use Rattle.std.specs.declared.path.buf.PathBuf.{PathBuf}
 use Rattle.glob_text.specs.Text.{Text}
-use Rattle.glob_walk.specs.Marks.{Mark, Work, Give, Item, items, cost, front, IsBeginning}
+use Rattle.glob_walk.specs.Marks.{Mark, Work, Give, Item, items, cost, front}
 use Rattle.std.proofs.lemmas.Option.{same_Some}
 use Rattle.glob_tree.specs.Content.{Content}
 use Rattle.glob_tree.specs.Answers.{IsTold}
 use Rattle.glob.specs.Private.Walking.{EndsAs}
-use Rattle.glob_walk.specs.Walks.{Outcome, Gives, LimitAt, NoMemory, outcome, refusal_end, AreItems, Charges, StopsAt, BreaksOff, works, IsWalk, IsWalkAsked, HasNoRefusal, Walking, IsFresh, Goes, TakesFront}
+use Rattle.glob_walk.specs.Iterating.{Charges, StopsAt, BreaksOff, works, Walking, IsFresh, Goes, TakesFront}
+use Rattle.glob_walk.specs.Walks.{Outcome, Gives, LimitAt, NoMemory, outcome, refusal_end, AreItems, IsWalk, IsWalkAsked, HasNoRefusal}
 use Rattle.glob_walk.specs.declared.ending.End.{End}
 use Rattle.glob_walk.specs.declared.error.GlobError.{GlobError}
 use Rattle.glob_walk.specs.declared.ending.End.TheVariants as end
@@ -69,9 +70,6 @@ module _ {A : Type 0} (ms : List Mark) (spent spent' : ℕ) (answers : List (Res
       ap (front limit) whole ∙ front-append limit done (Work path ∷ stop.rest) (omega (arith, at, units)) ∙ ap (λ n. done ++ front n (Work path ∷ stop.rest)) none ∙ append-nil done in
       (omega (arith, costs, at, units), at, g.given ∙ ap (map Gives) (sym (ap items cut ∙ same)))
 
-  begins : IsBeginning (items g.done) (items ms)
-  begins = (items rest, ap items g.whole ∙ items-append g.done rest)
-
   -- memory was not found
   pub IsWalk-memory : (limit : ℕ) → BreaksOff rest spent spent' → IsWalk ms limit end.Memory spent' answers
   unfolding IsWalk
@@ -79,7 +77,6 @@ module _ {A : Type 0} (ms : List Mark) (spent spent' : ℕ) (answers : List (Res
       let (paths, whole, units, same) = charged off.rest off.charges in (
         items g.done,
         g.given,
-        begins,
         record {
           done = g.done ++ works paths;
           rest = off.rest;
@@ -99,7 +96,6 @@ module _ {A : Type 0} (ms : List Mark) (spent spent' : ℕ) (answers : List (Res
       let done : List Mark = g.done ++ works paths in (
         items g.done,
         g.given,
-        begins,
         record {
           done = done ++ Give item ∷ [];
           rest = new;

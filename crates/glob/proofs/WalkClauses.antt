@@ -6,14 +6,15 @@ use Rattle.glob_tree.specs.Content.{Content}
 use Rattle.glob_pattern.specs.declared.options.MatchOptions.{MatchOptions}
 use Rattle.glob_walk.specs.Marks.{Item, items, front, paths, IsBeginning}
 use Rattle.glob_walk.specs.Listing.{listing}
-use Rattle.glob_walk.specs.Goal.{is_readable, named_goal, IsNamedWalk, IsPlainWalk, ReachesTexts, GivesTexts, ReachesGoal, GivesGoal}
+use Rattle.glob_walk.specs.Goal.{is_readable, taken_goal, IsPlainWalk, IsSensitiveWalk, ReachesTexts, GivesTexts, ReachesGoal, GivesGoal}
 use Rattle.glob_walk.specs.Order.{IsOrderly}
 use Rattle.glob_walk.specs.Walks.{Gives, AreItems, IsWalk}
 use Rattle.glob_walk.specs.WalkGoals.{item_of, given_items}
 use Rattle.glob_walk.specs.declared.error.GlobError.{GlobError}
 use Rattle.glob_walk.specs.declared.ending.End.{End}
 use Rattle.glob_walk.specs.declared.ending.End.TheVariants.{Done, Limit, Memory}
-use Rattle.glob_walk.proofs.GoalLemmas.Clauses.{IsBeginning-whole, IsBeginning-within, reaches_goal, gives_goal, comes_in_order, reaches_names, gives_names, names_in_order}
+use Rattle.glob_walk.proofs.ListingLemmas.Marks.{IsBeginning-cut}
+use Rattle.glob_walk.proofs.GoalLemmas.Clauses.{IsBeginning-whole, IsBeginning-within, reaches_goal, gives_goal, reaches_taken, gives_taken, comes_in_order}
 
 -- the items of answers that say them
 given_items-is : {A : Type 0} (answers : List (Result (PathBuf A) (GlobError A))) (is : List Item) → AreItems answers is → given_items answers ≡ is
@@ -29,7 +30,7 @@ module _ {A : Type 0} (c : Content) (o : MatchOptions) (pattern : Text) (limit s
   unfolding IsWalk
   begins Done walk = IsBeginning-whole (given_items answers) (items (listing c o pattern)) (given_items-is answers (items (listing c o pattern)) walk.2)
   begins Limit walk = IsBeginning-within c o pattern limit (given_items answers) (given_items-is answers (items (front limit (listing c o pattern))) walk.2)
-  begins Memory walk = subst (λ is. IsBeginning is (items (listing c o pattern))) (sym (given_items-is answers walk.0 walk.1)) walk.2
+  begins Memory walk = subst (λ is. IsBeginning is (items (listing c o pattern))) (sym (given_items-is answers walk.0 walk.1)) (IsBeginning-cut (listing c o pattern) spent walk.0 walk.2)
 
   whole : (end : End) → IsWalk (listing c o pattern) limit end spent answers → end ≡ Done → given_items answers ≡ items (listing c o pattern)
   unfolding IsWalk
@@ -37,22 +38,19 @@ module _ {A : Type 0} (c : Content) (o : MatchOptions) (pattern : Text) (limit s
   whole Limit walk e = absurd (cc)
   whole Memory walk e = absurd (cc)
 
-  module _ (p : IsPlainWalk c o pattern) where
+  module _ (p : IsSensitiveWalk c o pattern) where
     pub walk_reaches_goal : (end : End) → IsWalk (listing c o pattern) limit end spent answers → ReachesGoal c o pattern (end ≡ Done) (given_items answers)
     walk_reaches_goal end walk = reaches_goal c o pattern p (given_items answers) (end ≡ Done) (begins end walk) (whole end walk)
 
     pub walk_gives_goal : (end : End) → IsWalk (listing c o pattern) limit end spent answers → is_readable c pattern ≡ true → end ≡ Done → GivesGoal c o pattern (given_items answers)
     walk_gives_goal end walk readable e = gives_goal c o pattern p (given_items answers) readable (whole end walk e)
 
-    pub walk_is_orderly : (end : End) → IsWalk (listing c o pattern) limit end spent answers → IsOrderly pattern (paths (given_items answers))
-    walk_is_orderly end walk = comes_in_order c o pattern p (given_items answers) (begins end walk)
-
-  pub walk_finds_names : IsNamedWalk c pattern → (end : End) → IsWalk (listing c o pattern) limit end spent answers
-      → ReachesTexts c pattern (named_goal c o pattern) (end ≡ Done) (given_items answers)
-      × (is_readable c pattern ≡ true → end ≡ Done → GivesTexts (named_goal c o pattern) (given_items answers))
+  pub walk_finds_taken : IsPlainWalk c pattern → (end : End) → IsWalk (listing c o pattern) limit end spent answers
+      → ReachesTexts c pattern (taken_goal c o pattern) (end ≡ Done) (given_items answers)
+      × (is_readable c pattern ≡ true → end ≡ Done → GivesTexts (taken_goal c o pattern) (given_items answers))
       × IsOrderly pattern (paths (given_items answers))
-  walk_finds_names p end walk = (
-    reaches_names c o pattern p (given_items answers) (end ≡ Done) (begins end walk) (whole end walk),
-    (λ readable e. gives_names c o pattern p (given_items answers) readable (whole end walk e)),
-    names_in_order c o pattern p (given_items answers) (begins end walk),
+  walk_finds_taken p end walk = (
+    reaches_taken c o pattern p (given_items answers) (end ≡ Done) (begins end walk) (whole end walk),
+    (λ readable e. gives_taken c o pattern p (given_items answers) readable (whole end walk e)),
+    comes_in_order c o pattern p (given_items answers) (begins end walk),
   )

@@ -25,6 +25,7 @@ pub use Rattle.glob_walk.specs.Driven
 pub use Rattle.glob_walk.specs.GlobCauses
 pub use Rattle.glob_walk.specs.GlobErrors
 pub use Rattle.glob_walk.specs.Goal
+pub use Rattle.glob_walk.specs.Iterating
 pub use Rattle.glob_walk.specs.Laws as WalkLaws
 pub use Rattle.glob_walk.specs.Listing
 pub use Rattle.glob_walk.specs.Machines

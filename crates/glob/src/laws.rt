@@ -10,7 +10,6 @@ pub use glob_walk::laws::patterns::{
 };
 pub use glob_walk::laws::walks::{
     enough_levels_give_the_same_marks, entries_stand_in_ascending_order,
-    plain_pattern_matches_level_by_level, plain_walk_gives_the_goal, plain_walk_is_orderly,
-    plain_walk_reaches_the_goal, walk_costs_a_polynomial_of_keys,
-    walk_finds_what_its_components_take,
+    plain_pattern_matches_level_by_level, plain_walk_gives_the_goal, plain_walk_reaches_the_goal,
+    steps_give_the_listing, walk_costs_a_polynomial_of_keys, walk_finds_what_its_components_take,
 };

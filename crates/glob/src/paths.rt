@@ -2,11 +2,11 @@
 ghost use Rattle.std.specs.Prelude.{◌≡◌, ◌≤◌, ◌+◌, None, Some, IfOk, IfErr};
 ghost use Rattle.glob_tree.specs.Content.{Content};
 ghost use Rattle.glob_tree.specs.Answers.{IsTold};
-ghost use Rattle.glob_walk.specs.Aims.{listing_of};
+ghost use Rattle.glob_walk.specs.Listing.{listing_of, listing};
 ghost use Rattle.glob_walk.specs.Components.{walk_fault};
-ghost use Rattle.glob_walk.specs.Listing.{listing};
 ghost use Rattle.glob_walk.specs.Machines.{IsFreshMachine, left_of};
-ghost use Rattle.glob_walk.specs.Walks.{IsFresh, RefusesWith};
+ghost use Rattle.glob_walk.specs.Iterating.{IsFresh};
+ghost use Rattle.glob_walk.specs.Walks.{RefusesWith};
 
 use glob_pattern::{MatchOptions, PatternRefusal};
 use glob_tree::Tree;
@@ -29,7 +29,7 @@ impl<T: Tree> Model for Paths<T> {
     ghost use Rattle.std.specs.Prelude.{option_map};
     ghost use Rattle.glob_walk.specs.Machines.{left_of};
     ghost use Rattle.glob.specs.Private.Walking.{IsDriven};
-    ghost use Rattle.glob_walk.specs.Walks.{Walking};
+    ghost use Rattle.glob_walk.specs.Iterating.{Walking};
 
     ghost Value = { Walking T };
 
@@ -93,7 +93,8 @@ impl<T: Tree> Paths<T> {
 }
 
 impl<T: Tree> Iterator for Paths<T> {
-    ghost use Rattle.glob_walk.specs.Walks.{Goes, outcome};
+    ghost use Rattle.glob_walk.specs.Iterating.{Goes};
+    ghost use Rattle.glob_walk.specs.Walks.{outcome};
     ghost use Rattle.std.specs.Prelude.{◌+◌, ◌-◌, option_map};
     ghost use Rattle.std.specs.Iterator.{at_most};
 

@@ -5,8 +5,9 @@ ghost use Rattle.glob_tree.specs.Answers.{IsTold};
 ghost use Rattle.glob_walk.specs.Components.{walk_fault};
 ghost use Rattle.glob_walk.specs.Listing.{listing};
 ghost use Rattle.glob.specs.Private.Walking.{EndsAs};
-ghost use Rattle.glob_walk.specs.WalkGoals.{FindsGoal, FindsExactly, FindsInOrder, FindsNames};
-ghost use Rattle.glob_walk.specs.Walks.{HasNoRefusal, IsFresh, IsWalk, IsWalkAsked, RefusesWith, Walking};
+ghost use Rattle.glob_walk.specs.WalkGoals.{FindsGoal, FindsExactly, FindsTaken};
+ghost use Rattle.glob_walk.specs.Iterating.{IsFresh, Walking};
+ghost use Rattle.glob_walk.specs.Walks.{HasNoRefusal, IsWalk, IsWalkAsked, RefusesWith};
 
 use crate::paths::{Paths, glob_in};
 use glob_pattern::{MatchOptions, PatternRefusal};
@@ -70,10 +71,8 @@ pub fn walk_in<T: Tree>(
         (λ walk. FindsGoal (T.tells tree) options pattern.now walk.end walk.items.items) }
     ensures exact { IfOk result
         (λ walk. FindsExactly (T.tells tree) options pattern.now walk.end walk.items.items) }
-    ensures orderly { IfOk result
-        (λ walk. FindsInOrder (T.tells tree) options pattern.now walk.items.items) }
-    ensures named { IfOk result
-        (λ walk. FindsNames (T.tells tree) options pattern.now walk.end walk.items.items) }
+    ensures taken { IfOk result
+        (λ walk. FindsTaken (T.tells tree) options pattern.now walk.end walk.items.items) }
 {
     walked(alloc, glob_in(alloc, tree, pattern, options, limit))
 }

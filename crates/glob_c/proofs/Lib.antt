@@ -1,3 +1,4 @@
+pub mod GivenSteps
 pub mod LooseValues
 pub mod Messages
 pub mod SlotBoxes

@@ -10,6 +10,7 @@ use Rattle.glob_tree.specs.declared.tree.ListError.TheVariants.{Read}
 use Rattle.glob_tree.specs.declared.tree.Look.{Look}
 use Rattle.glob_tree.specs.declared.tree.Look.TheVariants as look
 use Rattle.glob_walk.specs.Machines.{MachineState, Saying, AsksLook, AsksList, Says, Ends, StepCounts}
+use Rattle.glob_walk.specs.Private.Walkers.{Walk}
 use Rattle.glob_walk.specs.Marks.{Found, Unread}
 use Rattle.glob_walk.specs.Questions.{IsSomeContent, IsListedIn, question_path}
 use Rattle.glob_walk.specs.Walks.{Gives, LimitAt, NoMemory}
@@ -18,7 +19,7 @@ use Rattle.glob_c.specs.declared.session.Reply.TheVariants as reply
 
 -- what contracts see of it: the walk, its last step, and what was answered since
 pub record Sitting : Type 0 where
-  pub machine : MachineState Global
+  pub machine : MachineState (Walk Global)
   pub said : Saying
   pub reply : Reply
 
@@ -40,7 +41,7 @@ error_path (Says (LimitAt path)) = Some path
 error_path _ = None
 
 -- what was answered is what the content has, where a question is open
-abbrev pub RepliesTo : Saying → Reply → MachineState Global → Content → Type 0
+abbrev pub RepliesTo : Saying → Reply → MachineState (Walk Global) → Content → Type 0
 RepliesTo AsksLook (reply.Look seen) walk c = IsSomeContent c × (seen ≡ look_result c (question_path walk.asked))
 RepliesTo (AsksList kinds) (reply.Listed r) walk c = IsListedIn walk.asked r c
 RepliesTo _ _ walk c = IsSomeContent c
@@ -62,12 +63,12 @@ entries_said (AsksList kinds) (reply.Listed r) = entry_count r
 entries_said _ _ = 0
 
 -- what the next step does to the counts, whatever was answered
-pub record Counts (said : Saying) (r : Reply) (old : MachineState Global) (s : Saying) (new : MachineState Global) : Type 0 where
+pub record Counts (said : Saying) (r : Reply) (old : MachineState (Walk Global)) (s : Saying) (new : MachineState (Walk Global)) : Type 0 where
   pub answered : IsAnswered said r → StepCounts (entries_said said r) old s new
   pub waits : ¬ (IsAnswered said r) → (s ≡ said) × (new ≡ old)
 
 -- where the answer is that the directory could not be listed, the next step says so, with a reason of the same kind
-abbrev pub SaysUnread : Saying → Reply → MachineState Global → Saying → Type 0
+abbrev pub SaysUnread : Saying → Reply → MachineState (Walk Global) → Saying → Type 0
 SaysUnread (AsksList kinds) (reply.Listed (Err (Read e))) old s = s ≡ Says (Gives (Unread (question_path old.asked) (error_kind e)))
 SaysUnread _ _ old s = ⊤
 

@@ -1,5 +1,5 @@
 -- A walk whose items are written as they come.
-use Rattle.std.proofs.Common.{◌≡◌, ℕ, ◌<◌, ◌≤◌, ◌⊎◌, inl, inr, true, false, Option, List, [], ◌∷◌, ◌++◌, Bool, Result, Ok, Err, refl, ap, sym, subst, ◌∙◌, append-nil, arith}
+use Rattle.std.proofs.Common.{◌≡◌, ℕ, ◌<◌, ◌≤◌, ◌⊎◌, inl, inr, ⊎_elim, true, false, Option, List, [], ◌∷◌, ◌++◌, Bool, Result, Ok, Err, refl, ap, sym, subst, ◌∙◌, append-nil, arith}
 use Rattle.std.specs.Prelude.{⊤, if◌then◌else◌}
 use Rattle.std.specs.Io.KnownBytes.{Appends}
 use Rattle.std.specs.Path.{path_buf_bytes}
@@ -8,8 +8,9 @@ use Rattle.std.specs.declared.path.buf.PathBuf.{PathBuf}
 use Rattle.std.proofs.KnownBytes.{Appends-nil}
 use Rattle.glob_tree.specs.Answers.{IsTold}
 use Rattle.glob_tree.specs.Content.{Content}
-use Rattle.glob_walk.specs.Machines.{MachineState, Saying, AsksLook, AsksList, Says, Ends, StepCounts, is_last_step, left_of, saying, step_units}
+use Rattle.glob_walk.specs.Machines.{MachineState, Saying, AsksLook, AsksList, Says, Ends, StepGoes, is_last_step, left_of, saying, step_units}
 use Rattle.glob_lines.specs.Lines.{AppendsFront, ended_record, with_ends}
+use Rattle.glob_walk.specs.Private.Walkers.{Walk}
 use Rattle.glob_walk.specs.Marks.{Mark, Item, Found, Unread, items, cost, front, IsBeginning}
 use Rattle.glob_text.specs.Text.{Text}
 use Rattle.glob_walk.specs.Driven.{HasGiven, GivesNext}
@@ -21,6 +22,7 @@ use Rattle.glob_walk.specs.declared.machine.Step.TheVariants as step
 use Rattle.glob_walk.specs.declared.ending.End.TheVariants as last
 use Rattle.glob_walk.specs.declared.error.GlobCause.TheVariants as cause
 use Rattle.glob_walk.specs.Walks.{Outcome, Gives, LimitAt, NoMemory, outcome, error_outcome}
+use Rattle.glob_walk.proofs.WalkLemmas.Giving.{gives_next}
 use Rattle.glob_walk.proofs.ListingLemmas.Marks.{IsBeginning-append}
 use Rattle.glob_console.specs.FoundPaths.{FindsPaths, FindsSomeBytes, GaveItems, has_any, has_unread, wanted_paths}
 use Rattle.glob_console.specs.Private.Writing.{Queues, StepWrites, is_item_wanted, noting, step_record}
@@ -29,17 +31,17 @@ use Rattle.glob_console.proofs.WritingLemmas.{Queues-all, Queues-some, Queues-mo
 use Rattle.glob_console.specs.declared.find.findings.Findings.{Findings}
 
 -- what holds of a walk from its beginning on, over a known content
-abbrev pub Over : {X A : Type 0} → (X → Option Content) → X → MachineState A → (List Mark → Content → Type 0) → Type 0
+abbrev pub Over : {X A : Type 0} → (X → Option Content) → X → MachineState (Walk A) → (List Mark → Content → Type 0) → Type 0
 Over tells of first P = (c : Content) → IsTold (tells of) c → (ms : List Mark) → HasGiven ms c [] first → P ms c
 
 -- the walk is still going on, or it came to an end within which it gave these items
-abbrev pub GoesOn : {X A : Type 0} → (X → Option Content) → X → MachineState A → List Item → MachineState A → End → Type 0
+abbrev pub GoesOn : {X A : Type 0} → (X → Option Content) → X → MachineState (Walk A) → List Item → MachineState (Walk A) → End → Type 0
 GoesOn tells of first given walk e =
     ((e ≡ last.Done) × Over tells of first (λ ms c. HasGiven ms c given walk))
     ⊎ ((walk.over ≡ true) × Over tells of first (λ ms c. GaveItems ms first.limit e given))
 
 -- A walk between two of its steps. The items before were written, or wait.
-pub record Written {X A : Type 0} (end : ℕ) (f : Content → Text → Bool) (tells : X → Option Content) (of : X) (first : MachineState A) (old : Option (List ℕ)) (tree : X) (walk : MachineState A) (findings : Findings) (held : Option (List ℕ)) (waiting : List ℕ) : Type 0 where
+pub record Written {X A : Type 0} (end : ℕ) (f : Content → Text → Bool) (tells : X → Option Content) (of : X) (first : MachineState (Walk A)) (old : Option (List ℕ)) (tree : X) (walk : MachineState (Walk A)) (findings : Findings) (held : Option (List ℕ)) (waiting : List ℕ) : Type 0 where
   pub given : List Item
   pub texts : List Text
   pub same : tells tree ≡ tells of
@@ -51,11 +53,7 @@ pub record Written {X A : Type 0} (end : ℕ) (f : Content → Text → Bool) (t
   pub begins : Over tells of first (λ ms c. IsBeginning given (items ms))
   pub going : GoesOn tells of first given walk findings.end
 
--- what a step says of the items, over each content that fits
-abbrev pub TellsStep : {A : Type 0} → (Content → Type 0) → MachineState A → Saying → MachineState A → Type 0
-TellsStep Fits walk s new = (c : Content) → (all : List Mark) → (given : List Item) → Fits c → HasGiven all c given walk → GivesNext all c given s new
-
-pub Written-first : {X A : Type 0} (end : ℕ) (f : Content → Text → Bool) (tells : X → Option Content) (of : X) (first : MachineState A) (old : Option (List ℕ)) (findings : Findings)
+pub Written-first : {X A : Type 0} (end : ℕ) (f : Content → Text → Bool) (tells : X → Option Content) (of : X) (first : MachineState (Walk A)) (old : Option (List ℕ)) (findings : Findings)
     → findings.end ≡ last.Done → findings.has_path ≡ false → findings.has_error ≡ false → Written end f tells of first old of first findings old []
 Written-first end f tells of first old findings done path error = record {
   given = [];
@@ -70,7 +68,7 @@ Written-first end f tells of first old findings done path error = record {
   going = inl (done, λ c told ms begun. begun);
 }
 
-begins_from : {A : Type 0} (c : Content) (ms : List Mark) (given : List Item) (walk : MachineState A) → HasGiven ms c given walk → IsBeginning given (items ms)
+begins_from : {A : Type 0} (c : Content) (ms : List Mark) (given : List Item) (walk : MachineState (Walk A)) → HasGiven ms c given walk → IsBeginning given (items ms)
 begins_from c ms given walk h =
     subst (λ js. IsBeginning js (items ms)) (sym h.same)
     (subst (λ l. IsBeginning (items h.done) (items l)) (sym h.whole) (IsBeginning-append h.done (left_of c walk)))
@@ -88,7 +86,7 @@ no_path cause.Memory e = tt
 no_path cause.Limit e = tt
 
 -- one more step of the walk
-module _ {X A : Type 0} (end : ℕ) (f : Content → Text → Bool) (tells : X → Option Content) (of : X) (first : MachineState A) (old : Option (List ℕ)) (tree asked : X) (walk walk' : MachineState A) (n : ℕ) (findings : Findings) (held : Option (List ℕ)) (waiting : List ℕ)
+module _ {X A : Type 0} (end : ℕ) (f : Content → Text → Bool) (tells : X → Option Content) (of : X) (first : MachineState (Walk A)) (old : Option (List ℕ)) (tree asked : X) (walk walk' : MachineState (Walk A)) (n : ℕ) (findings : Findings) (held : Option (List ℕ)) (waiting : List ℕ)
     (w : Written end f tells of first old tree walk findings held waiting) (told : tells asked ≡ tells tree) where
   told_here : (c : Content) → IsTold (tells of) c → IsTold (tells tree) c
   told_here c is = (w.same ∙ is.0, is.1)
@@ -96,21 +94,17 @@ module _ {X A : Type 0} (end : ℕ) (f : Content → Text → Bool) (tells : X �
   told_after : (c : Content) → IsTold (tells of) c → IsTold (tells asked) c
   told_after c is = (told ∙ w.same ∙ is.0, is.1)
 
-  -- what the step does to the counts and to the items
   abbrev pub Steps : Saying → Type 0
-  Steps s = StepCounts n walk s walk' × TellsStep (IsTold (tells tree)) walk s walk'
+  Steps s = StepGoes (IsTold (tells tree)) n walk s walk'
 
   -- the step comes of what is left, or the walk has ended
   goes_on : (s : Saying) → Steps s
       → ((findings.end ≡ last.Done) × Over tells of first (λ ms c. GivesNext ms c w.given s walk'))
       ⊎ ((s ≡ Ends) × Over tells of first (λ ms c. GaveItems ms first.limit findings.end w.given))
-  goes_on s (counts, next) = by_going w.going
-    where
-      by_going : GoesOn tells of first w.given walk findings.end
-          → ((findings.end ≡ last.Done) × Over tells of first (λ ms c. GivesNext ms c w.given s walk'))
-          ⊎ ((s ≡ Ends) × Over tells of first (λ ms c. GaveItems ms first.limit findings.end w.given))
-      by_going (inl (done, has)) = inl (done, λ c told ms begun. next c ms w.given (told_here c told) (has c told ms begun))
-      by_going (inr (over, gave)) = inr ((counts.stays over).0, gave)
+  goes_on s steps =
+      ⊎_elim
+      (λ going. inl (going.0, λ c told ms begun. gives_next n ms c w.given walk s walk' steps.counts (steps.takes c (told_here c told)) (going.1 c told ms begun)))
+      (λ ended. inr ((steps.counts.stays ended.0).0, ended.1)) w.going
 
   -- an item is one of what is left
   gives : (o : Outcome) → Steps (Says o) → (findings.end ≡ last.Done) × Over tells of first (λ ms c. GivesNext ms c w.given (Says o) walk')
@@ -179,7 +173,7 @@ module _ {X A : Type 0} (end : ℕ) (f : Content → Text → Bool) (tells : X �
       given = w.given;
       texts = w.texts;
       same = same ∙ (told ∙ w.same);
-      limit = steps.0.limit ∙ w.limit;
+      limit = steps.counts.limit ∙ w.limit;
       queued = still queued;
       path = w.path;
       kept = w.kept;
@@ -210,7 +204,7 @@ module _ {X A : Type 0} (end : ℕ) (f : Content → Text → Bool) (tells : X �
         given = w.given ++ item ∷ [];
         texts = w.texts ++ texts;
         same = same ∙ (told ∙ w.same);
-        limit = steps.0.limit ∙ w.limit;
+        limit = steps.counts.limit ∙ w.limit;
         queued = queued;
         path = path;
         kept = kept;
@@ -250,13 +244,13 @@ module _ {X A : Type 0} (end : ℕ) (f : Content → Text → Bool) (tells : X �
         given = w.given;
         texts = w.texts;
         same = same ∙ (told ∙ w.same);
-        limit = steps.0.limit ∙ w.limit;
+        limit = steps.counts.limit ∙ w.limit;
         queued = still queued;
         path = w.path;
         kept = w.kept;
         error = w.error;
         begins = w.begins;
-        going = inr (steps.0.ends ∙ last, gave);
+        going = inr (steps.counts.ends ∙ last, gave);
       }
 
       -- an error was reported
@@ -265,11 +259,11 @@ module _ {X A : Type 0} (end : ℕ) (f : Content → Text → Bool) (tells : X �
       Written-error (Gives (Unread p k)) is plain queued = Written-unread p k is queued
       Written-error (LimitAt p) is plain queued = Written-refusal last.Limit (ap (λ r. is_last_step (Says r)) is) queued (λ c told ms begun.
           let (all, less, are) = subst (λ r. GivesNext ms c w.given (Says r) walk') is ((gives o steps).1 c told ms begun) in
-          let same_limit = steps.0.limit ∙ w.limit in
+          let same_limit = steps.counts.limit ∙ w.limit in
           (subst (λ n. n < cost ms) same_limit less, subst (λ n. w.given ≡ items (front n ms)) same_limit are))
       Written-error NoMemory is plain queued = Written-refusal last.Memory (ap (λ r. is_last_step (Says r)) is) queued (λ c told ms begun.
           let cut = subst (λ r. GivesNext ms c w.given (Says r) walk') is ((gives o steps).1 c told ms begun) in
-          (walk'.spent, subst (λ n. walk'.spent ≤ n) (steps.0.limit ∙ w.limit) steps.0.within, cut))
+          (walk'.spent, subst (λ n. walk'.spent ≤ n) (steps.counts.limit ∙ w.limit) steps.counts.within, cut))
 
     -- the answer of a choice to an item
     abbrev pub IsAnswered : Bool → Result (PathBuf A) (GlobError A) → Type 0
@@ -323,5 +317,5 @@ module _ {X A : Type 0} (end : ℕ) (f : Content → Text → Bool) (tells : X �
         gave (inr over) = over.1 c told ms begun
         gave (inl (done, said)) =
             let (are, units) = subst (λ t. GivesNext ms c w.given (saying t) walk') is (said c told ms begun) in
-            let fits : cost ms ≤ first.limit = omega (arith, steps.0.within, steps.0.limit, w.limit, units) in
+            let fits : cost ms ≤ first.limit = omega (arith, steps.counts.within, steps.counts.limit, w.limit, units) in
             subst (λ e. GaveItems ms first.limit e w.given) (sym done) (fits, are)

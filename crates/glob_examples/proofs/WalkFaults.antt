@@ -14,7 +14,8 @@ use Rattle.glob.specs.Matching.Options.{new_options}
 use Rattle.glob.specs.Text.{Text}
 use Rattle.glob.specs.Types.{GlobCause, GlobError}
 use Rattle.glob.specs.Variants.GlobCause as cause
-use Rattle.glob.specs.Walks.{AreItems, Gives, Goes, IsFresh, Walking, error_outcome, outcome}
+use Rattle.glob.specs.Iterating.{Goes, IsFresh, Walking}
+use Rattle.glob.specs.Walks.{AreItems, Gives, error_outcome, outcome}
 use Rattle.glob.specs.WalkGoals.{Answers}
 use Rattle.glob.proofs.FoundPaths.{FindsSoFar, FindsSoFar-limit, FindsSoFar-unread, item-answered}
 use Rattle.glob_examples.specs.WalkFaults.{EndsAt, IsMet, IsPatternFault, IsWalkFault, fault_by_cause}

@@ -1,7 +1,7 @@
 //! A program's walk over a disk, where what the system holds is known.
 ghost use Rattle.std.specs.Prelude.{IfOk, Some, option_and_then};
 ghost use Rattle.glob_tree.specs.Followed.{followed};
-ghost use Rattle.glob_walk.specs.WalkGoals.{FindsExactly, FindsInOrder};
+ghost use Rattle.glob_walk.specs.WalkGoals.{FindsExactly, FindsTaken};
 
 use glob::{Disk, MatchOptions, MemSystem, MemTree, PatternRefusal, System, Walk, walk_in};
 use std::alloc::Allocator;
@@ -18,9 +18,9 @@ pub fn walk_disk<S: System, A: Allocator + Copy>(
     ensures exact { IfOk result
         (λ walk. FindsExactly (option_and_then followed (S.holds system))
         options pattern.now walk.end walk.items.items) }
-    ensures orderly { IfOk result
-        (λ walk. FindsInOrder (option_and_then followed (S.holds system))
-        options pattern.now walk.items.items) }
+    ensures taken { IfOk result
+        (λ walk. FindsTaken (option_and_then followed (S.holds system))
+        options pattern.now walk.end walk.items.items) }
 {
     walk_in(alloc, Disk::new(system, alloc), pattern, options, limit)
 }

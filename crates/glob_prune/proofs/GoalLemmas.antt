@@ -10,7 +10,7 @@ use Rattle.glob_tree.proofs.ContentLemmas.Contents.{IsContent, IsContent-from_te
 use Rattle.glob_tree.proofs.ContentLemmas.Membership.{Contains-filter_map, filter_map-contains}
 use Rattle.glob_pattern.specs.declared.options.MatchOptions.{MatchOptions}
 use Rattle.glob_walk.specs.Components.{has_root}
-use Rattle.glob_walk.specs.Goal.{goal, goal_text, start_key, is_readable, IsPlainWalk}
+use Rattle.glob_walk.specs.Goal.{goal, goal_text, start_key, is_readable, IsSensitiveWalk}
 use Rattle.glob_walk.specs.Listing.{listing}
 use Rattle.glob_walk.specs.Marks.{items, paths}
 use Rattle.glob_walk.proofs.GoalLemmas.ReachedGoals.{plain_walk_gives}
@@ -59,9 +59,9 @@ module _ (x : Exclusion) (c : Content) (w : IsContent c) (o : MatchOptions) (pat
       filter_map-contains (λ e. option_and_then (goal_text o pattern e.1) (names_past (start_key p pattern) e.0)) p.kinds (c.current ++ f.names, f.kind) text (contains_kind_at p (c.current ++ f.names) f.kind held)
       (ap (λ k. option_and_then (goal_text o pattern f.kind) (names_past k (c.current ++ f.names))) start ∙ ap (option_and_then (goal_text o pattern f.kind)) (names_past-append c.current f.names) ∙ f.matched)
 
-pub pruned_walk_gives : (x : Exclusion) (c : Content) (o : MatchOptions) (pattern : Text) → IsPlainWalk c o pattern → has_root pattern ≡ false → IsTrue (is_readable (pruned x c) pattern)
+pub pruned_walk_gives : (x : Exclusion) (c : Content) (o : MatchOptions) (pattern : Text) → IsSensitiveWalk c o pattern → has_root pattern ≡ false → IsTrue (is_readable (pruned x c) pattern)
     → (text : Text) → Contains (paths (items (listing (pruned x c) o pattern))) text ↔ IsFoundAndKept x c o pattern text
 pruned_walk_gives x c o pattern plain relative readable text =
-    let w = IsContent-from_test c plain.content in
-    let gives = plain_walk_gives (pruned x c) o pattern (record { content = is_content-pruned x c w; text = plain.text; plain = plain.plain; case = plain.case }) readable in
+    let w = IsContent-from_test c plain.plain.content in
+    let gives = plain_walk_gives (pruned x c) o pattern (record { plain = record { content = is_content-pruned x c w; text = plain.plain.text; plain = plain.plain.plain }; case = plain.case }) readable in
     ((λ in'. goal_kept x c w o pattern relative text ((gives.exact text).0 in')), (λ f. (gives.exact text).1 (kept_goal x c w o pattern relative text f)))

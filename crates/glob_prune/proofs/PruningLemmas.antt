@@ -8,7 +8,7 @@ use Rattle.std.proofs.lemmas.List.{append_assoc, append-nil}
 use Rattle.std.proofs.lemmas.Option.{none-some, same_Some}
 use Rattle.glob_text.specs.Text.{Text}
 use Rattle.glob_tree.specs.Paths.{stays}
-use Rattle.glob_tree.specs.Content.{Content, Key, same_key, kind_at, is_dir, is_dir_at, are_distinct, step, steps, child_key}
+use Rattle.glob_tree.specs.Content.{Content, Key, same_key, kind_at, is_dir, is_dir_at, are_distinct, step, steps}
 use Rattle.glob_tree.specs.declared.kind.Kind.{Kind}
 use Rattle.glob_tree.proofs.ContentLemmas.Contents.{IsContent, same_key-Decides, names_past-append}
 use Rattle.glob_tree.proofs.ContentLemmas.Resolving.{step_down, step_here, step_none, steps_none}

@@ -4,7 +4,7 @@ use Rattle.glob_text.specs.Text.{Text}
 use Rattle.glob_tree.specs.Content.{Content, Key, is_content, is_dir, kind_at}
 use Rattle.glob_tree.specs.declared.kind.Kind.{Kind}
 use Rattle.glob_pattern.specs.declared.options.MatchOptions.{MatchOptions}
-use Rattle.glob_walk.specs.Goal.{goal_text, is_readable, IsPlainWalk}
+use Rattle.glob_walk.specs.Goal.{goal_text, is_readable, IsSensitiveWalk}
 use Rattle.glob_walk.specs.Components.{has_root}
 use Rattle.glob_walk.specs.Listing.{listing}
 use Rattle.glob_walk.specs.Marks.{items, paths}
@@ -26,6 +26,6 @@ pub record IsFoundAndKept (x : Exclusion) (c : Content) (o : MatchOptions) (patt
 -- nothing excludes.
 abbrev pub PrunedWalkGives : Type 0
 PrunedWalkGives =
-    (x : Exclusion) (c : Content) (o : MatchOptions) (pattern : Text) → IsPlainWalk c o pattern → has_root pattern ≡ false
+    (x : Exclusion) (c : Content) (o : MatchOptions) (pattern : Text) → IsSensitiveWalk c o pattern → has_root pattern ≡ false
     → IsTrue (is_readable (pruned x c) pattern)
     → (text : Text) → Contains (paths (items (listing (pruned x c) o pattern))) text ↔ IsFoundAndKept x c o pattern text

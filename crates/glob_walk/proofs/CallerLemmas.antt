@@ -8,11 +8,14 @@ use Rattle.glob_pattern.specs.declared.options.MatchOptions.{MatchOptions}
 use Rattle.glob_walk.specs.Goal.{is_plain, is_readable, ReachesGoal, GivesGoal}
 use Rattle.glob_walk.specs.Marks.{Mark, Item, items, cost, front, paths, IsBeginning}
 use Rattle.glob_walk.specs.Order.{IsOrderly}
-use Rattle.glob_walk.specs.WalkGoals.{Answers, given_items, WalksPlainly, FindsGoal, FindsExactly, FindsInOrder}
+use Rattle.glob_walk.specs.WalkGoals.{Answers, given_items, WalksPlainly, FindsGoal, FindsExactly, FindsTaken}
 use Rattle.glob_walk.specs.Walks.{AreItems, IsCutShort, HasNoRefusal, IsWalk, IsWalkAsked}
 use Rattle.glob_walk.specs.declared.error.GlobError.{GlobError}
+use Rattle.glob_walk.proofs.ListingLemmas.Marks.{IsBeginning-cut}
 use Rattle.glob_walk.specs.declared.ending.End.{End}
 use Rattle.glob_walk.specs.declared.ending.End.TheVariants.{Done, Limit, Memory}
+-- What a machine has given at first, and after each step.
+pub use Rattle.glob_walk.proofs.WalkLemmas.Giving.{given_fresh, gives_next}
 
 -- A walk is plain if the content is known, the pattern is plain, and the options keep case.
 pub walks_plainly : (known : Option Content) (c : Content) (o : MatchOptions) (pattern : Text) → IsTold known c → IsTrue (is_plain pattern) → IsTrue o.case_sensitive → WalksPlainly known c o pattern
@@ -35,10 +38,10 @@ module _ {A : Type 0} (known : Option Content) (o : MatchOptions) (pattern : Tex
   unfolding FindsExactly
   found_exactly finds = finds
 
-  -- The paths come once and in order, as far as the runs of `**` allow.
-  pub found_in_order : FindsInOrder known o pattern answers → (c : Content) → WalksPlainly known c o pattern → IsOrderly pattern (paths (given_items answers))
-  unfolding FindsInOrder
-  found_in_order finds = finds
+  -- Case-sensitively or not, the paths come once and in order, as far as the runs of `**` allow.
+  pub found_in_order : FindsTaken known o pattern end answers → (c : Content) → IsTold known c → IsTrue (is_plain pattern) → IsOrderly pattern (paths (given_items answers))
+  unfolding FindsTaken
+  found_in_order finds c told plain = (finds c told plain).2
 
 module _ {A : Type 0} (answers : List (Result (PathBuf A) (GlobError A))) where
   -- Answers without a refusal are items.
@@ -60,7 +63,7 @@ module _ {A : Type 0} (answers : List (Result (PathBuf A) (GlobError A))) where
     -- A walk that ran out of memory has a beginning of the items.
     pub stopped_walk : IsWalk ms limit Memory spent answers → (is : List Item) × AreItems answers is × IsBeginning is (items ms) × IsCutShort ms spent is
     unfolding IsWalk
-    stopped_walk walk = walk
+    stopped_walk walk = (walk.0, walk.1, IsBeginning-cut ms spent walk.0 walk.2, walk.2)
 
 module _ (limit asks spent asks' : ℕ) where
   -- A walk that is done asked what it charged.

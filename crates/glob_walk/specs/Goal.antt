@@ -83,16 +83,16 @@ walk_takes o after (t ∷ u ∷ us) names =
     else name_before (walk_takes_name o after t) (walk_takes o false (u ∷ us)) names
 
 -- the text of the names past the start of a key of this kind, if the components take them
-abbrev pub named_text : MatchOptions → (pattern : Text) → Kind → Key → Option Text
-named_text o pattern kind [] = None
-named_text o pattern kind (n ∷ ns) =
+abbrev pub taken_text : MatchOptions → (pattern : Text) → Kind → Key → Option Text
+taken_text o pattern kind [] = None
+taken_text o pattern kind (n ∷ ns) =
     if matches_kind pattern kind && walk_takes o false (components pattern) (n ∷ ns)
     then Some (text_below pattern (n ∷ ns)) else None
 
 -- The texts that a walk is to find, case-sensitively or not, in no order. Case-sensitively they are the goal.
-unfoldable pub named_goal : Content → MatchOptions → (pattern : Text) → List Text
-named_goal c o pattern =
-    filter_map (λ e. option_and_then (named_text o pattern e.1) (names_past (start_key c pattern) e.0)) c.kinds
+unfoldable pub taken_goal : Content → MatchOptions → (pattern : Text) → List Text
+taken_goal c o pattern =
+    filter_map (λ e. option_and_then (taken_text o pattern e.1) (names_past (start_key c pattern) e.0)) c.kinds
 
 abbrev pub is_shut : Kind → Bool
 is_shut Dir = false
@@ -103,17 +103,15 @@ is_shut Other = false
 unfoldable pub is_readable : Content → (pattern : Text) → Bool
 is_readable c pattern = list_all (λ e. not (is_shut e.1) || is_none (names_past (start_key c pattern) e.0)) c.kinds
 
--- a walk over a content, after a plain pattern
-pub record IsNamedWalk (c : Content) (pattern : Text) : Type 0 where
+-- a plain walk: over a content, after a plain pattern
+pub record IsPlainWalk (c : Content) (pattern : Text) : Type 0 where
   pub content : IsTrue (is_content c)
   pub text : IsUtf8 pattern
   pub plain : IsTrue (is_plain pattern)
 
--- a plain walk: over a content, after a plain pattern, case-sensitively
-pub record IsPlainWalk (c : Content) (o : MatchOptions) (pattern : Text) : Type 0 where
-  pub content : IsTrue (is_content c)
-  pub text : IsUtf8 pattern
-  pub plain : IsTrue (is_plain pattern)
+-- a plain walk, case-sensitively
+pub record IsSensitiveWalk (c : Content) (o : MatchOptions) (pattern : Text) : Type 0 where
+  pub plain : IsPlainWalk c pattern
   pub case : IsTrue o.case_sensitive
 
 -- the text is that of a key below a shut one, to which the path of an error item leads

@@ -8,7 +8,7 @@ use Rattle.glob_tree.specs.Content.{Content, Key, DirEntry, is_content, is_dir_a
 use Rattle.glob_walk.specs.Components.{begins_recursive, components, is_recursive, matches_name}
 use Rattle.glob_walk.specs.Marks.{Mark, Item, items, cost, paths, IsBeginning}
 use Rattle.glob_walk.specs.Listing.{descent, levels, listing}
-use Rattle.glob_walk.specs.Goal.{is_plain, matches_undivided, text_below, is_readable, goal, named_goal, IsNamedWalk, IsPlainWalk, ReachesTexts, GivesTexts, ReachesGoal, GivesGoal}
+use Rattle.glob_walk.specs.Goal.{is_plain, matches_undivided, text_below, is_readable, goal, taken_goal, IsPlainWalk, IsSensitiveWalk, ReachesTexts, GivesTexts, ReachesGoal, GivesGoal}
 use Rattle.glob_walk.specs.Order.{IsOrderly}
 use Rattle.glob_pattern.specs.declared.options.MatchOptions.{MatchOptions}
 use Rattle.glob_pattern.specs.Matching.Components.{takes_names}
@@ -26,44 +26,38 @@ PlainMatchesLevels =
     → matches_undivided o pattern (text_below pattern (n ∷ ns)) ≡ takes_names o (matches_name o) (components pattern) (n ∷ ns)
 
 -- of a plain walk, each path among a beginning of the items is a goal, and all the items reach the goal
-abbrev pub PlainWalkReaches : Type 0
-PlainWalkReaches =
-    (c : Content) (o : MatchOptions) (pattern : Text) → IsPlainWalk c o pattern
+abbrev pub SensitiveWalkReaches : Type 0
+SensitiveWalkReaches =
+    (c : Content) (o : MatchOptions) (pattern : Text) → IsSensitiveWalk c o pattern
     → (given : List Item) → IsBeginning given (items (listing c o pattern))
     → ReachesGoal c o pattern (given ≡ items (listing c o pattern)) given
 
 -- over a readable content the items of a plain walk are exactly the goal
-abbrev pub PlainWalkGives : Type 0
-PlainWalkGives =
-    (c : Content) (o : MatchOptions) (pattern : Text) → IsPlainWalk c o pattern → IsTrue (is_readable c pattern)
+abbrev pub SensitiveWalkGives : Type 0
+SensitiveWalkGives =
+    (c : Content) (o : MatchOptions) (pattern : Text) → IsSensitiveWalk c o pattern → IsTrue (is_readable c pattern)
     → GivesGoal c o pattern (items (listing c o pattern))
 
--- a plain walk gives its paths once and in order, as far as each `**` allows
+-- case-sensitively or not, the same holds of the keys whose names the components take
+abbrev pub TakenWalkReaches : Type 0
+TakenWalkReaches =
+    (c : Content) (o : MatchOptions) (pattern : Text) → IsPlainWalk c pattern
+    → (given : List Item) → IsBeginning given (items (listing c o pattern))
+    → ReachesTexts c pattern (taken_goal c o pattern) (given ≡ items (listing c o pattern)) given
+
+abbrev pub TakenWalkGives : Type 0
+TakenWalkGives =
+    (c : Content) (o : MatchOptions) (pattern : Text) → IsPlainWalk c pattern → IsTrue (is_readable c pattern)
+    → GivesTexts (taken_goal c o pattern) (items (listing c o pattern))
+
 abbrev pub PlainWalkOrderly : Type 0
 PlainWalkOrderly =
-    (c : Content) (o : MatchOptions) (pattern : Text) → IsPlainWalk c o pattern
-    → (given : List Item) → IsBeginning given (items (listing c o pattern)) → IsOrderly pattern (paths given)
-
--- case-sensitively or not, the same holds of the keys whose names the components take
-abbrev pub NamedWalkReaches : Type 0
-NamedWalkReaches =
-    (c : Content) (o : MatchOptions) (pattern : Text) → IsNamedWalk c pattern
-    → (given : List Item) → IsBeginning given (items (listing c o pattern))
-    → ReachesTexts c pattern (named_goal c o pattern) (given ≡ items (listing c o pattern)) given
-
-abbrev pub NamedWalkGives : Type 0
-NamedWalkGives =
-    (c : Content) (o : MatchOptions) (pattern : Text) → IsNamedWalk c pattern → IsTrue (is_readable c pattern)
-    → GivesTexts (named_goal c o pattern) (items (listing c o pattern))
-
-abbrev pub NamedWalkOrderly : Type 0
-NamedWalkOrderly =
-    (c : Content) (o : MatchOptions) (pattern : Text) → IsNamedWalk c pattern
+    (c : Content) (o : MatchOptions) (pattern : Text) → IsPlainWalk c pattern
     → (given : List Item) → IsBeginning given (items (listing c o pattern)) → IsOrderly pattern (paths given)
 
 -- case-sensitively these keys are those whose texts the undivided pattern matches
-abbrev pub NamedGoalIsGoal : Type 0
-NamedGoalIsGoal = (c : Content) (o : MatchOptions) (pattern : Text) → IsPlainWalk c o pattern → named_goal c o pattern ≡ goal c o pattern
+abbrev pub TakenGoalIsGoal : Type 0
+TakenGoalIsGoal = (c : Content) (o : MatchOptions) (pattern : Text) → IsSensitiveWalk c o pattern → taken_goal c o pattern ≡ goal c o pattern
 
 -- What components cost at most for each of n keys: a polynomial in n, whose degree is at most the number of places with
 -- `**`, `**/**` being one.
@@ -75,9 +69,9 @@ cost_per_key n (t ∷ ts) =
     else 2 + n * cost_per_key n ts
 
 -- the whole walk of a plain pattern costs at most one unit, and this for each key of the content
-abbrev pub NamedWalkCosts : Type 0
-NamedWalkCosts =
-    (c : Content) (o : MatchOptions) (pattern : Text) → IsNamedWalk c pattern
+abbrev pub PlainWalkCosts : Type 0
+PlainWalkCosts =
+    (c : Content) (o : MatchOptions) (pattern : Text) → IsPlainWalk c pattern
     → cost (listing c o pattern) ≤ 1 + cost_per_key (length c.kinds) (components pattern) * length c.kinds
 
 -- as many levels as `levels` or more give the same marks of a descent below a directory

@@ -1,10 +1,10 @@
-pub mod Aims
 pub mod Answers
 pub mod Components
 pub mod Driven
 pub mod GlobCauses
 pub mod GlobErrors
 pub mod Goal
+pub mod Iterating
 pub mod Laws
 pub mod Listing
 pub mod Machines

@@ -1,6 +1,6 @@
 -- The written listing: what a walk looks up, lists and gives, in order.
 use Rattle.std.specs.Prelude.{ℕ, zero, suc, max, Bool, true, ◌&&◌, ◌||◌, not, if◌then◌else◌, List, [], ◌∷◌, ◌++◌, length, flat_map, fold, replicate}
-use Rattle.std.specs.Path.{cur_dir, parent_dir}
+use Rattle.std.specs.Path.{cur_dir, parent_dir, root_dir}
 use Rattle.glob_text.specs.Characters.{dot}
 use Rattle.glob_text.specs.Text.{Text}
 use Rattle.glob_walk.specs.Marks.{Mark, Work, Give, Found, Unread}
@@ -8,7 +8,7 @@ use Rattle.glob_text.specs.Pieces.{begins_with}
 use Rattle.glob_tree.specs.Looks.{is_there, is_directory}
 use Rattle.glob_tree.specs.Paths.{join, child}
 use Rattle.glob_tree.specs.Content.{Content, ListAnswer, Entries, Fails, NoDirectory, look_result, list_result, sorted_entries}
-use Rattle.glob_walk.specs.Components.{start, components, wants_directories, Literal, Recursive, Wild, component_kind, is_current_or_parent, begins_recursive, matches_name}
+use Rattle.glob_walk.specs.Components.{has_root, components, wants_directories, Literal, Recursive, Wild, component_kind, is_current_or_parent, begins_recursive, matches_name}
 use Rattle.glob_pattern.specs.Matching.Components.{is_open}
 use Rattle.glob_pattern.specs.declared.options.MatchOptions.{MatchOptions}
 use Rattle.glob_tree.specs.declared.tree.Look.{Look}
@@ -100,6 +100,21 @@ module _ (c : Content) (o : MatchOptions) (directories : Bool) where
     meet [] path name d = if is_entered o name d then Give (Found path) ∷ [] else []
     meet (t ∷ ts) path name d = match_at o (enter ts) t path name d
 
--- the written listing: the start is looked up, and the components follow
+-- what a walk looks for from its beginning to its end
+pub record Aim : Type 0 where
+  pub options : MatchOptions
+  -- from the root, and not from the current directory
+  pub rooted : Bool
+  pub components : List Text
+  -- directories alone are given
+  pub directories : Bool
+
+-- the whole written listing of a walk that looks for it, over any content
+abbrev pub listing_of : Content → Aim → List Mark
+listing_of c aim = look_up c (λ seen. true) (enter c aim.options aim.directories aim.components)
+    (if aim.rooted then root_dir else cur_dir)
+
+-- the written listing of a pattern
 unfoldable pub listing : Content → MatchOptions → (pattern : Text) → List Mark
-listing c o pattern = look_up c (λ seen. true) (enter c o (wants_directories pattern) (components pattern)) (start pattern)
+listing c o pattern = listing_of c
+    (record { options = o; rooted = has_root pattern; components = components pattern; directories = wants_directories pattern })

@@ -5,17 +5,24 @@ use Rattle.glob_text.specs.Text.{Text}
 use Rattle.glob_tree.specs.Content.{Content}
 use Rattle.glob_tree.specs.declared.tree.ListError.{ListError}
 use Rattle.glob_tree.specs.declared.tree.ListError.TheVariants.{Read, Memory}
-use Rattle.glob_walk.specs.Aims.{Aim, listing_of}
+use Rattle.glob_walk.specs.Listing.{Aim, listing_of}
 use Rattle.glob_walk.specs.Marks.{Mark, Work, Unread}
-use Rattle.glob_walk.specs.Private.Walkers.{walk_left, IsWalkSound}
 use Rattle.glob_walk.specs.Questions.{Question, IsLook, IsListWith, question_path}
-use Rattle.glob_walk.specs.Walks.{Outcome, Gives, LimitAt, NoMemory, Charges, TakesFront, outcome, is_last, item_number}
-use Rattle.glob_walk.specs.declared.walker.Walker.{Walker}
+use Rattle.glob_walk.specs.Iterating.{Charges, TakesFront, is_last, item_number}
+use Rattle.glob_walk.specs.Walks.{Outcome, Gives, LimitAt, NoMemory, outcome}
 use Rattle.glob_walk.specs.declared.machine.Step.{Step}
 use Rattle.glob_walk.specs.declared.machine.Step.TheVariants as step
 
+-- How far a walk has come is its own affair, of a type of its own. What a caller knows of it is which part of the written
+-- listing is left over a content, where the unit of an open question is charged, and whether the answers so far agree
+-- with a content.
+pub record Progress : Type 1 where
+  pub State : Type 0
+  pub left : Content → State → List Mark
+  pub Agrees : Content → State → Type 0
+
 -- what contracts see of a walk that asks its caller
-pub record MachineState (A : Type 0) : Type 0 where
+pub record MachineState (P : Progress) : Type 0 where
   pub limit : ℕ
   -- the units of work that were charged, that of an open question too
   pub spent : ℕ
@@ -27,19 +34,19 @@ pub record MachineState (A : Type 0) : Type 0 where
   pub asked : Option Question
   -- what it looks for
   pub aim : Aim
-  -- what is still to do
-  pub todo : Walker A
+  -- how far it has come
+  pub state : P.State
 
--- what is left of the written listing over a content; of an open question the unit is charged
-abbrev pub left_of : {A : Type 0} → Content → MachineState A → List Mark
-left_of c walk = walk_left c walk.todo
+-- what is left of the written listing over a content
+abbrev pub left_of : {P : Progress} → Content → MachineState P → List Mark
+left_of {P} c walk = P.left c walk.state
 
 -- It holds of each content at first, and each answer that is that of a content keeps it of that content.
-abbrev pub Agrees : {A : Type 0} → Content → MachineState A → Type 0
-Agrees c walk = IsWalkSound c walk.todo
+abbrev pub Agrees : {P : Progress} → Content → MachineState P → Type 0
+Agrees {P} c walk = P.Agrees c walk.state
 
 -- a walk that has done nothing yet
-pub record IsFreshMachine {A : Type 0} (most : ℕ) (walk : MachineState A) : Type 0 where
+pub record IsFreshMachine {P : Progress} (most : ℕ) (walk : MachineState P) : Type 0 where
   pub limit : walk.limit ≡ most
   pub spent : walk.spent ≡ 0
   pub given : walk.given ≡ 0
@@ -97,12 +104,12 @@ IsAskedAfter Ends q = q ≡ None
 
 -- What is charged where so many entries were answered: a unit for each, and one for the next question. At a limit refusal
 -- all of the limit is spent, and it does not pay for the entries and one unit more.
-abbrev pub IsCharged : {A : Type 0} → ℕ → MachineState A → Saying → MachineState A → Type 0
+abbrev pub IsCharged : {P : Progress} → ℕ → MachineState P → Saying → MachineState P → Type 0
 IsCharged n old (Says (LimitAt path)) new = (new.spent ≡ new.limit) × (new.limit ≤ old.spent + n)
 IsCharged n old s new = new.spent ≡ old.spent + n + step_units s
 
 -- whatever was answered: what a step does to the counts
-pub record StepCounts {A : Type 0} (n : ℕ) (old : MachineState A) (s : Saying) (new : MachineState A) : Type 0 where
+pub record StepCounts {P : Progress} (n : ℕ) (old : MachineState P) (s : Saying) (new : MachineState P) : Type 0 where
   pub limit : new.limit ≡ old.limit
   pub aim : new.aim ≡ old.aim
   pub grows : old.spent ≤ new.spent
@@ -129,12 +136,12 @@ TakesStep old spent (Says o) q new spent' = TakesFront old spent (Some o) new sp
 TakesStep old spent Ends q new spent' = TakesFront old spent None new spent'
 
 -- Over a content: the answers so far are still its own, and the step is the next of its written listing.
-pub record StepTakes {A : Type 0} (old : MachineState A) (s : Saying) (new : MachineState A) (c : Content) : Type 0 where
+pub record StepTakes {P : Progress} (old : MachineState P) (s : Saying) (new : MachineState P) (c : Content) : Type 0 where
   pub agrees : Agrees c new
   pub takes : TakesStep (left_of c old) old.spent s new.asked (left_of c new) new.spent
 
 -- What one step does: the counts whatever was answered, and the rest over each content that has answered as the caller did.
-pub record StepGoes {A : Type 0} (Fits : Content → Type 0) (n : ℕ) (old : MachineState A) (s : Saying) (new : MachineState A)
+pub record StepGoes {P : Progress} (Fits : Content → Type 0) (n : ℕ) (old : MachineState P) (s : Saying) (new : MachineState P)
     : Type 0 where
   pub counts : StepCounts n old s new
   pub takes : (c : Content) → Fits c → old.over ≡ false → Agrees c old → StepTakes old s new c

@@ -1,10 +1,8 @@
 pub mod Forms
 pub mod Frames
 pub mod Merging
-pub mod Meters
 pub mod Queries
 pub mod Stacks
 pub mod Tasks
 pub mod Turns
 pub mod Walkers
-pub mod Walking

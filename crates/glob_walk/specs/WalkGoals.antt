@@ -5,7 +5,7 @@ use Rattle.glob_text.specs.Text.{Text}
 use Rattle.glob_tree.specs.Content.{Content}
 use Rattle.glob_tree.specs.Answers.{IsTold}
 use Rattle.glob_pattern.specs.declared.options.MatchOptions.{MatchOptions}
-use Rattle.glob_walk.specs.Goal.{is_plain, is_readable, named_goal, ReachesTexts, GivesTexts, ReachesGoal, GivesGoal}
+use Rattle.glob_walk.specs.Goal.{is_plain, is_readable, taken_goal, ReachesTexts, GivesTexts, ReachesGoal, GivesGoal}
 use Rattle.glob_walk.specs.Marks.{Item, paths}
 use Rattle.glob_walk.specs.Order.{IsOrderly}
 use Rattle.glob_walk.specs.Walks.{Outcome, Gives, LimitAt, NoMemory, outcome}
@@ -41,16 +41,11 @@ FindsExactly known o pattern end answers =
     (c : Content) → WalksPlainly known c o pattern → IsTrue (is_readable c pattern) → end ≡ Done
     → GivesGoal c o pattern (given_items answers)
 
--- each path comes once and in order, as far as each `**` allows
-unfoldable pub FindsInOrder : {A : Type 0} → (known : Option Content) → MatchOptions → (pattern : Text) → Answers A → Type 0
-FindsInOrder known o pattern answers =
-    (c : Content) → WalksPlainly known c o pattern → IsOrderly pattern (paths (given_items answers))
-
 -- Case-sensitively or not, each path is one whose names the components take, once and in order as far as each `**` allows.
 -- Where the walk is done each of these is a path or hidden, and over a readable content they are exactly the paths.
-unfoldable pub FindsNames : {A : Type 0} → (known : Option Content) → MatchOptions → (pattern : Text) → End → Answers A → Type 0
-FindsNames known o pattern end answers =
+unfoldable pub FindsTaken : {A : Type 0} → (known : Option Content) → MatchOptions → (pattern : Text) → End → Answers A → Type 0
+FindsTaken known o pattern end answers =
     (c : Content) → IsTold known c → IsTrue (is_plain pattern)
-    → ReachesTexts c pattern (named_goal c o pattern) (end ≡ Done) (given_items answers)
-    × (IsTrue (is_readable c pattern) → end ≡ Done → GivesTexts (named_goal c o pattern) (given_items answers))
+    → ReachesTexts c pattern (taken_goal c o pattern) (end ≡ Done) (given_items answers)
+    × (IsTrue (is_readable c pattern) → end ≡ Done → GivesTexts (taken_goal c o pattern) (given_items answers))
     × IsOrderly pattern (paths (given_items answers))

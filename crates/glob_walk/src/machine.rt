@@ -3,12 +3,9 @@ ghost use Rattle.std.specs.Prelude.{◌≡◌, ◌≤◌, ◌+◌, ℕ, List, []
 ghost use Rattle.std.specs.Path.{root_dir, cur_dir};
 ghost use Rattle.glob_tree.specs.Answers.{IsTold, entry_count};
 ghost use Rattle.glob_tree.specs.Content.{Content};
-ghost use Rattle.glob_walk.specs.Aims.{listing_of};
+ghost use Rattle.glob_walk.specs.Listing.{listing_of, listing};
 ghost use Rattle.glob_walk.specs.Machines.{IsFreshMachine, Says, StepGoes, list_error_outcome, left_of, saying};
 ghost use Rattle.glob_walk.specs.Components.{walk_fault};
-ghost use Rattle.glob_walk.specs.Listing.{listing};
-ghost use Rattle.glob_walk.specs.Marks.{Item, Mark};
-ghost use Rattle.glob_walk.specs.Driven.{HasGiven, GivesNext};
 ghost use Rattle.glob_walk.specs.Walks.{NoMemory, RefusesWith};
 ghost use Rattle.glob_walk.specs.Private.Stacks.{aim_of};
 ghost use Rattle.glob_walk.specs.Answers.{IfFailed, IsAnswer, IsAnswered, answer_count};
@@ -81,13 +78,13 @@ pub struct WalkMachine<A: Allocator = Global> {
 }
 
 impl<A: Allocator> Model for WalkMachine<A> {
-    ghost use Rattle.glob_walk.specs.Aims.{listing_of};
+    ghost use Rattle.glob_walk.specs.Listing.{listing_of};
     ghost use Rattle.glob_walk.specs.Machines.{MachineState};
-    ghost use Rattle.glob_walk.specs.Private.Walking.{IsGood};
+    ghost use Rattle.glob_walk.specs.Private.Walkers.{IsGood, Walk};
     ghost use Rattle.glob_walk.specs.Private.Stacks.{aim_of};
     ghost use Rattle.glob_walk.specs.Private.Queries.{question_of};
 
-    ghost Value = { MachineState A };
+    ghost Value = { MachineState (Walk A) };
 
     ghost view = { λ w. record {
       limit = w.walker.meter.limit;
@@ -96,7 +93,7 @@ impl<A: Allocator> Model for WalkMachine<A> {
       over = w.over;
       asked = question_of w.walker.query;
       aim = aim_of w.walker.stack.plan;
-      todo = w.walker;
+      state = w.walker;
     } };
 
     ghost invariant = { λ w. IsGood w.walker w.given w.over };
@@ -117,12 +114,8 @@ impl<A: Allocator + Copy> WalkMachine<A> {
         ensures accepted { IfOk result (λ _. walk_fault pattern.now ≡ None) }
         ensures refused { IfErr result (RefusesWith (walk_fault pattern.now)) }
         ensures fresh { IfOk result (IsFreshMachine limit) }
-        ensures listing { IfOk result
-            (λ walk. (c : Content) → left_of c walk ≡ listing c options pattern.now) }
         ensures aim { IfOk result
             (λ walk. (c : Content) → listing_of c walk.aim ≡ listing c options pattern.now) }
-        ensures begun { IfOk result
-            (λ walk. (c : Content) → HasGiven (listing c options pattern.now) c [] walk) }
     {
         let plan = Plan::read(alloc, pattern, options)?;
         let start = String::from_str(alloc, plan.start())?;
@@ -159,8 +152,6 @@ impl<A: Allocator + Copy> WalkMachine<A> {
     pub fn next(&mut self) -> Step<A>
         requires free { self.old.asked ≡ None }
         ensures steps { StepGoes IsSomeContent 0 self.old (saying result) self.new }
-        ensures driven { (c : Content) → (all : List Mark) → (given : List Item) → IsSomeContent c
-            → HasGiven all c given self.old → GivesNext all c given (saying result) self.new }
     {
         self.resume(Answer::Nothing)
     }
@@ -175,9 +166,6 @@ impl<A: Allocator + Copy> WalkMachine<A> {
         ensures steps { (n : ℕ)
             × (T.asks tree.new ≡ T.asks tree.old + question_units self.old.asked + n)
             × StepGoes (IsTold (T.tells tree.old)) n self.old (saying result) self.new }
-        ensures driven { (c : Content) → (all : List Mark) → (given : List Item)
-            → IsTold (T.tells tree.old) c
-            → HasGiven all c given self.old → GivesNext all c given (saying result) self.new }
     {
         let answer = self.ask(tree);
         self.resume(answer)
@@ -213,9 +201,6 @@ impl<A: Allocator + Copy> WalkMachine<A> {
         ensures failed { IfErr seen (λ _. saying result ≡ Says NoMemory) }
         ensures steps { StepGoes (IsSeenIn self.old.asked seen) 0
             self.old (saying result) self.new }
-        ensures driven { (c : Content) → (all : List Mark) → (given : List Item)
-            → IsSeenIn self.old.asked seen c
-            → HasGiven all c given self.old → GivesNext all c given (saying result) self.new }
     {
         self.resume(Answer::Look(seen))
     }
@@ -230,25 +215,20 @@ impl<A: Allocator + Copy> WalkMachine<A> {
             (λ e. saying result ≡ Says (list_error_outcome (question_path self.old.asked) e)) }
         ensures steps { StepGoes (IsListedIn self.old.asked listed) (entry_count listed)
             self.old (saying result) self.new }
-        ensures driven { (c : Content) → (all : List Mark) → (given : List Item)
-            → IsListedIn self.old.asked listed c
-            → HasGiven all c given self.old → GivesNext all c given (saying result) self.new }
     {
         self.resume(Answer::List(listed))
     }
 
     /// Takes the answer to the question that is open, or `Nothing` where none is, and returns the next step, as
     /// [`looked`](WalkMachine::looked), [`listed`](WalkMachine::listed) and [`next`](WalkMachine::next) do: with
-    /// `Answer::Look(seen)` it is `looked(seen)`.
+    /// `Answer::Look(seen)` it is `looked(seen)`. What is no answer to the open question leaves it open: it is asked
+    /// again, for no unit.
     pub fn resume(&mut self, answer: Answer<A>) -> Step<A>
         requires answer { IsAnswer self.old.asked answer }
         ensures failed { IfFailed answer (question_path self.old.asked)
             (λ o. saying result ≡ Says o) }
         ensures steps { StepGoes (IsAnswered self.old.asked answer) (answer_count answer)
             self.old (saying result) self.new }
-        ensures driven { (c : Content) → (all : List Mark) → (given : List Item)
-            → IsAnswered self.old.asked answer c
-            → HasGiven all c given self.old → GivesNext all c given (saying result) self.new }
     {
         if self.over {
             return Step::Done;

@@ -1,23 +1,30 @@
 //! What a step of a walk says.
 ghost use Rattle.std.specs.Prelude.{◌≡◌, string_bytes};
 ghost use Rattle.std.specs.IoError.{error_kind};
-ghost use Rattle.glob_walk.specs.Machines.{AsksList, Says, is_last_step, saying, step_outcome};
+ghost use Rattle.glob_walk.specs.Machines.{Says, is_last_step, saying, step_outcome};
 ghost use Rattle.glob_walk.specs.Marks.{Found, Unread};
-ghost use Rattle.glob_walk.specs.Walks.{Gives, LimitAt, NoMemory, item_number};
+ghost use Rattle.glob_walk.specs.Iterating.{item_number};
+ghost use Rattle.glob_walk.specs.Walks.{Gives, LimitAt, NoMemory};
+ghost use Rattle.glob_walk.specs.Private.Turns.{asking};
 
 use crate::ending::end_of;
 use crate::error::GlobError;
 use crate::machine::Step;
+use crate::query::QueryKind;
 use std::alloc::Allocator;
 use std::io;
 use std::path::PathBuf;
 
 impl<A: Allocator> Step<A> {
-    /// It asks for a listing, with the kinds of the entries or for their names alone.
-    pub(crate) fn list(kinds: bool) -> Self
-        ensures { saying result ≡ AsksList kinds }
+    /// It asks for a look, or for a listing, with the kinds of the entries or for their names alone.
+    pub(crate) fn ask(kind: QueryKind) -> Self
+        ensures { saying result ≡ asking kind }
     {
-        if kinds { Step::List } else { Step::ListNames }
+        match kind {
+            QueryKind::Look(_) => Step::Look,
+            QueryKind::List { kinds: true, .. } => Step::List,
+            QueryKind::List { kinds: false, .. } => Step::ListNames,
+        }
     }
 
     /// It gives a path that the pattern leads to.

@@ -33,7 +33,7 @@ ghost use Rattle.glob_walk.specs.Private.Tasks.{task_marks, enter_from, IsListed
 ghost use Rattle.glob_walk.specs.Private.Queries.{question_of, IsQueryOpened};
 ghost use Rattle.glob_walk.specs.Private.Stacks.{next_weight, weight};
 ghost use Rattle.glob_walk.specs.Answers.{IfFailed, IsAnswer, IsAnswered, answer_count};
-ghost use Rattle.glob_walk.specs.Private.Turns.{TurnsTo, said, with_query, with_task, AreListedAt, IsIdle};
+ghost use Rattle.glob_walk.specs.Private.Turns.{TurnsTo, asking, said, with_query, with_task, AreListedAt, IsIdle};
 
 use crate::component::{Component, is_current_or_parent};
 use crate::frame::{Cursor, Frame};
@@ -65,13 +65,11 @@ impl<A: Allocator + Copy> Walker<A> {
         if !self.meter.charge() {
             return Step::limit(path);
         }
-        let kind = QueryKind::Look(accepted);
-        self.query = Some(Query {
+        self.ask(Query {
             path,
             component,
-            kind,
-        });
-        Step::Look
+            kind: QueryKind::Look(accepted),
+        })
     }
 
     /// Asks for the listing of a directory for a component, which is `**` or has wildcards, for one unit. Where no
@@ -87,13 +85,11 @@ impl<A: Allocator + Copy> Walker<A> {
             return Step::limit(path);
         }
         let kinds = self.stack.plan.needs_kinds(component, recursive);
-        let kind = QueryKind::List { recursive, kinds };
-        self.query = Some(Query {
+        self.ask(Query {
             path,
             component,
-            kind,
-        });
-        Step::list(kinds)
+            kind: QueryKind::List { recursive, kinds },
+        })
     }
 
     /// Charges the entries of a directory that was listed, and puts it on the stack with its first cursor. Where names
@@ -207,7 +203,8 @@ impl<A: Allocator + Copy> Walker<A> {
         }
     }
 
-    /// Takes the answer to the question that is open, if one is: what comes of it at once.
+    /// Takes the answer to the question that is open, if one is: what comes of it at once. After what is no answer to
+    /// the question it stays open, and is asked again, for no further unit.
     fn take_answer(&mut self, answer: Answer<A>) -> Option<Step<A>>
         requires opened { IsQueryOpened self.old.stack self.old.query }
         requires answer { IsAnswer (question_of self.old.query) answer }
@@ -216,26 +213,31 @@ impl<A: Allocator + Copy> Walker<A> {
         ensures turn { TurnsTo (IsAnswered (question_of self.old.query) answer)
             (answer_count answer) self.old (said result) self.new }
     {
-        let Some(query) = self.query.take() else {
-            let Answer::Nothing = answer else {
-                unreachable!()
-            };
-            return None;
-        };
-        let Query {
-            path,
-            component,
-            kind,
-        } = query;
-        match (kind, answer) {
-            (QueryKind::Look(accepted), Answer::Look(seen)) => {
-                self.take_look(path, component, accepted, seen)
+        let query = self.query.take()?;
+        match query.kind {
+            QueryKind::Look(accepted) => {
+                let Answer::Look(seen) = answer else {
+                    return Some(self.ask(query));
+                };
+                self.take_look(query.path, query.component, accepted, seen)
             }
-            (QueryKind::List { recursive, kinds }, Answer::List(listed)) => {
-                self.take_listing(path, component, recursive, kinds, listed)
+            QueryKind::List { recursive, kinds } => {
+                let Answer::List(listed) = answer else {
+                    return Some(self.ask(query));
+                };
+                self.take_listing(query.path, query.component, recursive, kinds, listed)
             }
-            _ => unreachable!(),
         }
+    }
+
+    /// Asks a question whose unit was charged.
+    fn ask(&mut self, query: Query<A>) -> Step<A>
+        ensures says { saying result ≡ asking query.kind }
+        ensures asks { self.new ≡ record self.old { query = Some query } }
+    {
+        let step = Step::ask(query.kind);
+        self.query = Some(query);
+        step
     }
 
     /// Takes the answer to a look, and leaves the task that follows, if any.

@@ -26,7 +26,7 @@ use Rattle.glob_tree.specs.declared.kind.Kind as at
 use Rattle.glob_tree.proofs.ContentLemmas.Contents.{IsContent, IsContent-from_test}
 use Rattle.glob_tree.proofs.ContentLemmas.Membership.{Contains-cases, Contains-head, Contains-nil, Contains-tail}
 use Rattle.glob_walk.specs.Components.{has_root}
-use Rattle.glob_walk.specs.Goal.{goal_text, is_readable, matches_kind, matches_undivided, text_below, IsPlainWalk}
+use Rattle.glob_walk.specs.Goal.{goal_text, is_readable, matches_kind, matches_undivided, text_below, IsSensitiveWalk}
 use Rattle.glob_walk.specs.Listing.{listing}
 use Rattle.glob_walk.specs.Marks.{Item, items, paths}
 use Rattle.glob_walk.specs.declared.ending.End.{End}
@@ -95,11 +95,11 @@ module _ (x : Exclusion) (c : Content) (is : is_content c ≡ true) (o : MatchOp
   all = items (listing left wo wp)
 
   -- the walk over the content, and over what is left of it
-  plain : IsPlainWalk c wo wp
-  plain = record { content = is; text = reaches.utf8; plain = reaches.plain; case = reaches.case }
+  plain : IsSensitiveWalk c wo wp
+  plain = record { plain = record { content = is; text = reaches.utf8; plain = reaches.plain }; case = reaches.case }
 
-  plain_left : IsPlainWalk left wo wp
-  plain_left = record { content = is_content-pruned x c w; text = reaches.utf8; plain = reaches.plain; case = reaches.case }
+  plain_left : IsSensitiveWalk left wo wp
+  plain_left = record { plain = record { content = is_content-pruned x c w; text = reaches.utf8; plain = reaches.plain }; case = reaches.case }
 
   -- what a look at a kept path sees
   look_left : (n : Text) (ns : Key) (kind : at.Kind) → kind_at c (c.current ++ n ∷ ns) ≡ Some kind → is_excluded x (n ∷ ns) (is_dir kind) ≡ false → look_result left (path_of (n ∷ ns)) ≡ look_of (Some kind)
@@ -159,7 +159,7 @@ module _ (x : Exclusion) (c : Content) (is : is_content c ≡ true) (o : MatchOp
   ascending : IsAscending (filter (is_wanted set wanted left) (paths all))
   ascending =
       AllPairs-filter (λ path later. path_cmp path later ≡ Less) (is_wanted set wanted left) (paths all)
-      ((plain_walk_orderly left wo wp plain_left all ([], sym (append-nil all))).ascending reaches.order)
+      ((plain_walk_orderly left wo wp plain_left.plain all ([], sym (append-nil all))).ascending reaches.order)
 
   -- a walk with a status other than 2 is done
   is_done : (findings : Findings) (status : ℕ) (given : List Item) (limit : ℕ) → status ≡ status_of findings → status ≢ 2 → GaveItems (listing left wo wp) limit findings.end given → given ≡ all

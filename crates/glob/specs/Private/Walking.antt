@@ -3,16 +3,17 @@ use Rattle.std.specs.Prelude.{◌≡◌, ℕ, ◌+◌, ◌≤◌, false, List, l
 use Rattle.std.specs.declared.path.buf.PathBuf.{PathBuf}
 use Rattle.glob_tree.specs.Content.{Content}
 use Rattle.glob_tree.specs.Answers.{IsTold}
-use Rattle.glob_walk.specs.Aims.{listing_of}
+use Rattle.glob_walk.specs.Listing.{listing_of}
 use Rattle.glob_walk.specs.Marks.{Mark}
-use Rattle.glob_walk.specs.Walks.{IsUpTo, Walking, HasNoRefusal, IsWalk, IsWalkAsked}
+use Rattle.glob_walk.specs.Iterating.{IsUpTo, Walking}
+use Rattle.glob_walk.specs.Walks.{HasNoRefusal, IsWalk, IsWalkAsked}
 use Rattle.glob_walk.specs.declared.error.GlobError.{GlobError}
 use Rattle.glob_walk.specs.declared.ending.End.{End}
-use Rattle.glob_walk.specs.Machines.{MachineState, Agrees, left_of}
+use Rattle.glob_walk.specs.Machines.{MachineState, Progress, Agrees, left_of}
 
 -- What is true of a walk over a tree between two items: no question is open, and each answer so far was that of the tree's
 -- content.
-pub record IsDriven {X A : Type 0} (tells : X → Option Content) (tree : X) (machine : MachineState A) : Type 0 where
+pub record IsDriven {X : Type 0} {P : Progress} (tells : X → Option Content) (tree : X) (machine : MachineState P) : Type 0 where
   pub free : machine.asked ≡ None
   pub agrees : (c : Content) → IsTold (tells tree) c → machine.over ≡ false → Agrees c machine
   pub upto : (c : Content) → IsTold (tells tree) c → machine.over ≡ false

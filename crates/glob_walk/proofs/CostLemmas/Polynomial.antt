@@ -15,7 +15,7 @@ use Rattle.glob_tree.proofs.ContentLemmas.Contents.{IsContent, IsContent-from_te
 use Rattle.glob_tree.proofs.ContentLemmas.Directories.{LeadsTo, ListsAs, Read, Unreadable, ListsAs-from_leads, is_dir_at-kind, is_directory-look_result, directory_kind}
 use Rattle.glob_tree.proofs.ContentLemmas.Sorting.{Contains-sorted_entries}
 use Rattle.glob_walk.specs.Components.{Literal, Recursive, Wild, component_kind, ComponentKind, begins_recursive, is_recursive, components, matches_name, start, wants_directories}
-use Rattle.glob_walk.specs.Goal.{are_plain, is_plain, is_plain_component, start_key, IsNamedWalk}
+use Rattle.glob_walk.specs.Goal.{are_plain, is_plain, is_plain_component, start_key, IsPlainWalk}
 use Rattle.glob_walk.specs.Laws.{cost_per_key}
 use Rattle.glob_walk.specs.Listing.{Next, after_listing, by_name, descent, enter, is_entered, levels, list_directory, listing, match_at, meet}
 use Rattle.glob_walk.specs.Marks.{Mark, Work, Give, Found, Unread, cost}
@@ -281,10 +281,10 @@ module _ (c : Content) (w : IsContent c) (o : MatchOptions) (directories : Bool)
       each_costs-cons t ts flat.0 (each_costs ts flat.1)
 
 -- the whole walk
-pub named_walk_costs : (c : Content) (o : MatchOptions) (pattern : Text) → IsNamedWalk c pattern
+pub plain_walk_costs : (c : Content) (o : MatchOptions) (pattern : Text) → IsPlainWalk c pattern
     → cost (listing c o pattern) ≤ 1 + cost_per_key (length c.kinds) (components pattern) * length c.kinds
 unfolding listing is_plain
-named_walk_costs c o pattern p =
+plain_walk_costs c o pattern p =
     let w = IsContent-from_test c p.content in
     let at = LeadsTo-start c w pattern in
     let found = directory_kind c (start_key c pattern) at.directory in

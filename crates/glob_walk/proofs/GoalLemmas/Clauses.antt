@@ -8,16 +8,16 @@ use Rattle.glob_tree.specs.Content.{Content}
 use Rattle.glob_tree.specs.Answers.{IsTold}
 use Rattle.glob_walk.specs.Marks.{Item, items, front, paths, IsBeginning}
 use Rattle.glob_walk.specs.Listing.{listing}
-use Rattle.glob_walk.specs.Goal.{is_plain, is_readable, named_goal, IsNamedWalk, IsPlainWalk, ReachesTexts, GivesTexts, ReachesGoal, GivesGoal}
+use Rattle.glob_walk.specs.Goal.{is_plain, is_readable, taken_goal, IsPlainWalk, IsSensitiveWalk, ReachesTexts, GivesTexts, ReachesGoal, GivesGoal}
 use Rattle.glob_walk.specs.Order.{IsOrderly}
 use Rattle.glob_pattern.specs.declared.options.MatchOptions.{MatchOptions}
 use Rattle.glob_walk.proofs.ListingLemmas.Marks.{IsBeginning-front}
-use Rattle.glob_walk.proofs.GoalLemmas.ReachedGoals.{named_walk_reaches, named_walk_gives, plain_walk_reaches, plain_walk_gives}
-use Rattle.glob_walk.proofs.GoalLemmas.OnceInOrder.{named_walk_orderly, plain_walk_orderly}
+use Rattle.glob_walk.proofs.GoalLemmas.ReachedGoals.{taken_walk_reaches, taken_walk_gives, plain_walk_reaches, plain_walk_gives}
+use Rattle.glob_walk.proofs.GoalLemmas.OnceInOrder.{plain_walk_orderly}
 
 -- the premises of a plain walk, over a tree with a known content
-pub plain_walk : (known : Option Content) (c : Content) (o : MatchOptions) (pattern : Text) → IsTold known c → IsUtf8 pattern → IsTrue (is_plain pattern) → IsTrue o.case_sensitive → IsPlainWalk c o pattern
-plain_walk known c o pattern tells utf8 plain case = record { content = tells.1; text = utf8; plain = plain; case = case }
+pub plain_walk : (known : Option Content) (c : Content) (o : MatchOptions) (pattern : Text) → IsTold known c → IsUtf8 pattern → IsTrue (is_plain pattern) → IsTrue o.case_sensitive → IsSensitiveWalk c o pattern
+plain_walk known c o pattern tells utf8 plain case = record { plain = record { content = tells.1; text = utf8; plain = plain }; case = case }
 
 -- all the items are a beginning of them, and so are those within a limit
 pub IsBeginning-whole : (given all : List Item) → given ≡ all → IsBeginning given all
@@ -28,7 +28,7 @@ pub IsBeginning-within : (c : Content) (o : MatchOptions) (pattern : Text) (limi
 IsBeginning-within c o pattern limit given within =
     subst (λ is. IsBeginning is (items (listing c o pattern))) (sym within) (IsBeginning-front limit (listing c o pattern))
 
-module _ (c : Content) (o : MatchOptions) (pattern : Text) (p : IsPlainWalk c o pattern) (given : List Item) where
+module _ (c : Content) (o : MatchOptions) (pattern : Text) (p : IsSensitiveWalk c o pattern) (given : List Item) where
   -- whatever the end, each path is a goal; and with all the items each goal is a path or hidden
   pub reaches_goal : (IsDone : Type 0) → IsBeginning given (items (listing c o pattern)) → (IsDone → given ≡ items (listing c o pattern)) → ReachesGoal c o pattern IsDone given
   reaches_goal IsDone begins done = plain_walk_reaches c o pattern p given begins IsDone done
@@ -37,18 +37,15 @@ module _ (c : Content) (o : MatchOptions) (pattern : Text) (p : IsPlainWalk c o 
   pub gives_goal : is_readable c pattern ≡ true → given ≡ items (listing c o pattern) → GivesGoal c o pattern given
   gives_goal readable whole = subst (GivesGoal c o pattern) (sym whole) (plain_walk_gives c o pattern p readable)
 
+-- so it is in either case, of the keys whose names the components take
+module _ (c : Content) (o : MatchOptions) (pattern : Text) (p : IsPlainWalk c pattern) (given : List Item) where
+  pub reaches_taken : (IsDone : Type 0) → IsBeginning given (items (listing c o pattern)) → (IsDone → given ≡ items (listing c o pattern))
+      → ReachesTexts c pattern (taken_goal c o pattern) IsDone given
+  reaches_taken IsDone begins done = taken_walk_reaches c o pattern p given begins IsDone done
+
+  pub gives_taken : is_readable c pattern ≡ true → given ≡ items (listing c o pattern) → GivesTexts (taken_goal c o pattern) given
+  gives_taken readable whole = subst (GivesTexts (taken_goal c o pattern)) (sym whole) (taken_walk_gives c o pattern p readable)
+
   -- the paths come once and in order
   pub comes_in_order : IsBeginning given (items (listing c o pattern)) → IsOrderly pattern (paths given)
   comes_in_order begins = plain_walk_orderly c o pattern p given begins
-
--- so it is in either case, of the keys whose names the components take
-module _ (c : Content) (o : MatchOptions) (pattern : Text) (p : IsNamedWalk c pattern) (given : List Item) where
-  pub reaches_names : (IsDone : Type 0) → IsBeginning given (items (listing c o pattern)) → (IsDone → given ≡ items (listing c o pattern))
-      → ReachesTexts c pattern (named_goal c o pattern) IsDone given
-  reaches_names IsDone begins done = named_walk_reaches c o pattern p given begins IsDone done
-
-  pub gives_names : is_readable c pattern ≡ true → given ≡ items (listing c o pattern) → GivesTexts (named_goal c o pattern) given
-  gives_names readable whole = subst (GivesTexts (named_goal c o pattern)) (sym whole) (named_walk_gives c o pattern p readable)
-
-  pub names_in_order : IsBeginning given (items (listing c o pattern)) → IsOrderly pattern (paths given)
-  names_in_order begins = named_walk_orderly c o pattern p given begins

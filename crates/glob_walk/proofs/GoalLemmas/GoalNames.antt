@@ -11,7 +11,7 @@ use Rattle.glob_tree.specs.declared.kind.Kind.{Kind}
 use Rattle.glob_tree.proofs.ContentLemmas.Membership.{Contains-filter_map, filter_map-contains}
 use Rattle.glob_tree.proofs.ContentLemmas.Contents.{IsContent, IsContent-from_test, contains_kind_at, kind_at-entry, names_past-append, names_past_is}
 use Rattle.glob_walk.specs.Components.{without_root, without_end_separator, components, wants_directories, is_recursive}
-use Rattle.glob_walk.specs.Goal.{start_key, text_below, matches_kind, named_text, named_goal, walk_takes, IsNamedWalk}
+use Rattle.glob_walk.specs.Goal.{start_key, text_below, matches_kind, taken_text, taken_goal, walk_takes, IsPlainWalk}
 use Rattle.glob_walk.specs.Laws.{are_names}
 use Rattle.glob_pattern.specs.declared.options.MatchOptions.{MatchOptions}
 use Rattle.glob_walk.proofs.GoalLemmas.KeysBelow.{names_at}
@@ -40,7 +40,7 @@ pub record IsGoal (c : Content) (o : MatchOptions) (pattern text : Text) : Type 
   pub taken : IsTaken c o pattern (name ∷ names)
   pub proper : are_names (name ∷ names) ≡ true
 
-module _ (c : Content) (o : MatchOptions) (pattern : Text) (p : IsNamedWalk c pattern) where
+module _ (c : Content) (o : MatchOptions) (pattern : Text) (p : IsPlainWalk c pattern) where
   w : IsContent c
   w = IsContent-from_test c p.content
 
@@ -48,19 +48,19 @@ module _ (c : Content) (o : MatchOptions) (pattern : Text) (p : IsNamedWalk c pa
   is_wanted : Kind → Text → Key → Bool
   is_wanted kind n ns = matches_kind pattern kind && walk_takes o false (components pattern) (n ∷ ns)
 
-  pub goal_of_taken : (n : Text) (ns : Key) → IsTaken c o pattern (n ∷ ns) → Contains (named_goal c o pattern) (text_below pattern (n ∷ ns))
-  unfolding named_goal is_wanted
+  pub goal_of_taken : (n : Text) (ns : Key) → IsTaken c o pattern (n ∷ ns) → Contains (taken_goal c o pattern) (text_below pattern (n ∷ ns))
+  unfolding taken_goal is_wanted
   goal_of_taken n ns is =
       let test : is_wanted is.kind n ns ≡ true = and_from (matches_kind pattern is.kind) _ is.allowed is.taken in
-      filter_map-contains (λ e. option_and_then (named_text o pattern e.1) (names_past (start_key c pattern) e.0)) c.kinds (start_key c pattern ++ n ∷ ns, is.kind) (text_below pattern (n ∷ ns))
+      filter_map-contains (λ e. option_and_then (taken_text o pattern e.1) (names_past (start_key c pattern) e.0)) c.kinds (start_key c pattern ++ n ∷ ns, is.kind) (text_below pattern (n ∷ ns))
       (contains_kind_at c (start_key c pattern ++ n ∷ ns) is.kind is.held)
-      (ap (option_and_then (named_text o pattern is.kind)) (names_past-append (start_key c pattern) (n ∷ ns))
+      (ap (option_and_then (taken_text o pattern is.kind)) (names_past-append (start_key c pattern) (n ∷ ns))
       ∙ cond-true (is_wanted is.kind n ns) (Some (text_below pattern (n ∷ ns))) None test)
 
-  named_text_is : (kind : Kind) (names : Key) (text : Text) → kind_at c (start_key c pattern ++ names) ≡ Some kind → named_text o pattern kind names ≡ Some text → IsGoal c o pattern text
+  taken_text_is : (kind : Kind) (names : Key) (text : Text) → kind_at c (start_key c pattern ++ names) ≡ Some kind → taken_text o pattern kind names ≡ Some text → IsGoal c o pattern text
   unfolding is_wanted
-  named_text_is kind [] text held h = absurd (none-some text h)
-  named_text_is kind (n ∷ ns) text held h = by_test (is_wanted kind n ns) refl h
+  taken_text_is kind [] text held h = absurd (none-some text h)
+  taken_text_is kind (n ∷ ns) text held h = by_test (is_wanted kind n ns) refl h
     where
       by_test : (b : Bool) → (matches_kind pattern kind && walk_takes o false (components pattern) (n ∷ ns)) ≡ b → cond b (Some (text_below pattern (n ∷ ns))) None ≡ Some text → IsGoal c o pattern text
       by_test true e g =
@@ -74,9 +74,9 @@ module _ (c : Content) (o : MatchOptions) (pattern : Text) (p : IsNamedWalk c pa
           }
       by_test false e g = absurd (none-some text g)
 
-  pub taken_of_goal : (text : Text) → Contains (named_goal c o pattern) text → IsGoal c o pattern text
-  unfolding named_goal
+  pub taken_of_goal : (text : Text) → Contains (taken_goal c o pattern) text → IsGoal c o pattern text
+  unfolding taken_goal
   taken_of_goal text h =
-      let (e, in', gives) = Contains-filter_map (λ e. option_and_then (named_text o pattern e.1) (names_past (start_key c pattern) e.0)) c.kinds text h in
-      option_and_then_some (named_text o pattern e.1) (names_past (start_key c pattern) e.0) text gives
-      (λ names past is. named_text_is e.1 names text (ap (kind_at c) (sym (names_past_is (start_key c pattern) e.0 names past)) ∙ kind_at-entry c w e in') is)
+      let (e, in', gives) = Contains-filter_map (λ e. option_and_then (taken_text o pattern e.1) (names_past (start_key c pattern) e.0)) c.kinds text h in
+      option_and_then_some (taken_text o pattern e.1) (names_past (start_key c pattern) e.0) text gives
+      (λ names past is. taken_text_is e.1 names text (ap (kind_at c) (sym (names_past_is (start_key c pattern) e.0 names past)) ∙ kind_at-entry c w e in') is)

@@ -9,7 +9,7 @@ use Rattle.glob_tree.proofs.ContentLemmas.Directories.{is_directory-look_result,
 use Rattle.glob_walk.specs.Marks.{items}
 use Rattle.glob_walk.specs.Components.{start, components, wants_directories}
 use Rattle.glob_walk.specs.Listing.{enter, listing}
-use Rattle.glob_walk.specs.Goal.{are_plain, is_plain, start_key, IsNamedWalk}
+use Rattle.glob_walk.specs.Goal.{are_plain, is_plain, start_key, IsPlainWalk}
 use Rattle.glob_pattern.specs.declared.options.MatchOptions.{MatchOptions}
 use Rattle.glob_walk.proofs.GoalLemmas.PatternParts.{components-flat}
 use Rattle.glob_walk.proofs.GoalLemmas.KeysBelow.{Here}
@@ -20,7 +20,7 @@ use Rattle.glob_walk.proofs.GoalLemmas.FoundIsTaken.{hits_are_taken}
 use Rattle.glob_walk.proofs.GoalLemmas.TakenIsFound.{FoundOrCovered, taken_are_found}
 use Rattle.glob_walk.proofs.GoalLemmas.GoalNames.{IsTaken}
 
-module _ (c : Content) (o : MatchOptions) (pattern : Text) (p : IsNamedWalk c pattern) where
+module _ (c : Content) (o : MatchOptions) (pattern : Text) (p : IsPlainWalk c pattern) where
   w : IsContent c
   w = IsContent-from_test c p.content
 

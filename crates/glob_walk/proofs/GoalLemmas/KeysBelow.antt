@@ -41,10 +41,6 @@ names_at c w k names kind held =
     let all = (and_parts (are_names (k ++ names)) (is_dir_at c (parent_key (k ++ names))) placed).0 in
     (and_parts (are_names k) (are_names names) (sym (list_all-append (λ name. is_utf8 name && is_proper name) k names) ∙ all)).1
 
-pub name_is_utf8 : (c : Content) → IsContent c → (k : Key) (n : Text) (ns : Key) (kind : Kind) → kind_at c (k ++ n ∷ ns) ≡ Some kind → is_utf8 n ≡ true
-name_is_utf8 c w k n ns kind held =
-    (and_parts (is_utf8 n) (is_proper n) (and_parts (is_utf8 n && is_proper n) (are_names ns) (names_at c w k (n ∷ ns) kind held)).0).0
-
 -- what stands at the key
 pub record Here (c : Content) (k : Key) (d : Bool) : Type 0 where
   pub kind : Kind

@@ -10,7 +10,7 @@ use Rattle.glob_tree.specs.Content.{Content, Key, DirEntry, kind_at, is_dir, chi
 use Rattle.glob_walk.specs.Components.{Literal, Recursive, Wild, component_kind, ComponentKind, begins_recursive, matches_name, start, components, wants_directories}
 use Rattle.glob_walk.specs.Listing.{is_entered, levels, listing}
 use Rattle.glob_walk.specs.Marks.{Unread, items}
-use Rattle.glob_walk.specs.Goal.{IsNamedWalk, is_readable, is_shut, start_key}
+use Rattle.glob_walk.specs.Goal.{IsPlainWalk, is_readable, is_shut, start_key}
 use Rattle.glob_pattern.specs.declared.options.MatchOptions.{MatchOptions}
 use Rattle.glob_tree.specs.declared.kind.Kind.{Kind}
 use Rattle.glob_tree.specs.declared.kind.Kind.TheVariants.{Dir, Shut, Other}
@@ -119,7 +119,7 @@ module _ (c : Content) where
       ∙ list_all-contains (λ e. not (is_shut e.1) || is_none (names_past (start_key c pattern) e.0)) c.kinds (start_key c pattern ++ names, Shut kind) readable (contains_kind_at c (start_key c pattern ++ names) (Shut kind) shut))
 
 -- the written listing of a plain walk over a readable content has no error
-pub no_error : (c : Content) (o : MatchOptions) (pattern : Text) → IsNamedWalk c pattern → is_readable c pattern ≡ true → (path : Text) (kind : ErrorKind) → Contains (items (listing c o pattern)) (Unread path kind) → ⊥
+pub no_error : (c : Content) (o : MatchOptions) (pattern : Text) → IsPlainWalk c pattern → is_readable c pattern ≡ true → (path : Text) (kind : ErrorKind) → Contains (items (listing c o pattern)) (Unread path kind) → ⊥
 no_error c o pattern p readable path kind h =
     let (names, in') = miss_of_error (start pattern) path kind (finds c o pattern) (subst (λ is. Contains is (Unread path kind)) (items-finds c o pattern p) h) in
     readable-none c (IsContent-from_test c p.content) pattern readable names kind

@@ -16,7 +16,7 @@ use Rattle.glob_tree.specs.Content.{Content, Key}
 use Rattle.glob_walk.specs.Marks.{Item, items, paths, IsBeginning}
 use Rattle.glob_walk.specs.Components.{start, components, wants_directories, begins_recursive, is_recursive}
 use Rattle.glob_walk.specs.Listing.{listing}
-use Rattle.glob_walk.specs.Goal.{IsNamedWalk, IsPlainWalk, start_key}
+use Rattle.glob_walk.specs.Goal.{IsPlainWalk, start_key}
 use Rattle.glob_walk.specs.Order.{from_first_recursive, after_first_recursive, has_one_recursive, keeps_order, names_of, path_cmp, IsOnce, IsAscending, IsOrderly}
 use Rattle.glob_pattern.specs.declared.options.MatchOptions.{MatchOptions}
 use Rattle.glob_tree.proofs.ContentLemmas.Membership.{Contains-head, Contains-tail, All-from_contains}
@@ -26,7 +26,6 @@ use Rattle.glob_walk.proofs.GoalLemmas.Finds.{Find, Hit, Miss, item_under, under
 use Rattle.glob_walk.proofs.GoalLemmas.KeysBelow.{names_at}
 use Rattle.glob_walk.proofs.GoalLemmas.NamedPaths.{AreNames-from, under-start, names_of-below}
 use Rattle.glob_walk.proofs.GoalLemmas.GoalNames.{takes_some, IsTaken}
-use Rattle.glob_walk.proofs.GoalLemmas.UndividedGoal.{named}
 use Rattle.glob_walk.proofs.GoalLemmas.ItemsFound.{items-finds, found_is_taken}
 use Rattle.glob_walk.proofs.GoalLemmas.FoundParts.{hit_of_path}
 use Rattle.glob_walk.proofs.GoalLemmas.FoundInOrder.{Pairs, OfHits, Shorter, AtRuns, ordered_finds}
@@ -155,7 +154,7 @@ AllPairs-from : {X : Type 0} (S : X → X → Type 0) (xs : List X) → Pairs S 
 AllPairs-from S [] p = λ i j d l h. absurd (omega arith)
 AllPairs-from S (x ∷ xs) p = AllPairs-cons S x xs (All-from_contains (S x) xs p.0) (AllPairs-from S xs p.1)
 
-module _ (c : Content) (o : MatchOptions) (pattern : Text) (p : IsNamedWalk c pattern) where
+module _ (c : Content) (o : MatchOptions) (pattern : Text) (p : IsPlainWalk c pattern) where
   w : IsContent c
   w = IsContent-from_test c p.content
 
@@ -179,8 +178,8 @@ module _ (c : Content) (o : MatchOptions) (pattern : Text) (p : IsNamedWalk c pa
       (subst (λ x. R x (names_of (under (start pattern) b))) (sym (hit_names a left)) (subst (R a) (sym (hit_names b right)) r))))))
 
   -- a beginning of the written listing gives its paths once and in order, as the pattern has runs
-  pub named_walk_orderly : (given : List Item) → IsBeginning given (items (listing c o pattern)) → IsOrderly pattern (paths given)
-  named_walk_orderly given begins = record { once = once; ascending = ascending }
+  pub plain_walk_orderly : (given : List Item) → IsBeginning given (items (listing c o pattern)) → IsOrderly pattern (paths given)
+  plain_walk_orderly given begins = record { once = once; ascending = ascending }
     where
       once : has_one_recursive pattern ≡ true → IsOnce (paths given)
       once h = given_pairs Differ (λ p q. p ≢ q)
@@ -196,7 +195,3 @@ module _ (c : Content) (o : MatchOptions) (pattern : Text) (p : IsNamedWalk c pa
           (ordered_finds c w Rises (record { under = rises-under; first = rises-first }) o (wants_directories pattern) (components pattern)
           (at_runs Rises (components pattern) (not-true _ both.0) (rises-shorter (length (after_first_recursive (components pattern)) - 1) (omega arith))) (start_key c pattern) true)
           (λ p q r. r) given begins
-
-pub plain_walk_orderly : (c : Content) (o : MatchOptions) (pattern : Text) → IsPlainWalk c o pattern → (given : List Item)
-    → IsBeginning given (items (listing c o pattern)) → IsOrderly pattern (paths given)
-plain_walk_orderly c o pattern p = named_walk_orderly c o pattern (named c o pattern p)

@@ -10,7 +10,7 @@ use Rattle.glob_tree.proofs.ContentLemmas.Contents.{IsContent, IsContent-from_te
 use Rattle.glob_walk.specs.Marks.{Item, Unread, items, paths, IsBeginning}
 use Rattle.glob_walk.specs.Components.{start}
 use Rattle.glob_walk.specs.Listing.{listing}
-use Rattle.glob_walk.specs.Goal.{start_key, is_readable, named_goal, IsNamedWalk, IsPlainWalk, IsHidden, ReachesTexts, GivesTexts, ReachesGoal, GivesGoal}
+use Rattle.glob_walk.specs.Goal.{start_key, is_readable, taken_goal, IsPlainWalk, IsSensitiveWalk, IsHidden, ReachesTexts, GivesTexts, ReachesGoal, GivesGoal}
 use Rattle.glob_pattern.specs.declared.options.MatchOptions.{MatchOptions}
 use Rattle.glob_walk.proofs.ListingLemmas.Marks.{paths-append}
 use Rattle.glob_walk.proofs.GoalLemmas.KeysBelow.{names_at}
@@ -22,24 +22,24 @@ use Rattle.glob_walk.proofs.GoalLemmas.GoalNames.{takes_some, IsTaken, IsGoal, g
 use Rattle.glob_walk.proofs.GoalLemmas.ItemsFound.{items-finds, found_is_taken, taken_is_found}
 use Rattle.glob_walk.proofs.GoalLemmas.FoundParts.{hit_of_path, path_of_hit}
 use Rattle.glob_walk.proofs.GoalLemmas.NoError.{no_error}
-use Rattle.glob_walk.proofs.GoalLemmas.UndividedGoal.{goal_is_named, named}
+use Rattle.glob_walk.proofs.GoalLemmas.UndividedGoal.{goal_is_taken}
 
-module _ (c : Content) (o : MatchOptions) (pattern : Text) (p : IsNamedWalk c pattern) where
+module _ (c : Content) (o : MatchOptions) (pattern : Text) (p : IsPlainWalk c pattern) where
   w : IsContent c
   w = IsContent-from_test c p.content
 
   -- the path of a key that the components take is a goal
-  path_is_goal : (names : Key) → IsTaken c o pattern names → Contains (named_goal c o pattern) (under (start pattern) names)
+  path_is_goal : (names : Key) → IsTaken c o pattern names → Contains (taken_goal c o pattern) (under (start pattern) names)
   path_is_goal [] is = absurd (takes_some o pattern is.taken)
   path_is_goal (n ∷ ns) is =
-      subst (Contains (named_goal c o pattern)) (sym (under-start pattern n ns (AreNames-from (n ∷ ns) (names_at c w (start_key c pattern) (n ∷ ns) is.kind is.held))))
+      subst (Contains (taken_goal c o pattern)) (sym (under-start pattern n ns (AreNames-from (n ∷ ns) (names_at c w (start_key c pattern) (n ∷ ns) is.kind is.held))))
       (goal_of_taken c o pattern p n ns is)
 
   -- each path of the written listing is a goal
-  pub paths_are_goals : (text : Text) → Contains (paths (items (listing c o pattern))) text → Contains (named_goal c o pattern) text
+  pub paths_are_goals : (text : Text) → Contains (paths (items (listing c o pattern))) text → Contains (taken_goal c o pattern) text
   paths_are_goals text h =
       let (names, e, in') = hit_of_path (start pattern) (finds c o pattern) text (subst (λ is. Contains (paths is) text) (items-finds c o pattern p) h) in
-      subst (Contains (named_goal c o pattern)) (sym e) (path_is_goal names (found_is_taken c o pattern p names in'))
+      subst (Contains (taken_goal c o pattern)) (sym e) (path_is_goal names (found_is_taken c o pattern p names in'))
 
   -- a goal below a directory that cannot be listed is hidden
   hidden : (text : Text) (is : IsGoal c o pattern text) → IsCovered c (finds c o pattern) (start_key c pattern) (is.name ∷ is.names) → IsHidden c pattern (items (listing c o pattern)) text
@@ -60,7 +60,7 @@ module _ (c : Content) (o : MatchOptions) (pattern : Text) (p : IsNamedWalk c pa
   }
 
   -- each goal is a path of the written listing, or hidden
-  pub goals_are_reached : (text : Text) → Contains (named_goal c o pattern) text
+  pub goals_are_reached : (text : Text) → Contains (taken_goal c o pattern) text
       → Contains (paths (items (listing c o pattern))) text ⊎ IsHidden c pattern (items (listing c o pattern)) text
   goals_are_reached text h =
       let is = taken_of_goal c o pattern p text h in
@@ -73,9 +73,9 @@ module _ (c : Content) (o : MatchOptions) (pattern : Text) (p : IsNamedWalk c pa
       (taken_is_found c o pattern p (is.name ∷ is.names) is.taken)
 
 -- A beginning of the items reaches the goal, where `IsWhole` says that it is all of them.
-pub named_walk_reaches : (c : Content) (o : MatchOptions) (pattern : Text) → IsNamedWalk c pattern → (given : List Item) → IsBeginning given (items (listing c o pattern))
-    → (IsWhole : Type 0) → (IsWhole → given ≡ items (listing c o pattern)) → ReachesTexts c pattern (named_goal c o pattern) IsWhole given
-named_walk_reaches c o pattern p given begins IsWhole whole = record {
+pub taken_walk_reaches : (c : Content) (o : MatchOptions) (pattern : Text) → IsPlainWalk c pattern → (given : List Item) → IsBeginning given (items (listing c o pattern))
+    → (IsWhole : Type 0) → (IsWhole → given ≡ items (listing c o pattern)) → ReachesTexts c pattern (taken_goal c o pattern) IsWhole given
+taken_walk_reaches c o pattern p given begins IsWhole whole = record {
   sound = λ text h. paths_are_goals c o pattern p text
       (subst (λ is. Contains (paths is) text) (sym begins.1)
       (subst (λ ps. Contains ps text) (sym (paths-append given begins.0)) (Contains-append_left (paths given) (paths begins.0) text h)));
@@ -84,8 +84,8 @@ named_walk_reaches c o pattern p given begins IsWhole whole = record {
 }
 
 -- Over a readable content the items are exactly the goal.
-pub named_walk_gives : (c : Content) (o : MatchOptions) (pattern : Text) → IsNamedWalk c pattern → is_readable c pattern ≡ true → GivesTexts (named_goal c o pattern) (items (listing c o pattern))
-named_walk_gives c o pattern p readable =
+pub taken_walk_gives : (c : Content) (o : MatchOptions) (pattern : Text) → IsPlainWalk c pattern → is_readable c pattern ≡ true → GivesTexts (taken_goal c o pattern) (items (listing c o pattern))
+taken_walk_gives c o pattern p readable =
     let none = no_error c o pattern p readable in record {
       readable = none;
       exact = λ text. (
@@ -95,11 +95,11 @@ named_walk_gives c o pattern p readable =
     }
 
 -- Both hold of a plain walk, whose goal is what the undivided pattern matches.
-pub plain_walk_reaches : (c : Content) (o : MatchOptions) (pattern : Text) → IsPlainWalk c o pattern → (given : List Item) → IsBeginning given (items (listing c o pattern))
+pub plain_walk_reaches : (c : Content) (o : MatchOptions) (pattern : Text) → IsSensitiveWalk c o pattern → (given : List Item) → IsBeginning given (items (listing c o pattern))
     → (IsWhole : Type 0) → (IsWhole → given ≡ items (listing c o pattern)) → ReachesGoal c o pattern IsWhole given
 plain_walk_reaches c o pattern p given begins IsWhole whole =
-    subst (λ wanted. ReachesTexts c pattern wanted IsWhole given) (goal_is_named c o pattern p) (named_walk_reaches c o pattern (named c o pattern p) given begins IsWhole whole)
+    subst (λ wanted. ReachesTexts c pattern wanted IsWhole given) (goal_is_taken c o pattern p) (taken_walk_reaches c o pattern p.plain given begins IsWhole whole)
 
-pub plain_walk_gives : (c : Content) (o : MatchOptions) (pattern : Text) → IsPlainWalk c o pattern → is_readable c pattern ≡ true → GivesGoal c o pattern (items (listing c o pattern))
+pub plain_walk_gives : (c : Content) (o : MatchOptions) (pattern : Text) → IsSensitiveWalk c o pattern → is_readable c pattern ≡ true → GivesGoal c o pattern (items (listing c o pattern))
 plain_walk_gives c o pattern p readable =
-    subst (λ wanted. GivesTexts wanted (items (listing c o pattern))) (goal_is_named c o pattern p) (named_walk_gives c o pattern (named c o pattern p) readable)
+    subst (λ wanted. GivesTexts wanted (items (listing c o pattern))) (goal_is_taken c o pattern p) (taken_walk_gives c o pattern p.plain readable)

@@ -14,7 +14,7 @@ use Rattle.glob_tree.proofs.ContentLemmas.Contents.{IsContent, IsContent-from_te
 use Rattle.glob_pattern.specs.declared.options.MatchOptions.{MatchOptions}
 use Rattle.glob_pattern.specs.Matching.Components.{is_open, name_before, run_before, run_to_end, takes_names}
 use Rattle.glob_walk.specs.Components.{components, is_literal, is_recursive, matches_name}
-use Rattle.glob_walk.specs.Goal.{is_plain, start_key, text_below, matches_undivided, matches_kind, goal_text, goal, named_text, named_goal, walk_takes, walk_takes_name, IsNamedWalk, IsPlainWalk}
+use Rattle.glob_walk.specs.Goal.{is_plain, start_key, text_below, matches_undivided, matches_kind, goal_text, goal, taken_text, taken_goal, walk_takes, walk_takes_name, IsSensitiveWalk}
 use Rattle.glob_walk.specs.Laws.{are_names}
 use Rattle.glob_walk.proofs.GoalLemmas.Characters.{AllUtf8}
 use Rattle.glob_walk.proofs.GoalLemmas.KeysBelow.{names_at}
@@ -78,29 +78,26 @@ all_utf8 : (ts : List Text) → AllUtf8 ts → list_all is_utf8 ts ≡ true
 all_utf8 [] all = refl
 all_utf8 (t ∷ ts) all = and_from (is_utf8 t) (list_all is_utf8 ts) (is_utf8-from_IsUtf8 t all.0) (all_utf8 ts all.1)
 
-pub named : (c : Content) (o : MatchOptions) (pattern : Text) → IsPlainWalk c o pattern → IsNamedWalk c pattern
-named c o pattern p = record { content = p.content; text = p.text; plain = p.plain }
-
 -- the goal, where the pattern is plain and the options keep case
-pub goal_is_named : (c : Content) (o : MatchOptions) (pattern : Text) → IsPlainWalk c o pattern → named_goal c o pattern ≡ goal c o pattern
-unfolding named_goal goal
-goal_is_named c o pattern p = by_entries c.kinds (λ e in'. in')
+pub goal_is_taken : (c : Content) (o : MatchOptions) (pattern : Text) → IsSensitiveWalk c o pattern → taken_goal c o pattern ≡ goal c o pattern
+unfolding taken_goal goal
+goal_is_taken c o pattern p = by_entries c.kinds (λ e in'. in')
   where
     w : IsContent c
-    w = IsContent-from_test c p.content
+    w = IsContent-from_test c p.plain.content
 
     by_names : (e : Key × Kind) → Contains c.kinds e → (past : Option Key) → names_past (start_key c pattern) e.0 ≡ past
-        → option_and_then (named_text o pattern e.1) past ≡ option_and_then (goal_text o pattern e.1) past
+        → option_and_then (taken_text o pattern e.1) past ≡ option_and_then (goal_text o pattern e.1) past
     by_names e in' None is = refl
     by_names e in' (Some []) is = refl
     by_names e in' (Some (n ∷ ns)) is =
         let proper = names_at c w (start_key c pattern) (n ∷ ns) e.1 (ap (kind_at c) (sym (names_past_is (start_key c pattern) e.0 (n ∷ ns) is)) ∙ kind_at-entry c w e in') in
         ap (λ b. cond (matches_kind pattern e.1 && b) (Some (text_below pattern (n ∷ ns))) None)
-        (takes_same o p.case false (components pattern) (all_utf8 (components pattern) (components-utf8 pattern p.text)) (n ∷ ns) (all_utf8 (n ∷ ns) (AllUtf8-from (n ∷ ns) proper))
-        ∙ sym (plain_matches_levels o pattern p.text p.plain p.case n ns proper))
+        (takes_same o p.case false (components pattern) (all_utf8 (components pattern) (components-utf8 pattern p.plain.text)) (n ∷ ns) (all_utf8 (n ∷ ns) (AllUtf8-from (n ∷ ns) proper))
+        ∙ sym (plain_matches_levels o pattern p.plain.text p.plain.plain p.case n ns proper))
 
     by_entries : (es : List (Key × Kind)) → ((e : Key × Kind) → Contains es e → Contains c.kinds e)
-        → filter_map (λ e. option_and_then (named_text o pattern e.1) (names_past (start_key c pattern) e.0)) es ≡ filter_map (λ e. option_and_then (goal_text o pattern e.1) (names_past (start_key c pattern) e.0)) es
+        → filter_map (λ e. option_and_then (taken_text o pattern e.1) (names_past (start_key c pattern) e.0)) es ≡ filter_map (λ e. option_and_then (goal_text o pattern e.1) (names_past (start_key c pattern) e.0)) es
     by_entries [] held = refl
     by_entries (e ∷ es) held =
         ap₂ cons_option (by_names e (held e (Contains-head e es)) (names_past (start_key c pattern) e.0) refl) (by_entries es (λ f in'. held f (Contains-tail e es f in')))

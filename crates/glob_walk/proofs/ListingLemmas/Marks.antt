@@ -1,7 +1,8 @@
 -- What a limit leaves of what a walk does.
-use Rattle.std.proofs.Common.{◌≡◌, ℕ, zero, suc, ◌+◌, ◌-◌, ◌≤◌, List, [], ◌∷◌, ◌++◌, replicate, refl, ap, arith}
+use Rattle.std.proofs.Common.{append_assoc, ◌≡◌, ◌∙◌, ℕ, zero, suc, ◌+◌, ◌-◌, ◌≤◌, List, [], ◌∷◌, ◌++◌, replicate, refl, ap, arith}
 use Rattle.glob_text.specs.Text.{Text}
 use Rattle.glob_walk.specs.Marks.{Item, Found, Unread, Mark, Work, Give, items, cost, front, paths, IsBeginning}
+use Rattle.glob_walk.specs.Walks.{IsCutShort}
 
 pub items-append : (ms ns : List Mark) → items (ms ++ ns) ≡ items ms ++ items ns
 items-append [] ns = refl
@@ -41,3 +42,10 @@ pub paths-append : (is js : List Item) → paths (is ++ js) ≡ paths is ++ path
 paths-append [] js = refl
 paths-append (Found path ∷ is) js = ap (λ ps. path ∷ ps) (paths-append is js)
 paths-append (Unread path kind ∷ is) js = paths-append is js
+
+-- so are items of which the last may have found no room
+pub IsBeginning-cut : (ms : List Mark) (spent : ℕ) (is : List Item) → IsCutShort ms spent is → IsBeginning is (items ms)
+IsBeginning-cut ms spent is cut = (
+  cut.lost ++ items cut.rest,
+  ap items cut.whole ∙ items-append cut.done cut.rest ∙ ap (λ js. js ++ items cut.rest) cut.given ∙ append_assoc is cut.lost (items cut.rest),
+)

@@ -20,7 +20,8 @@ use Rattle.glob_walk.specs.Private.Queries.{question_of}
 use Rattle.glob_walk.specs.Private.Walkers.{walk_left, walk_ready}
 use Rattle.glob_walk.specs.Answers.{IsAnswered}
 use Rattle.glob_walk.specs.Private.Turns.{TurnOf, TurnCounts, IfGoing, TurnsTo, said_items, with_task}
-use Rattle.glob_walk.specs.Walks.{Charges, BreaksOff, Gives, LimitAt, NoMemory, works}
+use Rattle.glob_walk.specs.Iterating.{Charges, BreaksOff, works}
+use Rattle.glob_walk.specs.Walks.{Gives, LimitAt, NoMemory}
 
 pub uncharged : (left new : List Mark) (spent : ℕ) → left ≡ new → Charges left spent new spent
 uncharged left new spent e = record { paths = []; front = e; units = omega arith }

@@ -16,15 +16,14 @@ use Rattle.glob_tree.specs.declared.tree.Entry.{Entry}
 use Rattle.glob_tree.proofs.ContentLemmas.Contents.{IsContent}
 use Rattle.glob_walk.specs.Listing.{enter}
 use Rattle.glob_walk.specs.Marks.{Mark, Give, Found}
-use Rattle.glob_walk.specs.Walks.{works}
+use Rattle.glob_walk.specs.Iterating.{works}
 use Rattle.glob_walk.specs.declared.plan.Plan.{Plan}
 use Rattle.glob_walk.specs.declared.frame.Cursor.TheVariants.{Parent, At}
 use Rattle.glob_walk.specs.Private.Forms.{takes_name}
 use Rattle.glob_walk.specs.Private.Frames.{entry_marks, entries_marks, first_of, first_part, special_marks, cursor_marks, first_cursor}
-use Rattle.glob_walk.specs.Private.Meters.{IsInOrder}
 use Rattle.glob_walk.specs.Private.Tasks.{is_dotted, IgnoresKinds, IsListedFor}
 use Rattle.glob_walk.proofs.WalkLemmas.Entering.{enter-end}
-use Rattle.glob_walk.proofs.WalkLemmas.Listings.{in_order, names_listed}
+use Rattle.glob_walk.proofs.WalkLemmas.Listings.{IsInOrder, in_order, names_listed}
 use Rattle.glob_walk.proofs.WalkLemmas.Opening.{Opens, by_listing, opened_entries}
 use Rattle.std.proofs.lemmas.List.{append-nil}
 

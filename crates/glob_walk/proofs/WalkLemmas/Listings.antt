@@ -1,6 +1,6 @@
 -- What a tree lists, in order.
 use Rattle.std.proofs.Common.{◌≡◌, ℕ, ◌+◌, ◌<◌, Bool, true, false, List, [], ◌∷◌, length, get_or, Option, Some, None, refl, ap, subst, ◌∙◌, arith}
-use Rattle.std.specs.Prelude.{map, Contains}
+use Rattle.std.specs.Prelude.{map, Contains, ⊤}
 use Rattle.std.specs.List.Sorted.{IsPermutation, IsSortedByKey}
 use Rattle.std.specs.Cmp.Lexicographic.{slice_cmp}
 use Rattle.std.specs.Ordering.{nat_cmp, is_lt}
@@ -15,7 +15,24 @@ use Rattle.glob_tree.specs.declared.kind.Kind.TheVariants.{Dir, Shut, Other}
 use Rattle.glob_tree.proofs.ContentLemmas.Contents.{IsContent}
 use Rattle.glob_tree.proofs.ContentLemmas.Sorting.{AreApart, children_apart, sorted_is_ascending}
 use Rattle.glob_tree.proofs.ContentLemmas.Names.{names_in_order}
-use Rattle.glob_walk.specs.Private.Meters.{IsInOrder, IsHeld, IsCut}
+
+-- the entries of the directory, in order
+abbrev pub IsInOrder : ListAnswer → List DirEntry → Type 0
+IsInOrder (Entries es) answer = answer ≡ sorted_entries es
+IsInOrder (Fails kind) answer = ⊥
+IsInOrder NoDirectory answer = ⊤
+
+-- the directory has the entry
+abbrev pub IsHeld : ListAnswer → DirEntry → Type 0
+IsHeld (Entries es) e = Contains es e
+IsHeld (Fails kind) e = ⊥
+IsHeld NoDirectory e = ⊤
+
+-- the limit does not reach the entries of a listing, whose own unit is spent
+abbrev pub IsCut : ListAnswer → ℕ → ℕ → Type 0
+IsCut (Entries es) spent limit = limit < spent + length es
+IsCut (Fails kind) spent limit = ⊥
+IsCut NoDirectory spent limit = ⊤
 
 -- no name stands twice in what is listed
 pub AreApart-list_result : (c : Content) → IsContent c → (path : Text) (es : List DirEntry) → list_result c path ≡ Entries es → AreApart es

@@ -7,11 +7,11 @@ use Rattle.std.proofs.lemmas.List.Elements.{All-from_recursion}
 use Rattle.std.proofs.lemmas.Bool.{both_ways}
 use Rattle.glob_text.specs.Text.{Text}
 use Rattle.glob_tree.specs.Content.{Content}
-use Rattle.glob_walk.specs.Aims.{listing_of}
-use Rattle.glob_walk.specs.Listing.{look_up, enter}
+use Rattle.glob_walk.specs.Listing.{listing_of, look_up, enter}
 use Rattle.glob_walk.specs.Questions.{Question}
 use Rattle.glob_walk.specs.Machines.{MachineState, Saying, AsksLook, AsksList, IsAskedAfter, IsCharged, StepCounts, StepGoes, Says, Ends, is_last_step, step_outcome}
-use Rattle.glob_walk.specs.Walks.{Outcome, Gives, LimitAt, NoMemory, item_number}
+use Rattle.glob_walk.specs.Iterating.{item_number}
+use Rattle.glob_walk.specs.Walks.{Outcome, Gives, LimitAt, NoMemory}
 use Rattle.glob_walk.specs.declared.frame.Frame.{Frame}
 use Rattle.glob_walk.specs.declared.plan.Plan.{Plan}
 use Rattle.glob_walk.specs.declared.walker.Walker.{Walker}
@@ -21,13 +21,12 @@ use Rattle.glob_walk.specs.Private.Stacks.{aim_of, frames_marks}
 use Rattle.glob_walk.specs.Private.Tasks.{enter_from, state_marks, task_marks, next_marks, next_ready, state_ready, IsNextSound, IsStateSound}
 use Rattle.glob_walk.specs.Private.Frames.{unmet, IsFrameSound}
 use Rattle.glob_walk.specs.Private.Queries.{question_of, query_ready, IsQueryOpened, IsQuerySound}
-use Rattle.glob_walk.specs.Private.Walkers.{walk_ready, IsWalkSound}
+use Rattle.glob_walk.specs.Private.Walkers.{Walk, walk_ready, IsUnderWay, IsGood, IsWalkSound}
 use Rattle.glob_walk.specs.declared.task.Task.{Task}
 use Rattle.glob_walk.specs.declared.task.TaskState.TheVariants.{Unseen}
 use Rattle.glob_walk.specs.declared.task.Accepted.TheVariants.{Any}
 use Rattle.glob_walk.specs.Answers.{IfFailed, IsAnswer, IsAnswered, answer_count}
 use Rattle.glob_walk.specs.Private.Turns.{TurnsTo}
-use Rattle.glob_walk.specs.Private.Walking.{IsUnderWay, IsGood}
 use Rattle.std.proofs.lemmas.List.{append-nil}
 
 pub one_item : (s : Saying) → item_number (step_outcome s) ≤ 1
@@ -37,8 +36,8 @@ one_item (Says o) = omega arith
 one_item Ends = omega arith
 
 -- what contracts see of it
-abbrev pub view : {A : Type 0} → Walker A → ℕ → Bool → MachineState A
-view w given over = record { limit = w.meter.limit; spent = w.meter.spent; given = given; over = over; asked = question_of w.query; aim = aim_of w.stack.plan; todo = w }
+abbrev pub view : {A : Type 0} → Walker A → ℕ → Bool → MachineState (Walk A)
+view w given over = record { limit = w.meter.limit; spent = w.meter.spent; given = given; over = over; asked = question_of w.query; aim = aim_of w.stack.plan; state = w }
 
 -- nothing is left on the stack
 abbrev pub IsCleared : {A : Type 0} → Walker A → Type 0
@@ -127,7 +126,7 @@ module _ {A : Type 0} (Fits : Content → Type 0) (n : ℕ) (w w' : Walker A) (g
   }
 
 -- a step, with what is known of its parts
-pub goes_at : {A : Type 0} (n : ℕ) (w w' : Walker A) (given : ℕ) (over' : Bool) (a : Answer A) (v : MachineState A) → view w given over' ≡ v → over' ≡ false → w.meter.limit < 2 ^ 64 → IsUnderWay w given
+pub goes_at : {A : Type 0} (n : ℕ) (w w' : Walker A) (given : ℕ) (over' : Bool) (a : Answer A) (v : MachineState (Walk A)) → view w given over' ≡ v → over' ≡ false → w.meter.limit < 2 ^ 64 → IsUnderWay w given
     → (x : Saying) (k : ℕ) (b : Bool) → k ≡ item_number (step_outcome x) → b ≡ is_last_step x
     → TurnsTo (IsAnswered (question_of w.query) a) n w (Some x) w' → (is_last_step x ≡ true → IsCleared w') → StepGoes (IsAnswered v.asked a) n v x (view w' (given + k) b)
 goes_at {A} n w w' given over' a v e going' fits u x k b ks bs r cleared =
@@ -150,7 +149,7 @@ none_failed {A} q (answer.Look r) path P free h = absurd (subst (λ x. IsAnswer 
 none_failed q (answer.List r) path P free h = absurd (subst (λ x. IsAnswer x (answer.List r)) free h)
 
 -- a walk that is over stays as it is
-pub goes_over : {A : Type 0} (w : Walker A) (given : ℕ) (over' : Bool) → over' ≡ true → (a : Answer A) (v : MachineState A) → view w given over' ≡ v → IsGood w given over' → IsAnswer v.asked a
+pub goes_over : {A : Type 0} (w : Walker A) (given : ℕ) (over' : Bool) → over' ≡ true → (a : Answer A) (v : MachineState (Walk A)) → view w given over' ≡ v → IsGood w given over' → IsAnswer v.asked a
     → StepGoes (IsAnswered v.asked a) (answer_count a) v Ends v
 goes_over w given over' yes' a v e good answers =
     subst (λ x. IsAnswer x.asked a → StepGoes (IsAnswered x.asked a) (answer_count a) x Ends x) e

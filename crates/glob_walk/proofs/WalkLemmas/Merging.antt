@@ -8,10 +8,9 @@ use Rattle.glob_pattern.specs.declared.options.MatchOptions.{MatchOptions}
 use Rattle.glob_tree.specs.Content.{Content}
 use Rattle.glob_walk.specs.Components.{ComponentKind, Literal, Recursive, Wild, component_kind, components, is_literal, is_recursive, begins_recursive, has_root, start, wants_directories}
 use Rattle.std.specs.Path.{root_dir, cur_dir}
-use Rattle.glob_walk.specs.Aims.{listing_of}
+use Rattle.glob_walk.specs.Listing.{listing_of, by_name, by_match, descent, levels, enter, meet, match_at, look_up, listing}
 use Rattle.glob_walk.specs.declared.plan.Plan.{Plan}
 use Rattle.glob_walk.specs.Private.Stacks.{aim_of}
-use Rattle.glob_walk.specs.Listing.{by_name, by_match, descent, levels, enter, meet, match_at, look_up, listing}
 use Rattle.glob_walk.specs.Private.Merging.{merged, merged_after, are_merged}
 use Rattle.glob_walk.specs.Private.Tasks.{IsOpened}
 use Rattle.glob_walk.proofs.ListingLemmas.ComponentKinds.{recursive_is, recursive-kind, kind-Recursive}

@@ -24,12 +24,12 @@ use Rattle.glob_walk.specs.declared.frame.Cursor.{Cursor}
 use Rattle.glob_walk.specs.declared.frame.Cursor.TheVariants.{Parent, At}
 use Rattle.glob_walk.specs.Private.Tasks.{enter_from, IsOpened}
 use Rattle.glob_walk.specs.Private.Frames.{take_at, first_of, entries_marks, special_marks, special_after, cursor_marks, cursor_unmet, first_cursor, IsEntrySound}
-use Rattle.glob_walk.specs.Private.Meters.{IsInOrder, IsHeld, IsCut}
 use Rattle.glob_tree.specs.Answers.{IsListFault}
-use Rattle.glob_walk.specs.Walks.{works, Charges, StopsAt}
+use Rattle.glob_walk.specs.Iterating.{works, Charges, StopsAt}
 use Rattle.glob_walk.proofs.WalkLemmas.Entering.{meet-next}
 use Rattle.glob_walk.specs.Components.{is_recursive, begins_recursive}
 use Rattle.glob_walk.proofs.WalkLemmas.Literals.{undotted_kind, takes_same}
+use Rattle.glob_walk.proofs.WalkLemmas.Listings.{IsInOrder, IsHeld, IsCut}
 
 works_replicate : (n : ℕ) (path : Text) → replicate n (Work path) ≡ works (replicate n path)
 works_replicate zero path = refl

@@ -2,7 +2,7 @@
 use Rattle.std.proofs.Common.{◌≡◌, suc, List, [], ◌∷◌, length, refl, ap}
 use Rattle.glob_text.specs.Text.{Text}
 use Rattle.glob_walk.specs.Marks.{items, cost}
-use Rattle.glob_walk.specs.Walks.{works}
+use Rattle.glob_walk.specs.Iterating.{works}
 
 pub items-works : (ps : List Text) → items (works ps) ≡ []
 items-works [] = refl

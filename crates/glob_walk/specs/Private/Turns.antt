@@ -4,7 +4,8 @@ use Rattle.glob_text.specs.Text.{Text}
 use Rattle.glob_walk.specs.Marks.{Mark}
 use Rattle.glob_walk.specs.Questions.{Question, IsLook, IsListWith, IsSomeContent}
 use Rattle.glob_walk.specs.Machines.{Saying, AsksLook, AsksList, Says, TakesStep, saying, step_outcome, step_units}
-use Rattle.glob_walk.specs.Walks.{Charges, LimitAt, NoMemory, item_number}
+use Rattle.glob_walk.specs.Iterating.{Charges, item_number}
+use Rattle.glob_walk.specs.Walks.{LimitAt, NoMemory}
 use Rattle.glob_tree.specs.Content.{Content, list_result}
 use Rattle.glob_tree.specs.Answers.{IsEntriesAnswer, entries_of}
 use Rattle.glob_tree.specs.declared.tree.Entry.{Entry}
@@ -12,6 +13,7 @@ use Rattle.glob_walk.specs.declared.machine.Step.{Step}
 use Rattle.glob_walk.specs.declared.meter.Meter.{Meter}
 use Rattle.glob_walk.specs.declared.query.Query.{Query}
 use Rattle.glob_walk.specs.declared.query.QueryKind.{QueryKind}
+use Rattle.glob_walk.specs.declared.query.QueryKind.TheVariants as kind
 use Rattle.glob_walk.specs.declared.stack.Stack.{Stack}
 use Rattle.glob_walk.specs.declared.task.TaskState.{TaskState}
 use Rattle.glob_walk.specs.declared.walker.Walker.{Walker}
@@ -22,6 +24,11 @@ use Rattle.glob_walk.specs.Private.Walkers.{walk_left, walk_ready, IsWalkSound}
 abbrev pub said : {A : Type 0} → Option (Step A) → Option Saying
 said None = None
 said (Some s) = Some (saying s)
+
+-- what a question says
+abbrev pub asking : QueryKind → Saying
+asking (kind.Look w) = AsksLook
+asking (kind.List recursive kinds) = AsksList kinds
 
 -- what a turn takes from the front of what was left, and what is then asked for
 abbrev pub TurnOf : List Mark → ℕ → Option Saying → Option Question → List Mark → ℕ → Type 0

@@ -1,9 +1,10 @@
--- What a walk has still to do: of the open question, and then of the stack.
-use Rattle.std.specs.Prelude.{ℕ, ◌+◌, List, ◌++◌}
+-- What a walk has still to do, of the open question and then of the stack, and what is true of it between two steps.
+use Rattle.std.specs.Prelude.{◌≡◌, ℕ, ◌+◌, ◌≤◌, ◌<◌, ◌^◌, Bool, true, false, None, List, ◌++◌}
 use Rattle.glob_walk.specs.Marks.{Mark}
 use Rattle.glob_tree.specs.Content.{Content}
+use Rattle.glob_walk.specs.Machines.{Progress}
 use Rattle.glob_walk.specs.declared.walker.Walker.{Walker}
-use Rattle.glob_walk.specs.Private.Queries.{query_marks, query_ready, IsQuerySound}
+use Rattle.glob_walk.specs.Private.Queries.{query_marks, query_ready, IsQuerySound, IsQueryOpened}
 use Rattle.glob_walk.specs.Private.Stacks.{left, ready, IsSound}
 
 -- what is left of the written listing
@@ -18,3 +19,19 @@ walk_ready w = query_ready w.query + ready w.stack
 pub record IsWalkSound {A : Type 0} (c : Content) (w : Walker A) : Type 0 where
   pub query : IsQuerySound c w.query
   pub stack : IsSound c w.stack
+
+-- what contracts know of a walker
+abbrev pub Walk : Type 0 → Progress
+Walk A = record { State = Walker A; left = walk_left; Agrees = IsWalkSound }
+
+-- what is true of a walk that is not over
+pub record IsUnderWay {A : Type 0} (w : Walker A) (given : ℕ) : Type 0 where
+  pub ready : given + walk_ready w ≤ w.meter.spent
+  pub opened : IsQueryOpened w.stack w.query
+
+-- what is true of a walk between two steps, over or not
+pub record IsGood {A : Type 0} (w : Walker A) (given : ℕ) (over : Bool) : Type 0 where
+  pub fits : w.meter.limit < 2 ^ 64
+  pub few : given ≤ w.meter.spent + 1
+  pub going : over ≡ false → IsUnderWay w given
+  pub ended : over ≡ true → w.query ≡ None

@@ -1,6 +1,7 @@
 use Rattle.std.proofs.Common.{rules, ◌≡◌, ◌∙◌, ◌++◌, ◌∷◌, [], Some, None, sym, subst}
 use Rattle.std.specs.Prelude.{option_map}
-use Rattle.glob_walk.specs.Walks.{Goes, outcome, refusal_end}
+use Rattle.glob_walk.specs.Iterating.{Goes}
+use Rattle.glob_walk.specs.Walks.{outcome, refusal_end}
 use Rattle.glob_walk.specs.declared.ending.End.TheVariants as end
 use Rattle.glob.specs.Private.Walking.{EndsAs}
 use Rattle.glob.proofs.Gathering.{Gathers, Gathers-none, Gathers-item, Ends-done, Ends-refusal, Ends-memory, item_from_no_end}

@@ -1,7 +1,7 @@
 use Rattle.glob_walk.specs.Listing.{listing}
-use Rattle.glob_walk.specs.WalkGoals.{WalksPlainly, FindsGoal, FindsExactly, FindsInOrder, FindsNames}
+use Rattle.glob_walk.specs.WalkGoals.{WalksPlainly, FindsGoal, FindsExactly, FindsTaken}
 use Rattle.glob_walk.proofs.GoalLemmas.Clauses.{plain_walk}
-use Rattle.glob.proofs.WalkClauses.{walk_reaches_goal, walk_gives_goal, walk_is_orderly, walk_finds_names}
+use Rattle.glob.proofs.WalkClauses.{walk_reaches_goal, walk_gives_goal, walk_finds_taken}
 use Rattle.glob.proofs.Beginning.{if_ok, if_err, of_ok, of_err, begun_within, begun_asked, begun_told, begun_walk}
 use Rattle.glob.proofs.walk.walk_in.Goals as goal
 
@@ -37,13 +37,9 @@ pub returns-clause-exact : goal.returns-clause-exact
 unfolding FindsExactly WalksPlainly
 returns-clause-exact g c = if_ok _ _ c.walked.result (λ w b t plain readable done. walk_gives_goal t c.args.options c.args.pattern.now c.args.limit _ _ (plain_walk _ t c.args.options c.args.pattern.now plain.0 c.utf8.pattern plain.1 plain.2) _ (begun_walk g.T.Tree.asks g.T.Tree.tells b.0 w.end w.spent w.items.items w.tree b.2 c.args.tree c.args.limit (of_ok _ c.glob_in.result b.0 b.1 c.glob_in.ensures.fresh) t plain.0 (listing t c.args.options c.args.pattern.now) (of_ok _ c.glob_in.result b.0 b.1 (c.glob_in.ensures.listing t plain.0))) readable done) c.walked.ensures.whole
 
-pub returns-clause-orderly : goal.returns-clause-orderly
-unfolding FindsInOrder WalksPlainly
-returns-clause-orderly g c = if_ok _ _ c.walked.result (λ w b t plain. walk_is_orderly t c.args.options c.args.pattern.now c.args.limit _ _ (plain_walk _ t c.args.options c.args.pattern.now plain.0 c.utf8.pattern plain.1 plain.2) _ (begun_walk g.T.Tree.asks g.T.Tree.tells b.0 w.end w.spent w.items.items w.tree b.2 c.args.tree c.args.limit (of_ok _ c.glob_in.result b.0 b.1 c.glob_in.ensures.fresh) t plain.0 (listing t c.args.options c.args.pattern.now) (of_ok _ c.glob_in.result b.0 b.1 (c.glob_in.ensures.listing t plain.0)))) c.walked.ensures.whole
-
-pub returns-clause-named : goal.returns-clause-named
-unfolding FindsNames
-returns-clause-named g c = if_ok _ _ c.walked.result (λ w b t told plain.
-    walk_finds_names t c.args.options c.args.pattern.now c.args.limit _ _ (record { content = told.1; text = c.utf8.pattern; plain = plain }) _
+pub returns-clause-taken : goal.returns-clause-taken
+unfolding FindsTaken
+returns-clause-taken g c = if_ok _ _ c.walked.result (λ w b t told plain.
+    walk_finds_taken t c.args.options c.args.pattern.now c.args.limit _ _ (record { content = told.1; text = c.utf8.pattern; plain = plain }) _
     (begun_walk g.T.Tree.asks g.T.Tree.tells b.0 w.end w.spent w.items.items w.tree b.2 c.args.tree c.args.limit (of_ok _ c.glob_in.result b.0 b.1 c.glob_in.ensures.fresh) t told
     (listing t c.args.options c.args.pattern.now) (of_ok _ c.glob_in.result b.0 b.1 (c.glob_in.ensures.listing t told)))) c.walked.ensures.whole

@@ -17,7 +17,7 @@ returns-in_err-write_step-clause-some g c c' told ms begun =
     let (n, asks, steps) = c.advance-step.ensures.steps in
     OnErr-from _
     (Written-fault c.args.end (g.C.Choice.wanted c.args.choice.now) g.T.Tree.tells c.args.tree.now c.args.walk.now (held c.args.output.now) l.tree c.advance-step.new.tree l.walk c.advance-step.new.self n l.findings (held l.output) l.lines.waiting.items
-    l.invariant c.advance-step.ensures.content c.advance-step.result (steps.counts, c.advance-step.ensures.driven) (held c.write_step.new.output) c.in_err-write_step.ensures.some c' told ms begun)
+    l.invariant c.advance-step.ensures.content c.advance-step.result steps (held c.write_step.new.output) c.in_err-write_step.ensures.some c' told ms begun)
 
 pub returns-in-Done-clause-paths : goal.returns-in-Done-clause-paths
 returns-in-Done-clause-paths g c c' told ms begun =
@@ -27,7 +27,7 @@ returns-in-Done-clause-paths g c c' told ms begun =
     let wrote = c.write_step.new in
     Written-done c.args.end (g.C.Choice.wanted c.args.choice.now) g.T.Tree.tells c.args.tree.now c.args.walk.now (held c.args.output.now) l.tree c.advance-step.new.tree l.walk c.advance-step.new.self n l.findings (held l.output) l.lines.waiting.items
     l.invariant c.advance-step.ensures.content wrote.tree c.in_ok-write_step.ensures.content (held wrote.output) wrote.lines.waiting.items
-    c.advance-step.result c.in-Done.is (steps.counts, c.advance-step.ensures.driven) wrote.findings c.in_ok-write_step.ensures.written c' told ms begun
+    c.advance-step.result c.in-Done.is steps wrote.findings c.in_ok-write_step.ensures.written c' told ms begun
 
 pub loop-step-preserved-in_default : goal.loop-step-preserved-in_default
 loop-step-preserved-in_default g c =
@@ -37,7 +37,7 @@ loop-step-preserved-in_default g c =
     let wrote = c.write_step.new in
     Written-next c.args.end (g.C.Choice.wanted c.args.choice.now) g.T.Tree.tells c.args.tree.now c.args.walk.now (held c.args.output.now) l.tree c.advance-step.new.tree l.walk c.advance-step.new.self n l.findings (held l.output) l.lines.waiting.items
     l.invariant c.advance-step.ensures.content wrote.tree c.in_ok-write_step.ensures.content (held wrote.output) wrote.lines.waiting.items
-    c.advance-step.result c.in_default.not-Done (steps.counts, c.advance-step.ensures.driven) wrote.findings c.in_ok-write_step.ensures.written
+    c.advance-step.result c.in_default.not-Done steps wrote.findings c.in_ok-write_step.ensures.written
 
 pub loop-step-preserved-in_default-2 : goal.loop-step-preserved-in_default-2
 loop-step-preserved-in_default-2 g c =
@@ -47,7 +47,7 @@ loop-step-preserved-in_default-2 g c =
     let wrote = c.write_step.new in
     Written-next c.args.end (g.C.Choice.wanted c.args.choice.now) g.T.Tree.tells c.args.tree.now c.args.walk.now (held c.args.output.now) l.tree c.advance-step.new.tree l.walk c.advance-step.new.self n l.findings (held l.output) l.lines.waiting.items
     l.invariant c.advance-step.ensures.content wrote.tree c.in_ok-write_step.ensures.content (held wrote.output) wrote.lines.waiting.items
-    c.advance-step.result c.in_default.not-Done (steps.counts, c.advance-step.ensures.driven) wrote.findings c.in_ok-write_step.ensures.written
+    c.advance-step.result c.in_default.not-Done steps wrote.findings c.in_ok-write_step.ensures.written
 
 pub loop-step-preserved : goal.loop-step-preserved
 loop-step-preserved g c =
@@ -57,4 +57,4 @@ loop-step-preserved g c =
     let wrote = c.write_step.new in
     Written-next c.args.end (g.C.Choice.wanted c.args.choice.now) g.T.Tree.tells c.args.tree.now c.args.walk.now (held c.args.output.now) l.tree c.advance-step.new.tree l.walk c.advance-step.new.self n l.findings (held l.output) l.lines.waiting.items
     l.invariant c.advance-step.ensures.content wrote.tree c.in_ok-write_step.ensures.content (held wrote.output) wrote.lines.waiting.items
-    c.advance-step.result c.in_default.not-Done (steps.counts, c.advance-step.ensures.driven) wrote.findings c.in_ok-write_step.ensures.written
+    c.advance-step.result c.in_default.not-Done steps wrote.findings c.in_ok-write_step.ensures.written

@@ -2,12 +2,12 @@ use Rattle.std.proofs.Common.{◌≡◌, [], ◌∷◌, Some, map, ap, sym, subs
 use Rattle.std.proofs.lemmas.List.{map-append}
 use Rattle.std.specs.Path.{path_buf_bytes}
 use Rattle.glob.specs.Content.{Content}
-use Rattle.glob.specs.Goal.{IsPlainWalk}
+use Rattle.glob.specs.Goal.{IsSensitiveWalk}
 use Rattle.glob.specs.Listing.{listing}
 use Rattle.glob.specs.Matching.Options.{new_options}
 use Rattle.glob.specs.Text.{Text}
 use Rattle.glob.specs.Types.{MatchOptions}
-use Rattle.glob.specs.Walks.{IsFresh, Walking}
+use Rattle.glob.specs.Iterating.{IsFresh, Walking}
 use Rattle.glob.proofs.FoundPaths.{FindsSoFar, FindsSoFar-start, FindsSoFar-next, FindsSoFar-whole, goal-listed, orderly-listed, paths-listed}
 use Rattle.glob_examples.specs.WalkFaults.{EndsAt, IsPatternFault}
 use Rattle.glob_walk.proofs.WalkLemmas.Reading.{IfErr-from_known}
@@ -66,10 +66,8 @@ loop-item-preserved g c =
 pub returns-clause-files : goal.returns-clause-files
 returns-clause-files g c = λ content told.
     let same = c.into_iter-item-iterator.ensures.into_iter_gives in
-    let plain : IsPlainWalk content new_options c.args.pattern.now = record {
-      content = told.1;
-      text = c.utf8.pattern;
-      plain = c.in_ok-check_plain.ensures.plain;
+    let plain : IsSensitiveWalk content new_options c.args.pattern.now = record {
+      plain = record { content = told.1; text = c.utf8.pattern; plain = c.in_ok-check_plain.ensures.plain };
       case = refl;
     } in
     let left : c.into_iter-item-iterator.result.left ≡ Some (listing content new_options c.args.pattern.now) =

@@ -8,7 +8,7 @@ use Rattle.glob.specs.Marks.{items, paths}
 use Rattle.glob.specs.Matching.Options.{new_options}
 use Rattle.glob.specs.Order.{IsOrderly}
 use Rattle.glob.specs.Variants.End.{Done, Limit}
-use Rattle.glob.specs.WalkGoals.{given_items, WalksPlainly, FindsGoal, FindsInOrder}
+use Rattle.glob.specs.WalkGoals.{given_items, WalksPlainly, FindsGoal}
 use Rattle.glob.specs.Walks.{IsWalk}
 use Rattle.glob.proofs.FoundPaths.{AreFound-more, found_items, given_items-are, given_items-found, goal-found, paths-found, paths-listed}
 use Rattle.glob.proofs.WalkLemmas.{walks_plainly, found_goal, found_in_order, done_walk, limited_walk}
@@ -72,8 +72,6 @@ returns-clause-files g c = λ content told.
     ap given_items (sym whole) ∙ given_items-found c.loop-item.yielded files c.loop-item.invariant in
     let finds : FindsGoal (g.T.Tree.tells c.args.tree) new_options c.args.pattern.now c.in_ok-walk.walk.end answers =
     subst (λ o. FindsGoal (g.T.Tree.tells c.args.tree) o c.args.pattern.now c.in_ok-walk.walk.end answers) c.new.ensures c.in_ok-walk.ensures.goal in
-    let orderly : FindsInOrder (g.T.Tree.tells c.args.tree) new_options c.args.pattern.now answers =
-    subst (λ o. FindsInOrder (g.T.Tree.tells c.args.tree) o c.args.pattern.now answers) c.new.ensures c.in_ok-walk.ensures.orderly in
     let plain : WalksPlainly (g.T.Tree.tells c.args.tree) content new_options c.args.pattern.now =
     walks_plainly _ content new_options c.args.pattern.now told c.in_ok-check_plain.ensures.plain refl in
     let walk : IsWalk ms c.args.limit Done c.in_ok-walk.walk.spent answers =
@@ -82,7 +80,7 @@ returns-clause-files g c = λ content told.
       exact = goal-found content new_options c.args.pattern.now _ files (c.in_ok-walk.walk.end ≡ Done) given c.in-Done.is
           (found_goal _ _ _ _ _ finds content plain);
       orderly = subst (IsOrderly c.args.pattern.now) (ap paths given ∙ paths-found files)
-          (found_in_order _ _ _ c.in_ok-walk.walk.end _ orderly content plain);
+          (found_in_order _ _ _ _ _ c.in_ok-walk.ensures.taken content told c.in_ok-check_plain.ensures.plain);
       listed = paths-listed files ms
           (sym given ∙ given_items-are answers (items ms) (done_walk answers ms c.args.limit c.in_ok-walk.walk.spent walk).2);
     }

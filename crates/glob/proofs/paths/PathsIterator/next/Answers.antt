@@ -1,6 +1,6 @@
 use Rattle.std.proofs.Common.{ap, subst}
 use Rattle.glob_walk.specs.Machines.{saying, step_outcome, step_units}
-use Rattle.glob_walk.specs.Walks.{Goes}
+use Rattle.glob_walk.specs.Iterating.{Goes}
 use Rattle.glob_walk.proofs.WalkLemmas.Driving.{question_unit}
 use Rattle.glob.proofs.Driving.{Drives-asked, Drives-last, IsDriven-last, seen_walk}
 use Rattle.glob.proofs.paths.PathsIterator.next.Goals as goal

@@ -1,5 +1,5 @@
-use Rattle.glob_walk.proofs.CostLemmas.Polynomial.{named_walk_costs}
+use Rattle.glob_walk.proofs.CostLemmas.Polynomial.{plain_walk_costs}
 use Rattle.glob_walk.proofs.laws.walks.walk_costs_a_polynomial_of_keys.Goals as goal
 
 pub returns : goal.returns
-returns c = named_walk_costs
+returns c = plain_walk_costs

@@ -1,12 +1,11 @@
 use Rattle.std.proofs.Common.{rules, ◌≡◌, ◌+◌, ◌≤◌, ◌^◌, sym, ap, arith, subst}
-use Rattle.glob_walk.specs.Private.Walking.{IsGood}
+use Rattle.glob_walk.specs.Private.Walkers.{IsGood}
 use Rattle.glob_walk.specs.Private.Queries.{question_of}
 use Rattle.glob_walk.specs.Answers.{IfFailed, IsAnswer, IsAnswered, answer_count}
 use Rattle.glob_walk.specs.Machines.{Says, Ends, saying, step_outcome}
 use Rattle.glob_walk.specs.Questions.{question_path}
-use Rattle.glob_walk.specs.Walks.{item_number}
+use Rattle.glob_walk.specs.Iterating.{item_number}
 use Rattle.glob_walk.proofs.WalkLemmas.MachineSteps.{IsGood-after, goes_at, goes_over, none_failed, one_item}
-use Rattle.glob_walk.proofs.WalkLemmas.Giving.{gives_next}
 use Rattle.glob_walk.proofs.machine.WalkMachine.resume.Goals as goal
 
 pub returns-then-self-clause-failed : goal.returns-then-self-clause-failed
@@ -17,10 +16,6 @@ returns-then-self-clause-failed g c =
 pub returns-then-self-clause-steps : goal.returns-then-self-clause-steps
 returns-then-self-clause-steps g c =
     goes_over c.self.inside.walker c.self.inside.given c.self.inside.over c.if-self.true c.args.answer c.args.self.now c.self.view_is c.self.invariant c.requires.answer
-
-pub returns-then-self-clause-driven : goal.returns-then-self-clause-driven
-returns-then-self-clause-driven g c = λ x all given fits h.
-    gives_next (IsAnswered c.args.self.now.asked c.args.answer) (answer_count c.args.answer) all x given c.args.self.now Ends c.args.self.now (returns-then-self-clause-steps g c) fits h
 
 pub proceed-step-requires-clause-opened : goal.proceed-step-requires-clause-opened
 proceed-step-requires-clause-opened g c = (c.self.invariant.going c.if-self.false).opened
@@ -53,7 +48,3 @@ returns-clause-steps g c =
     goes_at (answer_count c.args.answer) c.self.inside.walker c.proceed-step.new.self c.self.inside.given c.self.inside.over c.args.answer c.args.self.now
     c.self.view_is c.if-self.false c.self.invariant.fits (c.self.invariant.going c.if-self.false) (saying c.proceed-step.result) c.item_count.result c.is_last-self-inside.result
     c.item_count.ensures c.is_last-self-inside.ensures c.proceed-step.ensures.turn c.proceed-step.ensures.cleared
-
-pub returns-clause-driven : goal.returns-clause-driven
-returns-clause-driven g c = λ x all given fits h.
-    gives_next (IsAnswered c.args.self.now.asked c.args.answer) (answer_count c.args.answer) all x given c.args.self.now (saying c.proceed-step.result) _ (returns-clause-steps g c) fits h

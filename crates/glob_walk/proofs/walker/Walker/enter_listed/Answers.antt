@@ -3,7 +3,7 @@ use Rattle.std.specs.Prelude.{string_bytes, vec_len}
 use Rattle.glob_tree.specs.Answers.{entries_of}
 use Rattle.glob_tree.specs.declared.tree.Entry.{Entry}
 use Rattle.glob_tree.proofs.ContentLemmas.Contents.{IsContent-from_test}
-use Rattle.glob_walk.specs.Walks.{StopsAt}
+use Rattle.glob_walk.specs.Iterating.{StopsAt}
 use Rattle.glob_walk.specs.Private.Tasks.{enter_from, next_ready}
 use Rattle.glob_walk.specs.Private.Queries.{query_marks, query_ready}
 use Rattle.glob_walk.specs.Private.Frames.{frame_marks, cursor_marks}

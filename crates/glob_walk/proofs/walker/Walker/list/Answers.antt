@@ -1,7 +1,8 @@
-use Rattle.std.proofs.Common.{rules, true, ◌∷◌, [], ◌++◌, refl, ap, arith, ◌∙◌}
+use Rattle.std.proofs.Common.{rules, subst, sym, true, ◌∷◌, [], ◌++◌, refl, ap, arith, ◌∙◌}
 use Rattle.std.specs.Prelude.{drop, string_bytes}
 use Rattle.glob_tree.proofs.ContentLemmas.Contents.{IsContent-from_test}
 use Rattle.glob_walk.specs.Marks.{Work}
+use Rattle.glob_walk.specs.Private.Turns.{TurnsTo}
 use Rattle.glob_walk.specs.Private.Tasks.{enter_from, next_ready}
 use Rattle.glob_walk.specs.Private.Stacks.{frames_marks}
 use Rattle.glob_walk.proofs.WalkLemmas.Charging.{TurnsTo-said}
@@ -33,7 +34,7 @@ pub returns : goal.returns
 returns g c =
     let s = c.args.self.now.stack in
     let none = ap (next_ready s.plan) c.requires.idle.1 in
-    TurnsTo-said _ _ _ _ _ _ c.list.ensures (record {
+    subst (TurnsTo _ _ _ _) (sym c.ask.ensures.asks) (TurnsTo-said _ _ _ _ _ _ c.ask.ensures.says (record {
       limit = c.charge.ensures.limit;
       grows = search rules;
       counts = search rules;
@@ -52,4 +53,4 @@ returns g c =
         };
         unit = search rules;
       };
-    })
+    }))

@@ -1,6 +1,7 @@
-use Rattle.std.proofs.Common.{rules, ◌∷◌, ◌++◌, [], refl, ap, arith}
+use Rattle.std.proofs.Common.{rules, subst, sym, ◌∷◌, ◌++◌, [], refl, ap, arith}
 use Rattle.std.specs.Prelude.{string_bytes}
 use Rattle.glob_walk.specs.Marks.{Work}
+use Rattle.glob_walk.specs.Private.Turns.{TurnsTo}
 use Rattle.glob_walk.specs.Private.Tasks.{next_ready}
 use Rattle.glob_walk.specs.Private.Queries.{kind_marks}
 use Rattle.glob_walk.specs.declared.query.QueryKind.TheVariants.{Look}
@@ -24,7 +25,7 @@ pub returns : goal.returns
 returns g c =
     let s = c.args.self.now.stack in
     let none = ap (next_ready s.plan) c.requires.idle.1 in
-    record {
+    subst (TurnsTo _ _ _ _) (sym c.ask.ensures.asks) (TurnsTo-said _ _ _ _ _ _ c.ask.ensures.says (record {
       limit = c.charge.ensures.limit;
       grows = search rules;
       counts = search rules;
@@ -42,4 +43,4 @@ returns g c =
         };
         unit = search rules;
       };
-    }
+    }))
