@@ -52,7 +52,7 @@
 //! ```
 //!
 //! A [`WalkMachine`] has no tree: it asks, and whoever drives it answers, at once or later. So a walk over a network
-//! can wait for its answers. An answer to what was not asked panics.
+//! can wait for its answers. After what is no answer to its question, it asks again.
 //!
 //! ```
 //! use cadmiumdove::walk::{Entry, Look, Name, Step, WalkMachine};

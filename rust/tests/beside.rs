@@ -158,20 +158,20 @@ fn a_machine_asks() {
 }
 
 #[test]
-fn an_answer_to_what_was_not_asked_panics() {
-    let started = || {
-        let mut machine = WalkMachine::new("*", NEW, 100).unwrap();
-        assert!(matches!(machine.next(), Step::Look));
-        machine
-    };
-    assert!(std::panic::catch_unwind(|| started().listed(Ok(Vec::new()))).is_err());
-    assert!(std::panic::catch_unwind(|| WalkMachine::new("*", NEW, 100).unwrap().looked(Look::Dir)).is_err());
-    let late = std::panic::catch_unwind(|| {
-        let mut machine = started();
-        assert!(matches!(machine.looked(Look::Dir), Step::ListNames));
-        machine.looked(Look::Dir)
-    });
-    assert!(late.is_err());
+fn what_is_no_answer_is_asked_again() {
+    let mut machine = WalkMachine::new("*", NEW, 100).unwrap();
+    assert!(matches!(machine.next(), Step::Look));
+    assert!(matches!(machine.listed(Ok(Vec::new())), Step::Look));
+    assert!(matches!(machine.next(), Step::Look));
+    assert_eq!((machine.path(), machine.spent()), (".", 1));
+    assert!(matches!(machine.looked(Look::Dir), Step::ListNames));
+    assert!(matches!(machine.looked(Look::Missing), Step::ListNames));
+    assert_eq!((machine.path(), machine.spent()), (".", 2));
+    assert!(matches!(machine.listed(Ok(vec![entry("x", false)])), Step::Item(Ok(path)) if path == Path::new("x")));
+    assert!(matches!(machine.looked(Look::Dir), Step::Done));
+    assert_eq!((machine.spent(), machine.given()), (3, 1));
+    let mut unasked = WalkMachine::new("*", NEW, 100).unwrap();
+    assert!(matches!(unasked.looked(Look::Dir), Step::Look));
 }
 
 #[test]

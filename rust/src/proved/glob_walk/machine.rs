@@ -131,7 +131,8 @@ impl WalkMachine {
 
     /// Takes the answer to the question that is open, or `Nothing` where none is, and returns the next step, as
     /// [`looked`](WalkMachine::looked), [`listed`](WalkMachine::listed) and [`next`](WalkMachine::next) do: with
-    /// `Answer::Look(seen)` it is `looked(seen)`.
+    /// `Answer::Look(seen)` it is `looked(seen)`. What is no answer to the open question leaves it open: it is asked
+    /// again, for no unit.
     pub fn resume(&mut self, answer: Answer) -> Step {
         if self.over {
             return Step::Done;

@@ -6,16 +6,17 @@
 use crate::proved::glob_walk::ending::end_of;
 use crate::proved::glob_walk::error::GlobError;
 use crate::proved::glob_walk::machine::Step;
+use crate::proved::glob_walk::query::QueryKind;
 use std::io;
 use std::path::PathBuf;
 
 impl Step {
-    /// It asks for a listing, with the kinds of the entries or for their names alone.
-    pub(crate) fn list(kinds: bool) -> Self {
-        if kinds {
-            Step::List
-        } else {
-            Step::ListNames
+    /// It asks for a look, or for a listing, with the kinds of the entries or for their names alone.
+    pub(crate) fn ask(kind: QueryKind) -> Self {
+        match kind {
+            QueryKind::Look(_) => Step::Look,
+            QueryKind::List { kinds: true, .. } => Step::List,
+            QueryKind::List { kinds: false, .. } => Step::ListNames,
         }
     }
 
