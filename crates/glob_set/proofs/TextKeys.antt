@@ -9,7 +9,7 @@ use Rattle.glob_set.specs.declared.key.Key.TheVariants.{Component, Beginning, En
 use Rattle.glob_set.specs.declared.key.Kinds.{Kinds}
 use Rattle.glob_set.specs.Private.Components.{after, start}
 use Rattle.glob_set.specs.Private.Keyed.{FoundNumbers, Keeps, KeepsAll, Finds, HasHash, IsReadBefore}
-use Rattle.glob_set.specs.Private.Keys.{AreKinds, HasKind, IsComponentOf, IsEndingOf, hash_back, hash_of}
+use Rattle.glob_set.specs.Private.Keys.{AreKinds, HasKind, HasLength, IsComponentOf, IsEndingOf, hash_back, hash_of}
 use Rattle.glob_set.proofs.KeyedLemmas.{KeepsAll-at}
 
 -- the key is of so many last bytes of the text
@@ -79,25 +79,25 @@ module _ (keys : List (Option Key)) where
         finds is_asked number key below is same
 
     pub Finds-before : (c : component.Component) (byte : ℕ) (asked : Bool) (found : FoundNumbers) → (byte ≡ slash → IsTrue asked)
-        → (IsTrue (get_or kinds.beginnings c.len false) → IsTrue asked) → (IsTrue asked → Finds keys (HasHash c.hash) found) → Finds keys (IsReadBefore c byte) found
+        → (HasLength kinds.beginnings c.len → IsTrue asked) → (IsTrue asked → Finds keys (HasHash c.hash) found) → Finds keys (IsReadBefore c byte) found
     Finds-before c byte asked found ends begins finds = finds_if asked c.hash (IsReadBefore c byte) found finds follows
       where
         follows : (key : Key) → HasKind kinds key → IsReadBefore c byte key → IsTrue asked × HasHash c.hash key
         follows (Component hash) kind (is, same) = (ends is, sym same)
         follows (Beginning hash len) (_, used) is =
-            (begins (subst (λ l. IsTrue (get_or kinds.beginnings l false)) (sym (ap (λ (k : component.Component). k.len) is)) used), sym (ap (λ (k : component.Component). k.hash) is))
+            (begins (subst (HasLength kinds.beginnings) (sym (ap (λ (k : component.Component). k.len) is)) used), sym (ap (λ (k : component.Component). k.hash) is))
         follows (Ending hash len) kind is = absurd is
         follows (Extension hash len) kind is = absurd is
 
     pub Finds-behind : (text : List ℕ) (len hash : ℕ) (asked : Bool) (found : FoundNumbers) → hash ≡ hash_back (drop (length text - len) text)
-        → (len < length text → get_or text (length text - 1 - len) 0 ≡ dot → IsTrue asked) → (IsTrue (get_or kinds.endings len false) → IsTrue asked)
+        → (len < length text → get_or text (length text - 1 - len) 0 ≡ dot → IsTrue asked) → (HasLength kinds.endings len → IsTrue asked)
         → (IsTrue asked → Finds keys (HasHash hash) found) → Finds keys (IsReadBehind text len) found
     Finds-behind text len hash asked found hash_is dotted ends finds = finds_if asked hash (IsReadBehind text len) found finds follows
       where
         follows : (key : Key) → HasKind kinds key → IsReadBehind text len key → IsTrue asked × HasHash hash key
         follows (Component other) kind is = absurd is
         follows (Beginning other more) kind is = absurd is
-        follows (Ending other more) (_, used) (is, same) = (ends (subst (λ l. IsTrue (get_or kinds.endings l false)) (sym is) used), sym (hash_is ∙ same))
+        follows (Ending other more) (_, used) (is, same) = (ends (subst (HasLength kinds.endings) (sym is) used), sym (hash_is ∙ same))
         follows (Extension other more) kind (is, within, mark, same) = (dotted within mark, sym (hash_is ∙ same))
 
     -- where no pattern has a key of a component, none has to be found by it

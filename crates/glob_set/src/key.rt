@@ -1,6 +1,6 @@
 //! Keys, by which few patterns are found for a text.
-ghost use Rattle.std.specs.Prelude.{◌≡◌, IfSome};
-ghost use Rattle.glob_set.specs.Private.Keys.{AreKinds, HasKind, KeepsKinds, hash_of};
+ghost use Rattle.std.specs.Prelude.{◌≡◌, ◌↔◌, IfSome, IsTrue};
+ghost use Rattle.glob_set.specs.Private.Keys.{AreKinds, HasKind, HasLength, KeepsKinds, hash_of, length_bit};
 
 /// What each text has that a pattern matches.
 #[derive(Clone, Copy)]
@@ -35,16 +35,17 @@ impl Key {
 pub struct Kinds {
     /// Whether there are any of components or of their beginnings.
     pub components: bool,
-    /// For each number of bytes whether a beginning has so many.
-    pub beginnings: [bool; 256],
-    /// For each number of bytes whether an `Ending` has so many.
-    pub endings: [bool; 256],
+    /// A bit for each number of bytes that a beginning has.
+    pub beginnings: u64,
+    /// The same of endings.
+    pub endings: u64,
     /// How many bytes the longest ending or extension has.
     pub longest: u8,
 }
 
 impl Kinds {
     /// Adds the kind of a key, if it is one.
+    #[tactic(auto, using(crate::proofs::KindLemmas::length_added))]
     fn add(&mut self, key: Option<Key>)
         ensures own { IfSome key (HasKind self.new) }
         ensures kept { KeepsKinds self.old self.new }
@@ -53,10 +54,10 @@ impl Kinds {
             Some(Key::Component(_)) => self.components = true,
             Some(Key::Beginning(_, len)) => {
                 self.components = true;
-                self.beginnings[len as usize] = true;
+                self.beginnings |= length_bit(len);
             }
             Some(Key::Ending(_, len)) => {
-                self.endings[len as usize] = true;
+                self.endings |= length_bit(len);
                 self.longest = self.longest.max(len);
             }
             Some(Key::Extension(_, len)) => self.longest = self.longest.max(len),
@@ -71,12 +72,28 @@ pub fn kinds_of(keys: &[Option<Key>]) -> Kinds
 {
     let mut kinds = Kinds {
         components: false,
-        beginnings: [false; 256],
-        endings: [false; 256],
+        beginnings: 0,
+        endings: 0,
         longest: 0,
     };
     for key in keys {
         kinds.add(*key);
     }
     kinds
+}
+
+/// The bit of a number of bytes. From 64 on a number has that of a lower one, so that texts are looked up by both.
+#[inline(always)]
+fn length_bit(len: u8) -> u64
+    ensures { result ≡ length_bit len }
+{
+    1 << (len % 64)
+}
+
+/// Whether the bit of a number of bytes is one of these.
+#[inline(always)]
+pub fn has_length(lengths: u64, len: u8) -> bool
+    ensures { IsTrue result ↔ HasLength lengths len }
+{
+    lengths | length_bit(len) == lengths
 }

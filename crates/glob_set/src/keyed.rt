@@ -1,12 +1,12 @@
 //! Patterns by their keys.
-ghost use Rattle.std.specs.Prelude.{◌≡◌, ◌+◌, ◌-◌, ◌^◌, ◌<◌, ◌↔◌, false, [], length, slice_index_or, replicate, None, All, IfOk, IsTrue, IsSomeAnd};
+ghost use Rattle.std.specs.Prelude.{◌≡◌, ◌+◌, ◌-◌, ◌^◌, ◌<◌, ◌↔◌, ◌⊎◌, false, [], length, slice_index_or, replicate, None, All, IfOk, IsTrue, IsSomeAnd};
 ghost use Rattle.std.specs.List.Sorted.{IsNonDecreasing};
 ghost use Rattle.glob_set.specs.Private.Keyed.{AreLinked, Finds, HasHash, IsReadBefore, Keeps, KeepsAll, key_slot};
 ghost use Rattle.glob_set.specs.Private.Keys.{IsComponentOf, IsEndingOf, IsKeyOf};
 
 use crate::components::{Component, hash_after, slot_of};
 use crate::found::Found;
-use crate::key::{Key, Kinds, kinds_of};
+use crate::key::{Key, Kinds, has_length, kinds_of};
 use std::alloc::{AllocError, Allocator, Global};
 use std::marker::Model;
 
@@ -93,7 +93,7 @@ impl<A: Allocator + Copy> Keyed<A> {
         let mut len = 0;
         while (len as usize) < text.len() {
             let byte = text[text.len() - 1 - len as usize];
-            let is_used = self.kinds.endings[len as usize];
+            let is_used = has_length(self.kinds.endings, len);
             self.find_if(is_asked(byte, b'.', is_used), hash, found);
             if len == self.kinds.longest {
                 return;
@@ -101,7 +101,7 @@ impl<A: Allocator + Copy> Keyed<A> {
             hash = hash_after(hash, byte);
             len += 1;
         }
-        self.find_if(self.kinds.endings[len as usize], hash, found);
+        self.find_if(has_length(self.kinds.endings, len), hash, found);
     }
 
     /// Adds the patterns that are found by each component of the text and the beginnings of each.
@@ -126,7 +126,7 @@ impl<A: Allocator + Copy> Keyed<A> {
         ensures kept { KeepsAll found.old found.new }
         ensures all { Finds self.now (IsReadBefore component byte) found.new }
     {
-        let is_used = self.kinds.beginnings[component.len as usize];
+        let is_used = has_length(self.kinds.beginnings, component.len);
         self.find_if(is_asked(byte, b'/', is_used), component.hash, found);
     }
 
@@ -175,8 +175,7 @@ impl<A: Allocator + Copy> Keyed<A> {
 /// Whether a text is looked up before a byte: at a mark, and where keys have as many bytes as have been read.
 #[inline(always)]
 fn is_asked(byte: u8, mark: u8, is_used: bool) -> bool
-    ensures mark { byte ≡ mark → IsTrue result }
-    ensures used { IsTrue is_used → IsTrue result }
+    ensures { IsTrue result ↔ (byte ≡ mark) ⊎ IsTrue is_used }
 {
     byte == mark || is_used
 }

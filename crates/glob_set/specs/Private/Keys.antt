@@ -1,5 +1,5 @@
 -- What a text is looked up by, and the keys of the patterns that match it.
-use Rattle.std.specs.Prelude.{◌≡◌, ℕ, ◌<◌, ◌≤◌, ◌⊎◌, false, List, [], ◌∷◌, ◌++◌, length, drop, reverse, slice_index_or, fold, Option, None, IfSome, IsTrue, chars}
+use Rattle.std.specs.Prelude.{◌≡◌, ℕ, ◌*◌, ◌%◌, ◌^◌, ◌<◌, ◌≤◌, ◌⊎◌, bit_or, List, [], ◌∷◌, ◌++◌, length, drop, reverse, slice_index_or, fold, Option, None, IfSome, IsTrue, chars}
 use Rattle.std.specs.List.{concat}
 use Rattle.std.specs.Str.{IsUtf8, encode_utf8_all}
 use Rattle.glob_text.specs.Characters.{dot}
@@ -66,11 +66,19 @@ pub record AreKeys (patterns : List Text) (keys : List (Option Key)) : Type 0 wh
   pub same_length : length keys ≡ length patterns
   pub each : (k : ℕ) → k < length patterns → IfSome (slice_index_or keys k None) (HasKey (slice_index_or patterns k []))
 
+-- the bit of a number of bytes, which is that of one below 64
+abbrev pub length_bit : (len : ℕ) → ℕ
+length_bit len = 1 * 2 ^ (len % 64) % 2 ^ 64
+
+-- the bit of the number is one of the lengths
+abbrev pub HasLength : (lengths len : ℕ) → Type 0
+HasLength lengths len = bit_or lengths (length_bit len) ≡ lengths
+
 -- the kind of the key is one of these
 abbrev pub HasKind : Kinds → Key → Type 0
 HasKind kinds (Component hash) = IsTrue kinds.components
-HasKind kinds (Beginning hash len) = IsTrue kinds.components × IsTrue (slice_index_or kinds.beginnings len false)
-HasKind kinds (Ending hash len) = (len ≤ kinds.longest) × IsTrue (slice_index_or kinds.endings len false)
+HasKind kinds (Beginning hash len) = IsTrue kinds.components × HasLength kinds.beginnings len
+HasKind kinds (Ending hash len) = (len ≤ kinds.longest) × HasLength kinds.endings len
 HasKind kinds (Extension hash len) = len ≤ kinds.longest
 
 -- each kind that is one of the first is one of the second

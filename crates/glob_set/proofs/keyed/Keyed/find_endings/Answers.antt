@@ -1,4 +1,4 @@
-use Rattle.std.proofs.Common.{◌≡◌, ℕ, ◌+◌, ◌-◌, List, length, drop, get_or, Option, sym, ap, subst, ◌∙◌, arith, below_more}
+use Rattle.std.proofs.Common.{◌≡◌, ℕ, ◌+◌, ◌-◌, inl, inr, List, length, drop, get_or, Option, sym, ap, subst, ◌∙◌, arith, below_more}
 use Rattle.std.proofs.lemmas.List.{drop_all}
 use Rattle.glob_set.specs.declared.key.Key.{Key}
 use Rattle.glob_set.specs.Private.Components.{hashed}
@@ -33,7 +33,8 @@ returns-then-len-self-clause-all g c =
     Finds-endings keys kinds are text (l.len + 1) new
     (below_more (λ len. Finds keys (IsReadBehind text len) new) l.len
     (λ len below. keeps_finding keys _ l.found new c.find_if.ensures.kept (l.invariant.found len below))
-    (Finds-behind keys kinds are text l.len l.hash c.is_asked.result new l.invariant.read (λ _ mark. c.is_asked.ensures.mark mark) c.is_asked.ensures.used c.find_if.ensures.all))
+    (Finds-behind keys kinds are text l.len l.hash c.is_asked.result new l.invariant.read (λ _ mark. c.is_asked.ensures.1 (inl mark))
+    (λ used. c.is_asked.ensures.1 (inr (c.has_length-is_used.ensures.1 used))) c.find_if.ensures.all))
     (λ len most within. omega (arith, most, c.if-len-self.true))
 
 pub loop-len-preserved : goal.loop-len-preserved
@@ -56,7 +57,8 @@ loop-len-preserved g c =
           ∙ fold_back hashed 0 l.hash text left (omega arith) (l.invariant.read ∙ ap (λ n. hash_back (drop n text)) same);
       found = below_more (λ len. Finds keys (IsReadBehind text len) new) l.len
           (λ len below. keeps_finding keys _ l.found new c.find_if.ensures.kept (l.invariant.found len below))
-          (Finds-behind keys kinds are text l.len l.hash c.is_asked.result new l.invariant.read (λ _ mark. c.is_asked.ensures.mark mark) c.is_asked.ensures.used c.find_if.ensures.all);
+          (Finds-behind keys kinds are text l.len l.hash c.is_asked.result new l.invariant.read (λ _ mark. c.is_asked.ensures.1 (inl mark))
+          (λ used. c.is_asked.ensures.1 (inr (c.has_length-is_used.ensures.1 used))) c.find_if.ensures.all);
     }
 
 pub returns-clause-kept : goal.returns-clause-kept
@@ -73,5 +75,5 @@ returns-clause-all g c =
     Finds-endings keys kinds are text (l.len + 1) new
     (below_more (λ len. Finds keys (IsReadBehind text len) new) l.len
     (λ len below. keeps_finding keys _ l.found new c.find_if-2.ensures.kept (l.invariant.found len below))
-    (Finds-behind keys kinds are text l.len l.hash _ new l.invariant.read (λ inside _. absurd (omega (arith, inside, c.loop-len-test.false))) (λ used. used) c.find_if-2.ensures.all))
+    (Finds-behind keys kinds are text l.len l.hash _ new l.invariant.read (λ inside _. absurd (omega (arith, inside, c.loop-len-test.false))) (λ used. c.has_length.ensures.1 used) c.find_if-2.ensures.all))
     (λ len most within. omega (arith, within, c.loop-len-test.false))
