@@ -8,11 +8,13 @@ use Rattle.std.specs.Str.{IsUtf8}
 use Rattle.glob_text.specs.Text.{Text}
 use Rattle.glob_pattern.specs.declared.options.MatchOptions.{MatchOptions}
 use Rattle.glob_set.specs.Private.Asking.{AreAsked, AreMatches, IsFirstOf, IsLastOf, earlier, later}
-use Rattle.glob_set.specs.Private.Buckets.{Avoids, IsBucket, AreBuckets, IsAll}
+use Rattle.glob_set.specs.Private.Buckets.{IsBucket, AreBuckets, IsAll}
 use Rattle.glob_set.specs.declared.key.Key.{Key}
-use Rattle.glob_set.specs.Private.Keyed.{FoundNumbers, Finds}
+use Rattle.glob_set.specs.Private.Keyed.{FoundNumbers, Finds, few_or_many}
 use Rattle.glob_set.specs.Private.Keys.{AreKeys, HasKey, IsKeyOf}
-use Rattle.glob_set.specs.Private.Pairs.{text_class}
+use Rattle.glob_set.specs.Private.Pairs.{AreNeeds, text_class}
+use Rattle.glob_set.specs.declared.pairs.Need.{Need}
+use Rattle.glob_set.proofs.NeedLists.{other_class}
 use Rattle.glob_set.specs.Sets.{MatchesAt, AnyMatch, FirstMatch, LastMatch}
 use Rattle.glob_set.proofs.ListReading.{within_patterns}
 
@@ -29,24 +31,26 @@ module _ (o : MatchOptions) (patterns : List Text) (text : Text) where
       of (Some key) is has = inr (finds k key (omega (arith, at.0, are.same_length)) is (has o text utf8 at.1))
 
   -- one without a key is in the bucket
-  listed_without_key : IsUtf8 text → (keys : List (Option Key)) (numbers : List ℕ) → IsBucket patterns keys (text_class text) (length patterns) numbers
-      → (k : ℕ) → MatchesAt o patterns text k → IsNone (get_or keys k None) → Contains numbers k
-  unfolding MatchesAt Avoids
-  listed_without_key utf8 keys numbers bucket k at none =
-      ⊎_elim (λ has. has) (λ avoids. absurd (avoids o text utf8 refl at.1)) (bucket.all k at.0 none)
+  listed_without_key : IsUtf8 text → (needs : List Need) (keys : List (Option Key)) (numbers : List ℕ) → AreNeeds patterns needs
+      → IsBucket needs keys (text_class text) (length needs) numbers → (k : ℕ) → MatchesAt o patterns text k → IsNone (get_or keys k None) → Contains numbers k
+  unfolding MatchesAt
+  listed_without_key utf8 needs keys numbers are bucket k at none =
+      let no_need : Need = record { bits = 0; class = None } in
+      ⊎_elim (λ has. has) (λ other. absurd (other_class (get_or patterns k []) (get_or needs k no_need) o text (are.each k no_need at.0) utf8 other at.1))
+      (bucket.all k no_need (omega (arith, at.0, are.same_length)) none)
 
   -- the numbers of a bucket, and those that are found
-  pub AreAsked-bucket : IsUtf8 text → (keys : List (Option Key)) (listed : List ℕ) (found : FoundNumbers) → AreKeys patterns keys
-      → IsBucket patterns keys (text_class text) (length patterns) listed → found.is_full ≡ false
+  pub AreAsked-bucket : IsUtf8 text → (needs : List Need) (keys : List (Option Key)) (listed : List ℕ) (found : FoundNumbers) → AreNeeds patterns needs
+      → AreKeys patterns keys → IsBucket needs keys (text_class text) (length needs) listed → found.is_full ≡ false
       → All (λ k. k < length keys) found.items → IsNonDecreasing found.items → Finds keys (IsKeyOf text) found
       → AreAsked o patterns text listed found.items
-  AreAsked-bucket utf8 keys listed found are bucket room within order finds = record {
-    listed_within = bucket.within;
+  AreAsked-bucket utf8 needs keys listed found needed are bucket room within order finds = record {
+    listed_within = subst (λ n. All (λ k. k < n) listed) needed.same_length bucket.within;
     found_within = subst (λ n. All (λ k. k < n) found.items) are.same_length within;
     listed_order = bucket.order;
     found_order = order;
     all = λ k at.
-        ⊎_elim (λ none. inl (listed_without_key utf8 keys listed bucket k at none))
+        ⊎_elim (λ none. inl (listed_without_key utf8 needs keys listed needed bucket k at none))
         (λ keyed. ⊎_elim (λ full. absurd (false≢true (sym room ∙ full))) (λ has. inr has) keyed)
         (found_by_key utf8 keys found are finds k at);
   }
@@ -214,10 +218,8 @@ only_matches P before numbers none only k has =
     ⊎_elim (λ (j, below, is). absurd (omega (arith, below, ap length none))) (λ at. at) (only k has)
 
 -- the bucket of a text
-pub bucket_for : (patterns : List Text) (keys : List (Option Key)) (buckets : List (List ℕ)) (class : ℕ) (text : Text) (bucket : List ℕ)
-    → AreBuckets patterns keys buckets → class < 128 → class ≡ text_class text → bucket ≡ get_or buckets class bucket
-    → IsBucket patterns keys (text_class text) (length patterns) bucket
-bucket_for patterns keys buckets class text bucket are small of is =
-    subst (λ c. IsBucket patterns keys c (length patterns) bucket) of
-    (subst (IsBucket patterns keys class (length patterns))
-    (sym (is ∙ get_or_default buckets class bucket [] (omega (arith, small, are.as_many)))) (are.each class small))
+pub bucket_for : (needs : List Need) (keys : List (Option Key)) (buckets : List (List ℕ)) (class : ℕ) (text : Text) (bucket : List ℕ)
+    → AreBuckets needs keys buckets → class < 128 → class ≡ text_class text → bucket ≡ few_or_many (get_or buckets 128 []) (get_or buckets class [])
+    → IsBucket needs keys (text_class text) (length needs) bucket
+bucket_for needs keys buckets class text bucket are small of is =
+    subst (λ c. IsBucket needs keys c (length needs) bucket) of (subst (IsBucket needs keys class (length needs)) (sym is) (are.each class small))

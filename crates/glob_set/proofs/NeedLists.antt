@@ -1,10 +1,12 @@
 -- The needs of the patterns of a list, as they are gathered.
-use Rattle.std.proofs.Common.{◌≡◌, ℕ, ◌+◌, ◌<◌, List, [], ◌∷◌, ◌++◌, length, get_or, Option, Some, None, IfSome, IsSomeAnd, MatchOption, chars, sym, ap, subst, ◌∙◌, arith, below_more, length-append, bit_or}
+use Rattle.std.proofs.Common.{◌≡◌, ◌≢◌, ℕ, ◌+◌, ◌<◌, List, [], ◌∷◌, ◌++◌, length, get_or, Option, Some, None, IfSome, IsSomeAnd, MatchOption, chars, sym, ap, subst, ◌∙◌, arith, below_more, length-append, bit_or}
 use Rattle.std.proofs.lemmas.List.{get_or_default, get_or_push, get_or_append_left}
+use Rattle.std.specs.Str.{IsUtf8}
 use Rattle.glob_pattern.specs.Matching.Literals.{HasCount}
+use Rattle.glob_pattern.specs.Matching.Texts.{Matches}
+use Rattle.glob_pattern.specs.declared.options.MatchOptions.{MatchOptions}
 use Rattle.glob_text.specs.Text.{Text}
-use Rattle.glob_set.specs.Private.Pairs.{class_bit, HasBits, HasClass, IsPairAt, IsNeed, AreNeeds}
-use Rattle.glob_set.specs.Private.Buckets.{Avoids}
+use Rattle.glob_set.specs.Private.Pairs.{class_bit, text_class, HasBits, HasClass, IsPairAt, IsNeed, AreNeeds}
 use Rattle.glob_set.specs.declared.pairs.Need.{Need}
 use Rattle.glob_set.proofs.PairLemmas.{within_zero, within_both}
 
@@ -37,11 +39,6 @@ pub HasBits-more : (pattern : Text) (bits more : ℕ) → HasBits pattern bits �
 unfolding HasBits
 HasBits-more pattern bits more first second = λ o bytes utf8 matches. within_both bits more _ (first o bytes utf8 matches) (second o bytes utf8 matches)
 
--- a pattern of one class matches no text of another
-pub Avoids-other : (pattern : Text) (known class : ℕ) → HasClass pattern known → ¬ (known ≡ class) → Avoids pattern class
-unfolding HasClass Avoids
-Avoids-other pattern known class has other = λ o bytes utf8 is matches. other (sym (has o bytes utf8 matches) ∙ is)
-
 -- the bits with those of a pair, if there is one
 pub HasBits-with : (pattern : Text) (number bits new : ℕ) (class : Option ℕ) → HasBits pattern bits → IfSome class (IsPairAt pattern number)
     → MatchOption class (new ≡ bits) (λ k. new ≡ bit_or bits (class_bit k)) → HasBits pattern new
@@ -54,10 +51,12 @@ pub HasClass-last : (pattern : Text) (number : ℕ) (class : Option ℕ) → IfS
 HasClass-last pattern number None pair count = tt
 HasClass-last pattern number (Some k) pair count = pair.last count
 
--- a pattern whose need is of another class
-pub Avoids-need : (pattern : Text) (need : Need) (class : ℕ) → IsNeed pattern need → IsSomeAnd need.class (λ known. ¬ (known ≡ class)) → Avoids pattern class
-Avoids-need pattern need class is other = of need.class is.class other
+-- a pattern whose need is of another class does not match
+pub other_class : (pattern : Text) (need : Need) (o : MatchOptions) (bytes : List ℕ) → IsNeed pattern need → IsUtf8 bytes
+    → IsSomeAnd need.class (λ known. known ≢ text_class bytes) → ¬ (Matches o (chars pattern) (chars bytes))
+unfolding HasClass
+other_class pattern need o bytes is utf8 other matches = of need.class is.class other
   where
-    of : (known : Option ℕ) → IfSome known (HasClass pattern) → IsSomeAnd known (λ k. ¬ (k ≡ class)) → Avoids pattern class
+    of : (known : Option ℕ) → IfSome known (HasClass pattern) → IsSomeAnd known (λ k. k ≢ text_class bytes) → ⊥
     of None has not = absurd not
-    of (Some k) has not = Avoids-other pattern k class has not
+    of (Some k) has not = not (sym (has o bytes utf8 matches))

@@ -1,11 +1,10 @@
 //! Lists of the patterns without a key that may match a text, by the class of its last two bytes.
-ghost use Rattle.std.specs.Prelude.{◌≡◌, ◌≢◌, Option, ℕ, false, length, IfOk, IsSome, IsSomeAnd, ◌⊎◌};
-ghost use Rattle.glob_set.specs.Private.Buckets.{IsAll, IsBucket, AreBuckets};
-ghost use Rattle.glob_set.specs.Private.Pairs.{AreNeeds};
+ghost use Rattle.std.specs.Prelude.{◌≡◌, ◌≢◌, ◌<◌, Option, ℕ, false, [], length, slice_index_or, IfOk, IfSome, IsSome, IsSomeAnd, ◌⊎◌};
+ghost use Rattle.glob_set.specs.Private.Buckets.{IsAll, IsBucket, IsOwnBucket, IsUnused, AreBuckets};
+ghost use Rattle.glob_set.specs.Private.Keyed.{few_or_many};
 
 use crate::key::Key;
 use crate::pairs::Need;
-use glob_pattern::Pattern;
 use std::alloc::{AllocError, Allocator, Global};
 use std::marker::Model;
 
@@ -36,38 +35,65 @@ impl<A: Allocator> Bucket<A> {
     }
 }
 
-/// For each class the numbers of the patterns without a key that may match a text of it.
+/// For each class the numbers of the patterns without a key that may match a text of it, or none if no such pattern is of
+/// the class: then they are those of the patterns of no class, which come last.
 pub fn buckets_of<A: Allocator + Copy>(
     alloc: A,
-    patterns: &[Pattern<A>],
     needs: &[Need],
     keys: &[Option<Key>],
 ) -> Result<Vec<Bucket<A>, A>, AllocError>
-    requires needs { AreNeeds patterns.now needs.now }
-    requires keys { length keys.now ≡ length patterns.now }
-    ensures { IfOk result (λ buckets. AreBuckets patterns.now keys.now buckets.items) }
+    requires { length keys.now ≡ length needs.now }
+    ensures { IfOk result (λ buckets. AreBuckets needs.now keys.now buckets.items) }
 {
     let mut buckets = Vec::new(alloc);
     for class in 0..CLASSES {
-        buckets.push(bucket_of(alloc, patterns, needs, keys, class)?)?;
+        buckets.push(own_bucket(alloc, needs, keys, class)?)?;
     }
+    buckets.push(bucket_of(alloc, needs, keys, CLASSES)?)?;
     Ok(buckets)
+}
+
+/// The bucket of a class if it has one of its own, or an empty one.
+fn own_bucket<A: Allocator + Copy>(
+    alloc: A,
+    needs: &[Need],
+    keys: &[Option<Key>],
+    class: u8,
+) -> Result<Bucket<A>, AllocError>
+    requires { length keys.now ≡ length needs.now }
+    ensures { IfOk result (IsOwnBucket needs.now keys.now class) }
+{
+    if !is_used(needs, keys, class) {
+        return Ok(Bucket {
+            numbers: Vec::new(alloc),
+        });
+    }
+    bucket_of(alloc, needs, keys, class)
+}
+
+/// Whether a pattern without a key is of the class.
+fn is_used(needs: &[Need], keys: &[Option<Key>], class: u8) -> bool
+    requires { length keys.now ≡ length needs.now }
+    ensures { result ≡ false → IsUnused needs.now keys.now class (length needs.now) }
+{
+    for number in 0..needs.len() {
+        if is_own(keys[number], &needs[number], class) {
+            return true;
+        }
+    }
+    false
 }
 
 /// The numbers of the patterns without a key that may match a text of the class.
 fn bucket_of<A: Allocator + Copy>(
     alloc: A,
-    patterns: &[Pattern<A>],
     needs: &[Need],
     keys: &[Option<Key>],
     class: u8,
 ) -> Result<Bucket<A>, AllocError>
-    requires needs { AreNeeds patterns.now needs.now }
-    requires keys { length keys.now ≡ length patterns.now }
-    ensures { IfOk result
-        (λ bucket. IsBucket patterns.now keys.now class (length patterns.now) bucket) }
+    requires { length keys.now ≡ length needs.now }
+    ensures { IfOk result (IsBucket needs.now keys.now class (length needs.now)) }
 {
-    let _ = patterns;
     let mut numbers = Vec::new(alloc);
     for number in 0..needs.len() {
         if is_listed(keys[number], &needs[number], class) {
@@ -75,6 +101,21 @@ fn bucket_of<A: Allocator + Copy>(
         }
     }
     Ok(Bucket { numbers })
+}
+
+/// The numbers for a text of the class.
+#[inline(always)]
+pub fn bucket_at<A: Allocator>(buckets: &[Bucket<A>], class: u8) -> &[usize]
+    requires class { class < 128 }
+    requires buckets { length buckets.now ≡ 129 }
+    ensures { result.now ≡ few_or_many
+        (slice_index_or buckets.now 128 []) (slice_index_or buckets.now class []) }
+{
+    let own = buckets[class as usize].numbers();
+    if own.is_empty() {
+        return buckets[CLASSES as usize].numbers();
+    }
+    own
 }
 
 /// All numbers of so many patterns.
@@ -94,6 +135,24 @@ fn is_listed(key: Option<Key>, need: &Need, class: u8) -> bool
         → IsSome key ⊎ IsSomeAnd need.now.class (λ known. known ≢ class) }
 {
     key.is_none() && may_be_of(need, class)
+}
+
+/// Whether a pattern with this key and this need has no key, and is of the class.
+fn is_own(key: Option<Key>, need: &Need, class: u8) -> bool
+    ensures { result ≡ false
+        → IsSome key ⊎ IfSome need.now.class (λ known. known ≢ class) }
+{
+    key.is_none() && is_of(need, class)
+}
+
+/// Whether each text that has what is needed is of the class.
+fn is_of(need: &Need, class: u8) -> bool
+    ensures { result ≡ false → IfSome need.now.class (λ known. known ≢ class) }
+{
+    match need.class {
+        Some(known) => known == class,
+        None => false,
+    }
 }
 
 /// Whether a text of the class may have what is needed.

@@ -151,7 +151,7 @@ fn find_keys<A: Allocator>(pattern: &Pattern<A>, keys: &mut Vec<Key, A>) -> Resu
     push_components(pattern, keys)
 }
 
-/// Adds the endings and extensions: of `**/*-1.js` the endings `s`, `js`, `1.js` and `-1.js`, and the extension `js`.
+/// Adds the endings and extensions: of `*1.js` the endings `s`, `js`, `.js` and `1.js`, and the extension `js`.
 fn push_endings<A: Allocator>(
     pattern: &Pattern<A>,
     keys: &mut Vec<Key, A>,
@@ -167,18 +167,15 @@ fn push_endings<A: Allocator>(
         let Some(c) = literal_at(pattern, token) else {
             return Ok(());
         };
-        let behind = (hash, len);
+        if c == '.' {
+            keys.push(Key::Extension(hash, len))?;
+        }
         hash = hash_before(hash, c);
         len += c.len_utf8() as u8;
         if len > LONGEST {
             return Ok(());
         }
-        let key = if c == '.' {
-            Key::Extension(behind.0, behind.1)
-        } else {
-            Key::Ending(hash, len)
-        };
-        keys.push(key)?;
+        keys.push(Key::Ending(hash, len))?;
     }
     Ok(())
 }

@@ -39,7 +39,7 @@ pub struct PatternSet<A: Allocator = Global> {
     needs: Vec<Need, A>,
     // the keys of those that are found by one
     keyed: Keyed<A>,
-    // for each class of texts the numbers of the other patterns that may match one
+    // by the classes of texts the numbers of the other patterns that may match one
     buckets: Vec<Bucket<A>, A>,
     // the numbers of all patterns, for a text by which many are found where an allocation fails
     all: Bucket<A>,
@@ -59,7 +59,7 @@ impl<A: Allocator> Model for PatternSet<A> {
 
     ghost invariant = { λ set. AreNeeds set.patterns.items set.needs.items
         × AreKeys set.patterns.items set.keyed
-        × AreBuckets set.patterns.items set.keyed set.buckets.items
+        × AreBuckets set.needs.items set.keyed set.buckets.items
         × IsAll (length set.patterns.items) set.all };
 }
 
@@ -105,12 +105,7 @@ impl<A: Allocator + Copy> PatternSet<A> {
     {
         let needs = needs_of(alloc, patterns.as_slice())?;
         let keys = keys_of(alloc, patterns.as_slice())?;
-        let buckets = buckets_of(
-            alloc,
-            patterns.as_slice(),
-            needs.as_slice(),
-            keys.as_slice(),
-        )?;
+        let buckets = buckets_of(alloc, needs.as_slice(), keys.as_slice())?;
         let keyed = Keyed::new(alloc, keys, slots_for(patterns.len()))?;
         let all = bucket_of_all(alloc, patterns.len())?;
         Ok(PatternSet {

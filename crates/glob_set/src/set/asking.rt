@@ -5,6 +5,7 @@ ghost use Rattle.glob_set.specs.Private.Asking.{AreAsked, AreMatches, IsFirstOf,
 ghost use Rattle.glob_set.specs.Private.Pairs.{text_bits};
 ghost use Rattle.glob_set.specs.Sets.{AreShort, MatchesAt};
 
+use crate::buckets::bucket_at;
 use crate::found::Found;
 use crate::pairs::{Need, text_bits, text_class};
 use crate::set::PatternSet;
@@ -26,7 +27,7 @@ impl<A: Allocator + Copy> PatternSet<A> {
         if found.is_full() {
             return self.all.numbers();
         }
-        self.buckets[text_class(bytes) as usize].numbers()
+        bucket_at(self.buckets.as_slice(), text_class(bytes))
     }
 
     /// The first of the numbers whose pattern matches the text.
