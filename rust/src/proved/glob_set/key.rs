@@ -34,10 +34,10 @@ impl Key {
 pub struct Kinds {
     /// Whether there are any of components or of their beginnings.
     pub components: bool,
-    /// For each number of bytes whether a beginning has so many.
-    pub beginnings: [bool; 256],
-    /// For each number of bytes whether an `Ending` has so many.
-    pub endings: [bool; 256],
+    /// A bit for each number of bytes that a beginning has.
+    pub beginnings: u64,
+    /// The same of endings.
+    pub endings: u64,
     /// How many bytes the longest ending or extension has.
     pub longest: u8,
 }
@@ -49,10 +49,10 @@ impl Kinds {
             Some(Key::Component(_)) => self.components = true,
             Some(Key::Beginning(_, len)) => {
                 self.components = true;
-                self.beginnings[len as usize] = true;
+                self.beginnings |= length_bit(len);
             }
             Some(Key::Ending(_, len)) => {
-                self.endings[len as usize] = true;
+                self.endings |= length_bit(len);
                 self.longest = self.longest.max(len);
             }
             Some(Key::Extension(_, len)) => self.longest = self.longest.max(len),
@@ -63,9 +63,21 @@ impl Kinds {
 
 /// The kinds of the keys.
 pub fn kinds_of(keys: &[Option<Key>]) -> Kinds {
-    let mut kinds = Kinds { components: false, beginnings: [false; 256], endings: [false; 256], longest: 0 };
+    let mut kinds = Kinds { components: false, beginnings: 0, endings: 0, longest: 0 };
     for key in keys {
         kinds.add(*key);
     }
     kinds
+}
+
+/// The bit of a number of bytes. From 64 on a number has that of a lower one, so that texts are looked up by both.
+#[inline(always)]
+fn length_bit(len: u8) -> u64 {
+    1 << (len % 64)
+}
+
+/// Whether the bit of a number of bytes is one of these.
+#[inline(always)]
+pub fn has_length(lengths: u64, len: u8) -> bool {
+    lengths | length_bit(len) == lengths
 }

@@ -5,7 +5,7 @@
 
 use crate::proved::glob_set::components::{hash_after, slot_of, Component};
 use crate::proved::glob_set::found::Found;
-use crate::proved::glob_set::key::{kinds_of, Key, Kinds};
+use crate::proved::glob_set::key::{has_length, kinds_of, Key, Kinds};
 
 /// The keys of patterns, and the patterns by the slots of their keys.
 #[derive(Clone)]
@@ -55,7 +55,7 @@ impl Keyed {
         let mut len = 0;
         while (len as usize) < text.len() {
             let byte = text[text.len() - 1 - len as usize];
-            let is_used = self.kinds.endings[len as usize];
+            let is_used = has_length(self.kinds.endings, len);
             self.find_if(is_asked(byte, b'.', is_used), hash, found);
             if len == self.kinds.longest {
                 return;
@@ -63,7 +63,7 @@ impl Keyed {
             hash = hash_after(hash, byte);
             len += 1;
         }
-        self.find_if(self.kinds.endings[len as usize], hash, found);
+        self.find_if(has_length(self.kinds.endings, len), hash, found);
     }
 
     /// Adds the patterns that are found by each component of the text and the beginnings of each.
@@ -79,7 +79,7 @@ impl Keyed {
     /// Adds the patterns that are found before this byte, where this component has been read.
     #[inline(always)]
     fn find_before(&self, byte: u8, component: Component, found: &mut Found) {
-        let is_used = self.kinds.beginnings[component.len as usize];
+        let is_used = has_length(self.kinds.beginnings, component.len);
         self.find_if(is_asked(byte, b'/', is_used), component.hash, found);
     }
 

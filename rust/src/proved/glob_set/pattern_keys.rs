@@ -120,7 +120,7 @@ fn find_keys(pattern: &Pattern, keys: &mut Vec<Key>) {
     push_components(pattern, keys)
 }
 
-/// Adds the endings and extensions: of `**/*-1.js` the endings `s`, `js`, `1.js` and `-1.js`, and the extension `js`.
+/// Adds the endings and extensions: of `*1.js` the endings `s`, `js`, `.js` and `1.js`, and the extension `js`.
 fn push_endings(pattern: &Pattern, keys: &mut Vec<Key>) {
     let mut hash = 0;
     let mut len = 0;
@@ -130,14 +130,15 @@ fn push_endings(pattern: &Pattern, keys: &mut Vec<Key>) {
         let Some(c) = literal_at(pattern, token) else {
             return;
         };
-        let behind = (hash, len);
+        if c == '.' {
+            keys.push(Key::Extension(hash, len));
+        }
         hash = hash_before(hash, c);
         len += c.len_utf8() as u8;
         if len > LONGEST {
             return;
         }
-        let key = if c == '.' { Key::Extension(behind.0, behind.1) } else { Key::Ending(hash, len) };
-        keys.push(key);
+        keys.push(Key::Ending(hash, len));
     }
 }
 

@@ -33,7 +33,7 @@ pub struct PatternSet {
     needs: Vec<Need>,
     // the keys of those that are found by one
     keyed: Keyed,
-    // for each class of texts the numbers of the other patterns that may match one
+    // by the classes of texts the numbers of the other patterns that may match one
     buckets: Vec<Bucket>,
     all: Bucket,
     options: MatchOptions,
@@ -66,7 +66,7 @@ impl PatternSet {
     pub fn new(patterns: Vec<Pattern>, options: MatchOptions) -> Self {
         let needs = needs_of(patterns.as_slice());
         let keys = keys_of(patterns.as_slice());
-        let buckets = buckets_of(patterns.as_slice(), needs.as_slice(), keys.as_slice());
+        let buckets = buckets_of(needs.as_slice(), keys.as_slice());
         let keyed = Keyed::new(keys, slots_for(patterns.len()));
         let all = bucket_of_all(patterns.len());
         PatternSet { patterns, needs, keyed, buckets, all, options }

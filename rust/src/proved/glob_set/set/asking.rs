@@ -3,6 +3,7 @@
 //!
 //! Asking the patterns of a set that may match a text.
 
+use crate::proved::glob_set::buckets::bucket_at;
 use crate::proved::glob_set::found::Found;
 use crate::proved::glob_set::pairs::{text_bits, text_class, Need};
 use crate::proved::glob_set::set::PatternSet;
@@ -19,7 +20,7 @@ impl PatternSet {
         if found.is_full() {
             return self.all.numbers();
         }
-        self.buckets[text_class(bytes) as usize].numbers()
+        bucket_at(self.buckets.as_slice(), text_class(bytes))
     }
 
     /// The first of the numbers whose pattern matches the text.
