@@ -1,6 +1,7 @@
 pub mod Accepted
 pub mod Accepting
 pub mod Closing
+pub mod FaultKinds
 pub mod Folding
 pub mod Reading
 pub mod Units

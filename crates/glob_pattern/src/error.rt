@@ -1,10 +1,37 @@
 //! Why a text is no pattern.
-ghost use Rattle.std.specs.Prelude.{Some};
+ghost use Rattle.std.specs.Prelude.{◌≡◌, List, ℕ, Some};
+ghost use Rattle.glob_pattern.specs.Grammar.Faults.{Refuses, kind_of, message_of};
 ghost use Rattle.glob_pattern.specs.Words.{pattern_error_words, refusal_words};
+ghost use Rattle.glob_pattern.specs.declared.error.PatternRefusal.TheVariants.{Syntax};
 
 use std::alloc::{AllocError, AllocFailed};
 use std::error::Error;
 use std::fmt;
+
+/// What is wrong where a text is no pattern.
+#[derive(Clone, Copy, Debug, PartialEq, Eq)]
+pub enum PatternErrorKind {
+    /// Three stars or more, as in `a/***`.
+    Wildcards,
+    /// Two stars that are not a whole component, as in `a**`.
+    Recursive,
+    /// A `[` that begins no bracket, as in `[a`.
+    Range,
+}
+
+impl PatternErrorKind {
+    /// The message of errors of this kind: of `Range` it is `invalid range pattern`.
+    pub fn message(self) -> &'static str
+        ensures text { result.now ≡ message_of self }
+        ensures kind { kind_of result.now ≡ self }
+    {
+        match self {
+            PatternErrorKind::Wildcards => "wildcards are either regular `*` or recursive `**`",
+            PatternErrorKind::Recursive => "recursive wildcards must form a single path component",
+            PatternErrorKind::Range => "invalid range pattern",
+        }
+    }
+}
 
 /// Where a text is no pattern, and why. For `a**` it has the place 0 and the message `recursive wildcards must form a
 /// single path component`, and is printed as `Pattern syntax error near position 0: ` and the message.
@@ -14,6 +41,25 @@ pub struct PatternError {
     pub pos: usize,
     /// What is wrong there.
     pub msg: &'static str,
+}
+
+impl PatternError {
+    /// What is wrong: `Recursive` for `a**`. An error that somebody else made is of the kind that has its message, or
+    /// `Range`.
+    #[tactic(auto, using(crate::proofs::GrammarLemmas::FaultKinds::message_of_kind))]
+    pub fn kind(&self) -> PatternErrorKind
+        ensures kind { result ≡ kind_of self.now.msg.now }
+        ensures message { (text : List ℕ) → Refuses text (Syntax self.now)
+            → message_of result ≡ self.now.msg.now }
+    {
+        if self.msg == PatternErrorKind::Wildcards.message() {
+            PatternErrorKind::Wildcards
+        } else if self.msg == PatternErrorKind::Recursive.message() {
+            PatternErrorKind::Recursive
+        } else {
+            PatternErrorKind::Range
+        }
+    }
 }
 
 impl fmt::Display for PatternError {

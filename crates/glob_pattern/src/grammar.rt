@@ -5,11 +5,10 @@ ghost use Rattle.glob_text.specs.Text.{Has, has, opens};
 ghost use Rattle.glob_pattern.specs.Grammar.Characters.{star, open_bracket};
 ghost use Rattle.glob_pattern.specs.Grammar.Tokens.{Token as TokenOf, is_recursive, ends_recursive, tokens_of_units};
 ghost use Rattle.glob_pattern.specs.Grammar.Units.{HasTokens};
-ghost use Rattle.glob_pattern.specs.Grammar.Faults.{Refuses};
-ghost use Rattle.glob_pattern.specs.Computing.Reading.{close_from, unit_at, RefusesAt};
-ghost use Rattle.glob_pattern.specs.declared.error.PatternRefusal.TheVariants.{Syntax};
+ghost use Rattle.glob_pattern.specs.Grammar.Faults.{Refuses, message_of};
+ghost use Rattle.glob_pattern.specs.Computing.Reading.{close_from, unit_at, IsRefusalAt, RefusesAt};
 
-use crate::error::{PatternError, PatternRefusal};
+use crate::error::{PatternError, PatternErrorKind, PatternRefusal};
 use crate::token::Token;
 use crate::token::bracket::Bracket;
 use std::alloc::{AllocError, Allocator};
@@ -131,15 +130,15 @@ fn stars_at<A: Allocator>(
     if !has(text, place + 1, '*') {
         Ok((Token::AnySequence, place + 1))
     } else if has(text, place + 2, '*') {
-        Err(fault(place + 2, WILDCARDS))
+        Err(fault(place + 2, PatternErrorKind::Wildcards))
     } else if !opens(text, place) {
-        Err(fault(place - 1, RECURSIVE))
+        Err(fault(place - 1, PatternErrorKind::Recursive))
     } else if has(text, place + 2, '/') {
         Ok((Token::Recursive, place + 3))
     } else if place + 2 == text.len() {
         Ok((Token::Recursive, place + 2))
     } else {
-        Err(fault(place + 2, RECURSIVE))
+        Err(fault(place + 2, PatternErrorKind::Recursive))
     }
 }
 
@@ -155,7 +154,7 @@ fn bracket_at<A: Allocator + Copy>(
 {
     let is_inverted = has(text, place + 1, '!');
     let start = if is_inverted { place + 2 } else { place + 1 };
-    let close = close_from(text, start + 1).ok_or(fault(place, RANGE))?;
+    let close = close_from(text, start + 1).ok_or(fault(place, PatternErrorKind::Range))?;
     let bracket = Bracket::read(alloc, &text[start..close])?;
     let token = if is_inverted {
         Token::NoneOf(bracket)
@@ -181,17 +180,14 @@ pub fn close_from(text: &[char], start: usize) -> Option<usize>
 }
 
 /// A fault: where it is, in characters, and what it is.
-fn fault(pos: usize, msg: &'static str) -> PatternRefusal
-    ensures { result ≡ Syntax (record { pos = pos; msg = msg.entry }) }
+fn fault(pos: usize, kind: PatternErrorKind) -> PatternRefusal
+    ensures { IsRefusalAt pos (message_of kind) result }
 {
-    PatternRefusal::Syntax(PatternError { pos, msg })
+    PatternRefusal::Syntax(PatternError {
+        pos,
+        msg: kind.message(),
+    })
 }
-
-const WILDCARDS: &'static str = "wildcards are either regular `*` or recursive `**`";
-
-const RECURSIVE: &'static str = "recursive wildcards must form a single path component";
-
-const RANGE: &'static str = "invalid range pattern";
 
 /// Whether the character at a place is `c`.
 fn has(text: &[char], place: usize, c: char) -> bool

@@ -9,7 +9,7 @@ mod options;
 mod pattern;
 mod token;
 
-pub use error::{PatternError, PatternRefusal};
+pub use error::{PatternError, PatternErrorKind, PatternRefusal};
 pub use grammar::{characters_of, close_from, opens};
 pub use matcher::{Judge, Shape, run_positions};
 pub use options::MatchOptions;

@@ -44,6 +44,11 @@ unit_at text f =
     else if slice_index text f == open_bracket then bracket_at text f
     else Some (Literal (slice_index text f), f + 1)
 
+-- the refusal reports this place and this message
+abbrev pub IsRefusalAt : (place : ℕ) → (message : List ℕ) → PatternRefusal → Type 0
+IsRefusalAt place message (Syntax e) = (e.pos ≡ place) × (e.msg.now ≡ message)
+IsRefusalAt place message Memory = ⊥
+
 -- what a refusal reports where no unit is found at place f: the fault there, or a failed allocation
 abbrev pub RefusesAt : Text → ℕ → PatternRefusal → Type 0
 RefusesAt text f (Syntax e) =

@@ -1,23 +1,27 @@
 -- The fault of a text that is no pattern: its place and its message.
-use Rattle.std.specs.Prelude.{◌≡◌, ℕ, ◌+◌, ◌-◌, ◌<◌, not, if◌then◌else◌, List, length, codes, ⊤}
+use Rattle.std.specs.Prelude.{◌≡◌, ℕ, ◌+◌, ◌-◌, ◌<◌, not, if◌then◌else◌, List, length, codes, bytes_eq, ⊤}
 use Rattle.glob_pattern.specs.Grammar.Characters.{star}
 use Rattle.glob_text.specs.Text.{Text, opens, has}
 use Rattle.glob_pattern.specs.Grammar.Tokens.{Token}
 use Rattle.glob_pattern.specs.Grammar.Units.{UnitAt, UnitsBetween}
+use Rattle.glob_pattern.specs.declared.error.PatternErrorKind.{PatternErrorKind}
+use Rattle.glob_pattern.specs.declared.error.PatternErrorKind.TheVariants.{Wildcards, Recursive, Range}
 use Rattle.glob_pattern.specs.declared.error.PatternRefusal.{PatternRefusal}
 use Rattle.glob_pattern.specs.declared.error.PatternRefusal.TheVariants.{Syntax, Memory}
 
--- the message for three stars or more
-abbrev pub wildcards_message : List ℕ
-wildcards_message = codes "wildcards are either regular `*` or recursive `**`"
+-- the message for three stars or more, for two stars that are no component of their own, and for a bracket that is not
+-- closed
+abbrev pub message_of : PatternErrorKind → List ℕ
+message_of Wildcards = codes "wildcards are either regular `*` or recursive `**`"
+message_of Recursive = codes "recursive wildcards must form a single path component"
+message_of Range = codes "invalid range pattern"
 
--- the message for two stars that are no component of their own
-abbrev pub recursive_message : List ℕ
-recursive_message = codes "recursive wildcards must form a single path component"
-
--- the message for a bracket that is not closed
-abbrev pub range_message : List ℕ
-range_message = codes "invalid range pattern"
+-- the kind that has the message, or else the last one
+abbrev pub kind_of : (message : List ℕ) → PatternErrorKind
+kind_of message =
+    if bytes_eq message (message_of Wildcards) then Wildcards
+    else if bytes_eq message (message_of Recursive) then Recursive
+    else Range
 
 -- a place, in characters from 0, and a message
 pub record Fault : Type 0 where
@@ -29,10 +33,10 @@ pub record Fault : Type 0 where
 -- before them or else because of what follows.
 abbrev pub fault_at : Text → ℕ → Fault
 fault_at text f =
-    if not (has text f star) then record { place = f; message = range_message }
-    else if has text (f + 2) star then record { place = f + 2; message = wildcards_message }
-    else if not (opens text f) then record { place = f - 1; message = recursive_message }
-    else record { place = f + 2; message = recursive_message }
+    if not (has text f star) then record { place = f; message = message_of Range }
+    else if has text (f + 2) star then record { place = f + 2; message = message_of Wildcards }
+    else if not (opens text f) then record { place = f - 1; message = message_of Recursive }
+    else record { place = f + 2; message = message_of Recursive }
 
 -- no unit begins at place f
 abbrev pub NoUnitAt : Text → ℕ → Type 0
