@@ -49,15 +49,16 @@ function put(text) {
 const room = (count) => [BigInt(take(count)), BigInt(count)];
 const number = (at) => Number(view().getBigUint64(Number(at), true));
 
-// What is wrong with the pattern: its place in characters, and the message; or nothing.
+// What is wrong with the pattern: its place in characters, the message, and the number of its kind; or nothing.
 function faultOf(pattern) {
   free = base;
-  const text = put(pattern), message = room(200), [count] = room(8), [place] = room(8);
-  const status = code.page_pattern(...text, ...message, count, place);
+  const text = put(pattern), message = room(200), [count] = room(8), [place] = room(8), [kind] = room(8);
+  const status = code.page_pattern(...text, ...message, count, place, kind);
   if (status === YES) return null;
   if (status !== FAULT) return { place: 0, message: TROUBLE[status] };
   const at = Number(message[0]);
-  return { place: number(place), message: decode(bytes().slice(at, at + number(count))) };
+  const said = decode(bytes().slice(at, at + number(count)));
+  return { place: number(place), message: said, kind: view().getUint32(Number(kind), true) };
 }
 
 // Whether the pattern matches the text, with the pieces, or with where it stops and the tokens that wait there.
@@ -210,15 +211,16 @@ const HINTS = [
   [/\[\^/, "^ stands for itself in brackets. All but some characters is [!abc]."],
 ];
 
-const FAULTS = {
-  "invalid range pattern": "A [ begins a bracket, as [abc]: one character or more, and then ]. A ] right after [ or [! is such a character. The character [ alone is written [[].",
-  "recursive wildcards must form a single path component": "** stands alone between separators. Write **/a*.rs for a*.rs at any depth, and a*.rs for names that begin with a.",
-  "wildcards are either regular `*` or recursive `**`": "Write * for any characters of a name, and ** for any number of components.",
-};
+// By the numbers of kinds of faults.
+const FAULTS = [
+  "Write * for any characters of a name, and ** for any number of components.",
+  "** stands alone between separators. Write **/a*.rs for a*.rs at any depth, and a*.rs for names that begin with a.",
+  "A [ begins a bracket, as [abc]: one character or more, and then ]. A ] right after [ or [! is such a character. The character [ alone is written [[].",
+];
 
 function drawPattern() {
   const pattern = $("pattern").value, fault = faultOf(pattern);
-  const hints = HINTS.filter(([form]) => form.test(pattern)).map(([, words]) => words).concat(FAULTS[fault?.message] ?? []);
+  const hints = HINTS.filter(([form]) => form.test(pattern)).map(([, words]) => words).concat(FAULTS[fault?.kind] ?? []);
   const hint = hints.map((words) => make("p", { className: "hint" }, words));
   const said = fault
     ? [caret(pattern, fault.place, "fault"), make("p", { className: "wrong" }, `Refused at character ${fault.place}: ${fault.message}`)]

@@ -52,7 +52,7 @@ pub mod tutorial {}
 pub mod recipes {}
 
 pub use disk::{glob, glob_with};
-pub use proved::glob_pattern::{MatchOptions, Pattern, PatternError};
+pub use proved::glob_pattern::{MatchOptions, Pattern, PatternError, PatternErrorKind};
 pub use proved::glob_walk::{GlobError, GlobResult};
 
 /// The items of a walk over the file system.

@@ -34,7 +34,8 @@ mod walk;
 pub use disk_walk::{glob, glob_with};
 pub use glob_lines::{LineFault, Watch, filter_lines, filter_records};
 pub use glob_pattern::{
-    Judge, MatchOptions, Pattern, PatternError, PatternRefusal, Shape, run_positions,
+    Judge, MatchOptions, Pattern, PatternError, PatternErrorKind, PatternRefusal, Shape,
+    run_positions,
 };
 pub use glob_tree::{
     Asks, Directory, Disk, Entry, ListError, Look, MemSystem, MemTree, Name, System, Tree,

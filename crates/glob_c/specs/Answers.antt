@@ -1,7 +1,9 @@
 -- What the calls answer, as numbers.
-use Rattle.std.specs.Prelude.{ℕ, ◌==◌, nat_eq, if◌then◌else◌, Bool, List, [], ◌∷◌, bytes_eq}
+use Rattle.std.specs.Prelude.{ℕ, ◌==◌, nat_eq, if◌then◌else◌, Bool, [], ◌∷◌}
 use Rattle.std.specs.List.{list_any}
-use Rattle.glob_pattern.specs.Grammar.Faults.{Fault, wildcards_message, recursive_message, range_message}
+use Rattle.glob_pattern.specs.Grammar.Faults.{Fault, message_of}
+use Rattle.glob_pattern.specs.declared.error.PatternErrorKind.{PatternErrorKind}
+use Rattle.glob_pattern.specs.declared.error.PatternErrorKind.TheVariants.{Wildcards, Recursive, Range}
 
 -- the call did what it is for
 abbrev pub done : ℕ
@@ -55,14 +57,10 @@ no = 0
 abbrev pub yes : ℕ
 yes = 1
 
--- the message of a number
-abbrev pub message_of : ℕ → List ℕ
-message_of n = if n == 0 then wildcards_message else if n == 1 then recursive_message else range_message
+-- the kind of a number
+abbrev pub kind_at : ℕ → PatternErrorKind
+kind_at n = if n == 0 then Wildcards else if n == 1 then Recursive else Range
 
--- the number of a message
-abbrev pub number_of : List ℕ → ℕ
-number_of m = if bytes_eq m wildcards_message then 0 else if bytes_eq m recursive_message then 1 else 2
-
--- a fault by the number of its message
+-- a fault by the number of its kind
 abbrev pub fault_of : ℕ → ℕ → Fault
-fault_of place message = record { place = place; message = message_of message }
+fault_of place number = record { place = place; message = message_of (kind_at number) }

@@ -1,9 +1,8 @@
 ghost use Rattle.std.specs.Prelude.{◌≡◌, IfOk, IfErr, IsUtf8, chars};
 ghost use Rattle.glob_pattern.specs.Grammar.Units.{IsAccepted};
-ghost use Rattle.glob_c.specs.Answers.{number_of};
 ghost use Rattle.glob_c.specs.Refusals.{RefusesBytes};
 
-use glob_pattern::{Pattern, PatternError, PatternRefusal};
+use glob_pattern::{Pattern, PatternRefusal};
 use std::alloc::{AllocFailed, Global};
 
 /// Where a text is no pattern, and why.
@@ -33,13 +32,10 @@ impl From<PatternRefusal> for Refusal {
 
     fn from(refused: PatternRefusal) -> Refusal {
         match refused {
-            PatternRefusal::Syntax(error) => {
-                let PatternError { pos, msg } = error;
-                Refusal::Syntax(Fault {
-                    place: pos,
-                    message: number_of(msg),
-                })
-            }
+            PatternRefusal::Syntax(error) => Refusal::Syntax(Fault {
+                place: error.pos,
+                message: error.kind().number(),
+            }),
             PatternRefusal::Memory => Refusal::Memory,
         }
     }
@@ -54,23 +50,6 @@ impl<T: Drop> From<AllocFailed<T>> for Refusal {
 
     fn from(_error: AllocFailed<T>) -> Refusal {
         Refusal::Memory
-    }
-}
-
-const WILDCARDS: &'static str = "wildcards are either regular `*` or recursive `**`";
-
-const RECURSIVE: &'static str = "recursive wildcards must form a single path component";
-
-/// The number of a message.
-pub(crate) fn number_of(message: &str) -> u32
-    ensures { result ≡ number_of message.now }
-{
-    if message == WILDCARDS {
-        0
-    } else if message == RECURSIVE {
-        1
-    } else {
-        2
     }
 }
 

@@ -2,7 +2,7 @@
 ghost use Rattle.std.specs.Prelude.{◌≡◌, ◌≤◌, ◌<◌, ◌++◌, ◌∷◌, Bool, true, false, IsSome, IsTrue, IsUtf8, [], List, length, take, drop};
 ghost use Rattle.std.specs.IoError.{os_error_kind};
 ghost use Rattle.std.specs.declared.option.Option.TheVariants.{None, Some};
-ghost use Rattle.glob_pattern.specs.Grammar.Faults.{Fault as TextFault};
+ghost use Rattle.glob_pattern.specs.Grammar.Faults.{Fault as TextFault, kind_of, number_of};
 ghost use Rattle.glob_pattern.specs.Matching.Options.{options_of_bits};
 ghost use Rattle.glob_tree.specs.Content.{Content, DirEntry};
 ghost use Rattle.glob_tree.specs.Paths.{is_proper};
@@ -14,16 +14,16 @@ ghost use Rattle.glob_walk.specs.Components.{walk_fault};
 ghost use Rattle.glob_walk.specs.Listing.{listing};
 ghost use Rattle.glob_walk.specs.Marks.{Found, Item, Mark};
 ghost use Rattle.glob_walk.specs.Driven.{HasGiven};
-ghost use Rattle.glob_c.specs.Answers.{done, empty, in_use, is_entry_answer, no_name, not_asked, not_utf8, number_of, out_of_memory, syntax_fault, too_short, unknown_flag};
+ghost use Rattle.glob_c.specs.Answers.{done, empty, in_use, is_entry_answer, no_name, not_asked, not_utf8, out_of_memory, syntax_fault, too_short, unknown_flag};
 ghost use Rattle.glob_c.specs.Sessions.{Replies, Sitting, entries_so_far, error_path, look_of, looked_at};
 ghost use Rattle.glob_c.specs.WalkSlots.{HasEntries, HasLimit, HasListed, HasNoAnswer, HasStep, HasUnread, IsAdvanced, IsBegun, IsCounted, IsToldUnread};
 
 use crate::escape::TOO_SHORT;
-use crate::fault::{self, Fault};
+use crate::fault::Fault;
 use crate::pattern::{DONE, IN_USE, NOT_UTF8, OUT_OF_MEMORY, SYNTAX_FAULT, UNKNOWN_FLAG};
 use crate::session::Session;
 use crate::walk_handle::WalkHandle;
-use glob_pattern::{MatchOptions, PatternError, PatternRefusal};
+use glob_pattern::{MatchOptions, PatternRefusal};
 use glob_tree::Look;
 use glob_walk::WalkMachine;
 use std::alloc::Global;
@@ -58,7 +58,7 @@ pub extern "C" fn cadmiumdove_walk_new(
         → IsBegun (listing c (options_of_bits flags) pattern.now) c handle.new.slot.walk }
     ensures unanswered { result ≡ done → HasNoAnswer handle.new.slot.walk }
     ensures syntax { result ≡ syntax_fault → (f : TextFault) → walk_fault pattern.now ≡ Some f
-        → (fault.new.place ≡ f.place) × (fault.new.message ≡ number_of f.message) }
+        → (fault.new.place ≡ f.place) × (fault.new.message ≡ number_of (kind_of f.message)) }
     ensures faulty { result ≡ syntax_fault → IsSome (walk_fault pattern.now) }
     ensures not_utf8 { result ≡ not_utf8 → ¬ (IsUtf8 pattern.now) }
     ensures refused { ¬ (result ≡ done) → handle.new.slot.walk ≡ handle.old.slot.walk }
@@ -82,10 +82,9 @@ pub extern "C" fn cadmiumdove_walk_new(
             Err(_) => OUT_OF_MEMORY,
         },
         Err(PatternRefusal::Syntax(error)) => {
-            let PatternError { pos, msg } = error;
             *fault = Fault {
-                place: pos,
-                message: fault::number_of(msg),
+                place: error.pos,
+                message: error.kind().number(),
             };
             SYNTAX_FAULT
         }

@@ -1,6 +1,6 @@
 //! Why a text is no pattern.
 ghost use Rattle.std.specs.Prelude.{◌≡◌, List, ℕ, Some};
-ghost use Rattle.glob_pattern.specs.Grammar.Faults.{Refuses, kind_of, message_of};
+ghost use Rattle.glob_pattern.specs.Grammar.Faults.{Refuses, kind_of, message_of, number_of};
 ghost use Rattle.glob_pattern.specs.Words.{pattern_error_words, refusal_words};
 ghost use Rattle.glob_pattern.specs.declared.error.PatternRefusal.TheVariants.{Syntax};
 
@@ -29,6 +29,17 @@ impl PatternErrorKind {
             PatternErrorKind::Wildcards => "wildcards are either regular `*` or recursive `**`",
             PatternErrorKind::Recursive => "recursive wildcards must form a single path component",
             PatternErrorKind::Range => "invalid range pattern",
+        }
+    }
+
+    /// The number by which C and the page know this kind: that of `Range` is 2.
+    pub fn number(self) -> u32
+        ensures { result ≡ number_of self }
+    {
+        match self {
+            PatternErrorKind::Wildcards => 0,
+            PatternErrorKind::Recursive => 1,
+            PatternErrorKind::Range => 2,
         }
     }
 }

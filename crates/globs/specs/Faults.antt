@@ -1,7 +1,9 @@
 -- The printed texts of faults. What words from outside have of control characters is seen.
-use Rattle.std.specs.Prelude.{ℕ, List, [], ◌++◌, ◌∷◌, Option, None, Some, ⊤, codes, if◌then◌else◌, bytes_eq, decimal}
+use Rattle.std.specs.Prelude.{ℕ, List, [], ◌++◌, ◌∷◌, Option, None, Some, ⊤, codes, if◌then◌else◌, decimal}
 use Rattle.glob_console.specs.Lines.{WritesLine}
-use Rattle.glob_pattern.specs.Grammar.Faults.{range_message}
+use Rattle.glob_pattern.specs.Grammar.Faults.{kind_of, message_of}
+use Rattle.glob_pattern.specs.declared.error.PatternErrorKind.{PatternErrorKind}
+use Rattle.glob_pattern.specs.declared.error.PatternErrorKind.TheVariants.{Wildcards, Recursive, Range}
 use Rattle.glob_rules.specs.Words.{reason_words}
 use Rattle.glob_set.specs.Words.{brace_error_words}
 use Rattle.glob_set.specs.declared.braces.error.BraceError.{BraceError}
@@ -96,9 +98,11 @@ WritesUsage contents prefix VersionLine old new = ⊤
 WritesUsage contents prefix (Refused name w word) old new =
     WritesLine prefix (word_fault_words name w word) (contents old) (contents new)
 
--- what a message of a pattern's fault is here: a bracket that is not closed says so
-abbrev pub message_words : (message : Text) → Text
-message_words message = if bytes_eq message range_message then codes "unclosed [" else message
+-- the message of a kind here: a bracket that is not closed says so
+abbrev pub message_words : PatternErrorKind → Text
+message_words Wildcards = message_of Wildcards
+message_words Recursive = message_of Recursive
+message_words Range = codes "unclosed ["
 
 -- the lines of braces that are refused, but for the last
 abbrev pub brace_lines : (text : Text) → BraceError → Text
@@ -115,7 +119,7 @@ abbrev pub fault_words : FaultLines → Text
 fault_words lines = elim lines.fault [
   | pattern.Astray text column ↦
       marked_words lines.name (codes "no component may be empty, `.` or `..`") text.now column
-  | pattern.Syntax text e ↦ marked_words lines.name (message_words e.msg.now) text.now e.pos
+  | pattern.Syntax text e ↦ marked_words lines.name (message_words (kind_of e.msg.now)) text.now e.pos
   | pattern.Braces text e ↦ brace_lines text.now e ++ 10 ∷ help_words (Some lines.name)
   | pattern.Memory ↦ codes "out of memory"
 ]

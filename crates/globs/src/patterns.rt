@@ -9,7 +9,7 @@ ghost use Rattle.glob_set.specs.Sets.{RefusesTexts};
 use crate::name::Name;
 use crate::usage::Help;
 use crate::visible::{Caret, Visible};
-use glob_pattern::{MatchOptions, PatternError};
+use glob_pattern::{MatchOptions, PatternError, PatternErrorKind};
 use glob_set::braces::BraceError;
 use glob_set::{PatternSet, SetRefusal};
 use std::alloc::{AllocError, Allocator};
@@ -68,7 +68,7 @@ impl Display for FaultLines<'_> {
                     text: *text,
                     column: error.pos,
                 };
-                write!(f, "{}\n{caret}\n{help}", message_of(error))
+                write!(f, "{}\n{caret}\n{help}", message_of(error.kind()))
             }
             PatternFault::Braces(text, error) => {
                 write_braces(f, text, *error)?;
@@ -79,14 +79,13 @@ impl Display for FaultLines<'_> {
     }
 }
 
-/// What the message of a pattern's fault is here: a bracket that is not closed says so.
-pub fn message_of(error: &PatternError) -> &'static str
-    ensures { result.now ≡ message_words error.now.msg.now }
+/// The message of a kind of fault here: a bracket that is not closed says so.
+pub fn message_of(kind: PatternErrorKind) -> &'static str
+    ensures { result.now ≡ message_words kind }
 {
-    if error.msg == "invalid range pattern" {
-        "unclosed ["
-    } else {
-        error.msg
+    match kind {
+        PatternErrorKind::Wildcards | PatternErrorKind::Recursive => kind.message(),
+        PatternErrorKind::Range => "unclosed [",
     }
 }
 

@@ -16,6 +16,12 @@ message_of Wildcards = codes "wildcards are either regular `*` or recursive `**`
 message_of Recursive = codes "recursive wildcards must form a single path component"
 message_of Range = codes "invalid range pattern"
 
+-- the number of a kind, for C and the page
+abbrev pub number_of : PatternErrorKind → ℕ
+number_of Wildcards = 0
+number_of Recursive = 1
+number_of Range = 2
+
 -- the kind that has the message, or else the last one
 abbrev pub kind_of : (message : List ℕ) → PatternErrorKind
 kind_of message =

@@ -21,7 +21,7 @@ pub fn explain_refusal<A: Allocator + Copy>(
         text: written,
         column: error.pos,
     };
-    let message = message_of(&error);
+    let message = message_of(error.kind());
     let mut lines = format!(in alloc; "{message}\n{caret}\n")?;
     add_instead(alloc, &mut lines, written, options)?;
     lines.push_str("\ntry globs help explain")?;

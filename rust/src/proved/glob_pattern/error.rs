@@ -5,6 +5,37 @@
 
 use std::fmt;
 
+/// What is wrong where a text is no pattern.
+#[derive(Clone, Copy, Debug, PartialEq, Eq)]
+pub enum PatternErrorKind {
+    /// Three stars or more, as in `a/***`.
+    Wildcards,
+    /// Two stars that are not a whole component, as in `a**`.
+    Recursive,
+    /// A `[` that begins no bracket, as in `[a`.
+    Range,
+}
+
+impl PatternErrorKind {
+    /// The message of errors of this kind: of `Range` it is `invalid range pattern`.
+    pub fn message(self) -> &'static str {
+        match self {
+            PatternErrorKind::Wildcards => "wildcards are either regular `*` or recursive `**`",
+            PatternErrorKind::Recursive => "recursive wildcards must form a single path component",
+            PatternErrorKind::Range => "invalid range pattern",
+        }
+    }
+
+    /// The number by which C and the page know this kind: that of `Range` is 2.
+    pub fn number(self) -> u32 {
+        match self {
+            PatternErrorKind::Wildcards => 0,
+            PatternErrorKind::Recursive => 1,
+            PatternErrorKind::Range => 2,
+        }
+    }
+}
+
 /// Where a text is no pattern, and why. For `a**` it has the place 0 and the message `recursive wildcards must form a
 /// single path component`, and is printed as `Pattern syntax error near position 0: ` and the message.
 #[derive(Debug)]
@@ -13,6 +44,20 @@ pub struct PatternError {
     pub pos: usize,
     /// What is wrong there.
     pub msg: &'static str,
+}
+
+impl PatternError {
+    /// What is wrong: `Recursive` for `a**`. An error that somebody else made is of the kind that has its message, or
+    /// `Range`.
+    pub fn kind(&self) -> PatternErrorKind {
+        if self.msg == PatternErrorKind::Wildcards.message() {
+            PatternErrorKind::Wildcards
+        } else if self.msg == PatternErrorKind::Recursive.message() {
+            PatternErrorKind::Recursive
+        } else {
+            PatternErrorKind::Range
+        }
+    }
 }
 
 impl fmt::Display for PatternError {

@@ -11,7 +11,7 @@ mod options;
 mod pattern;
 mod token;
 
-pub use error::PatternError;
+pub use error::{PatternError, PatternErrorKind};
 pub use grammar::{characters_of, close_from, opens};
 pub use matcher::{run_positions, Judge, Shape};
 pub use options::MatchOptions;
