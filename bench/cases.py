@@ -116,7 +116,7 @@ FINDERS = {
 }
 
 # How many patterns a set has, and how many paths it is asked about: globset takes milliseconds for one with 5,000.
-SETS = {125: 100_000, 482: 2_000, 5_000: 200}
+SETS = {125: 100_000, 482: 2_000, 5_000: 50}
 QUESTIONS = ["all", "first", "last", "any"]
 # About how many paths ours is asked in one run, and how many patterns are read while sets are made.
 ASKED, MADE = 500_000, 50_000

@@ -37,7 +37,7 @@ FILLS = (0, 8, 30, 30, 80, 400, 4000)
 # The crate tries one way after another: shapes for which there may be more ways are left out.
 MOST_WAYS = 200_000
 # How many patterns a random set has at most, and how many paths it is asked about.
-LARGEST_SET, PATHS = 3000, 200
+LARGEST_SET, PATHS = 3000, 100
 # The share of the paths that are of a pattern's kind.
 SHARES = (0, 0.5)
 # What wildcards of these patterns stand for in the paths. They are few, as globset is slow where texts vary much.
