@@ -1,5 +1,5 @@
 -- The printed texts of faults. What words from outside have of control characters is seen.
-use Rattle.std.specs.Prelude.{ℕ, List, [], ◌++◌, ◌∷◌, Option, None, Some, ⊤, codes, if◌then◌else◌, decimal}
+use Rattle.std.specs.Prelude.{ℕ, List, [], ◌++◌, ◌∷◌, Option, None, Some, ⊤, codes, decimal}
 use Rattle.glob_console.specs.Lines.{WritesLine}
 use Rattle.glob_pattern.specs.Grammar.Faults.{kind_of, message_of}
 use Rattle.glob_pattern.specs.declared.error.PatternErrorKind.{PatternErrorKind}
