@@ -6,7 +6,7 @@ set -uo pipefail
 . "$(dirname "$(realpath "$0")")/lib/commands.sh"
 crate=$work/rust
 # Cargo asks no registry.
-export CARGO_NET_OFFLINE=true CARGO_TARGET_DIR=$work/target CADMIUMDOVE_ROWS=$root/crates/glob_vectors/data
+export CARGO_NET_OFFLINE=true CARGO_TARGET_DIR=$work/target
 # The folder of the original's sources, if there is one.
 original=$(ls -d /usr/share/cargo/registry/glob-0.3.* 2>/dev/null | tail -1)
 
@@ -19,7 +19,7 @@ made_anew() {
 packed() {
     env -C "$crate" cargo package -q --allow-dirty && mkdir "$work/alone" &&
         tar -C "$work/alone" -xf "$CARGO_TARGET_DIR"/package/cadmiumdove-*.crate &&
-        env -u CADMIUMDOVE_ROWS -C "$work/alone"/cadmiumdove-* cargo test -q
+        env -C "$work/alone"/cadmiumdove-* cargo test -q
 }
 
 # The programs of users over both crates, which differ by a line of Cargo.toml, print the same.

@@ -2,7 +2,6 @@
 
 use std::fmt;
 
-use crate::explain::Explanation;
 use crate::ignore::IgnoreList;
 use crate::set::PatternSet;
 use crate::walk::{Answer, Step, WalkMachine};
@@ -44,11 +43,5 @@ impl fmt::Debug for PatternSet {
 impl fmt::Debug for IgnoreList {
     fn fmt(&self, f: &mut fmt::Formatter<'_>) -> fmt::Result {
         f.debug_struct("IgnoreList").finish_non_exhaustive()
-    }
-}
-
-impl fmt::Debug for Explanation {
-    fn fmt(&self, f: &mut fmt::Formatter<'_>) -> fmt::Result {
-        f.debug_struct("Explanation").field("is_match", &self.is_match).field("lines", &self.lines).finish()
     }
 }

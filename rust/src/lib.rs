@@ -17,8 +17,8 @@
 //!
 //! Beside it, each in a module of its own: walks with a limit, over any tree, or that ask their caller ([`walk`]), sets
 //! of patterns ([`set`]), the rules of ignore files ([`ignore`]), walks that leave out what such say ([`prune`]), the
-//! pieces of a text that a pattern's wildcards take ([`captures`](mod@captures)), and why a text does not match
-//! ([`explain`]). [`tutorial`] takes one sitting, and [`recipes`] has an example for each task.
+//! pieces of a text that a pattern's wildcards take, and how far a text matches ([`captures`](mod@captures)).
+//! [`tutorial`] takes one sitting, and [`recipes`] has an example for each task.
 //!
 //! What matches and what goes from path to path is made from sources in which every function is proved to do what its
 //! contract says; README says what that means for this crate. The file that an item's source link shows begins with the
@@ -39,7 +39,6 @@ mod proved;
 mod traits;
 
 pub mod captures;
-pub mod explain;
 pub mod ignore;
 pub mod prune;
 pub mod set;

@@ -1,6 +1,7 @@
-//! What Rust's paths and its trait `Error` need beside the proved sources.
+//! What Rust's paths and traits need beside the proved sources.
 
 use std::error::Error;
+use std::fmt;
 use std::path::Path;
 
 use crate::{MatchOptions, Pattern, PatternError};
@@ -22,5 +23,19 @@ impl Pattern {
 impl Error for PatternError {
     fn description(&self) -> &str {
         self.msg
+    }
+}
+
+/// The pattern's text, in the width and precision that are asked for.
+impl fmt::Display for Pattern {
+    fn fmt(&self, f: &mut fmt::Formatter<'_>) -> fmt::Result {
+        f.pad(self.as_str())
+    }
+}
+
+/// The pattern's text, with its name.
+impl fmt::Debug for Pattern {
+    fn fmt(&self, f: &mut fmt::Formatter<'_>) -> fmt::Result {
+        f.debug_struct("Pattern").field("original", &self.as_str()).finish_non_exhaustive()
     }
 }

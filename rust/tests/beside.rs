@@ -7,8 +7,7 @@ use std::io::{self, ErrorKind};
 use std::path::{Path, PathBuf};
 use std::sync::Arc;
 
-use cadmiumdove::captures::{captures, tokens, CapturesError, Piece, Reached, TokenKind, Written, MOST_STEPS};
-use cadmiumdove::explain::{explain, Explanation};
+use cadmiumdove::captures::{captures, reach, tokens, CapturesError, Piece, Reached, TokenKind, Written, MOST_STEPS};
 use cadmiumdove::ignore::{IgnoreList, Reason, Rule, RuleRefusal};
 use cadmiumdove::prune::{first_excluded, Exclusion, Pruned};
 use cadmiumdove::set::braces::BraceError;
@@ -72,7 +71,7 @@ fn paths(texts: &[&str]) -> Vec<PathBuf> {
 fn traits() {
     fn is_shared<T: Debug + Send + Sync + Unpin + 'static>() {}
     is_shared::<(WalkMachine, Step, Answer, Entry, Name, Look, Disk, GlobCause)>();
-    is_shared::<(PatternSet, IgnoreList, Rule, Pruned<Disk, IgnoreList>, Explanation)>();
+    is_shared::<(PatternSet, IgnoreList, Rule, Pruned<Disk, IgnoreList>)>();
     is_shared::<(Piece, Reached, Written, TokenKind)>();
     fn is_error<T: Error + Send + Sync + 'static>() {}
     is_error::<SetRefusal>();
@@ -228,7 +227,7 @@ fn pieces() {
     assert_eq!(ends, [3, 4, 4]);
     let long = "a".repeat(MOST_STEPS / 4 + 1);
     assert!(matches!(captures(&pattern, &long, NEW), Err(CapturesError::TooLarge)));
-    assert!(matches!(explain(&pattern, &long, NEW), Err(CapturesError::TooLarge)));
+    assert!(matches!(reach(&pattern, &long, NEW), Err(CapturesError::TooLarge)));
     let kinds: Vec<_> = tokens(&pattern).iter().map(|token| (token.kind, token.piece.end)).collect();
     assert_eq!(
         kinds,
@@ -311,8 +310,6 @@ fn what_debug_prints() {
     assert_eq!(format!("{:?}", glob_in(Files(FILES), "*", NEW, 1).unwrap()), "Paths { spent: 0, given: 0 }");
     assert_eq!(format!("{:?}", PatternSet::from_texts(["a*", "b"], NEW).unwrap()), r#"["a*", "b"]"#);
     assert_eq!(format!("{:?}", IgnoreList::new("a").unwrap()), "IgnoreList { .. }");
-    let explanation = explain(&Pattern::new("a").unwrap(), "a", NEW).unwrap();
-    assert_eq!(format!("{explanation:?}"), r#"Explanation { is_match: true, lines: "a\ta\n" }"#);
 }
 
 #[test]

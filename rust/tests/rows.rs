@@ -1,20 +1,17 @@
-//! Answers from outside, as the repository has them in tables: `CADMIUMDOVE_ROWS` is the folder, and by default that of
-//! the repository that this crate is in. Outside of it there are none.
+//! Answers from outside, as the tables of `tests/tables` have them.
 
 use std::fs;
 use std::path::{Path, PathBuf};
 
 use cadmiumdove::captures::{captures, reach, tokens, TokenKind};
-use cadmiumdove::explain::explain;
 use cadmiumdove::ignore::IgnoreList;
 use cadmiumdove::set::braces::expand;
 use cadmiumdove::walk::is_plain;
 use cadmiumdove::{MatchOptions, Pattern};
 
-/// The folder of the tables, if there is one.
-fn folder() -> Option<PathBuf> {
-    let here = Path::new(env!("CARGO_MANIFEST_DIR")).join("../crates/glob_vectors/data");
-    std::env::var_os("CADMIUMDOVE_ROWS").map(PathBuf::from).or_else(|| here.exists().then_some(here))
+/// A table or a folder of tables.
+fn tables(path: &str) -> PathBuf {
+    Path::new(env!("CARGO_MANIFEST_DIR")).join("tests/tables").join(path)
 }
 
 /// The letters of options after a dash.
@@ -99,85 +96,17 @@ fn check_words(path: &Path) -> usize {
 
 #[test]
 fn rows() {
-    let Some(folder) = folder() else { return };
-    let files: Vec<PathBuf> = fs::read_dir(folder).unwrap().map(|entry| entry.unwrap().path()).collect();
+    let files: Vec<PathBuf> = fs::read_dir(tables("vectors")).unwrap().map(|entry| entry.unwrap().path()).collect();
     let tables = files.iter().filter(|path| path.extension().is_some_and(|end| end == "tsv"));
     let words = files.iter().filter(|path| path.ends_with("matches.txt"));
     let count: usize = tables.map(|path| check_table(path)).chain(words.map(|path| check_words(path))).sum();
     assert!(count >= 18_000, "{count} rows");
 }
 
-/// A field of a table in which `\n`, `\t`, `\r`, `\\`, `\x7f` and `\174` are characters.
-fn decoded(field: &str) -> String {
-    let mut parts = field.split('\\');
-    let mut text = parts.next().unwrap().to_owned();
-    while let Some(part) = parts.next() {
-        let number = |from: usize, to: usize, radix| u8::from_str_radix(&part[from..to], radix).unwrap() as char;
-        let (c, after) = match part.as_bytes().first() {
-            None => ('\\', 0),
-            Some(b'n') => ('\n', 1),
-            Some(b't') => ('\t', 1),
-            Some(b'r') => ('\r', 1),
-            Some(b'x') => (number(1, 3, 16), 3),
-            _ => (number(0, 3, 8), 3),
-        };
-        text.push(c);
-        text += if part.is_empty() { parts.next().unwrap() } else { &part[after..] };
-    }
-    text
-}
-
-fn explained(pattern: &str, text: &str, options: MatchOptions) -> (bool, String) {
-    let explanation = explain(&Pattern::new(pattern).unwrap(), text, options).unwrap();
-    (explanation.is_match, explanation.lines)
-}
-
-/// Rows `explain OPTIONS PATTERN TEXT||STATUS|LINES|` of what the program `globs` writes, whose options have letters
-/// and whose sets are of other names. Those of status 2 are no patterns.
-#[test]
-fn explanations() {
-    let Some(folder) = folder() else { return };
-    let names = [
-        (" -i", " case_sensitive: false"),
-        (" -s", " require_literal_separator"),
-        (" -d", " require_literal_leading_dot"),
-        ("find and match expand", "PatternSet::from_braces expands"),
-        ("find and match take", "A PatternSet takes"),
-        (": match has -v, find -x", ""),
-    ];
-    let table = fs::read_to_string(folder.join("../../../tests/rows/explain.txt")).unwrap();
-    let mut count = 0;
-    for row in table.lines().filter(|line| line.contains("||0|") || line.contains("||1|")) {
-        let fields: Vec<&str> = row.split('|').collect();
-        let (settings, words): (Vec<&str>, Vec<&str>) =
-            fields[0].split(' ').skip(1).partition(|word| ["-i", "-s", "-d", "--"].contains(word));
-        let options = options(&format!("-{}", settings.concat().replace('-', "")));
-        let lines = names.iter().fold(decoded(fields[3]), |lines, (old, new)| lines.replace(old, new));
-        let explanation = explained(&decoded(words[0]), &decoded(words[1]), options);
-        assert_eq!(explanation, (fields[2] == "0", lines), "{row}");
-        count += 1;
-    }
-    assert!(count > 50, "{count} rows");
-}
-
-/// Rows `PATTERN|LINE`: the last line for a text that does not match. Without a line it is none of what to write.
-#[test]
-fn advice() {
-    let Some(folder) = folder() else { return };
-    let table = fs::read_to_string(folder.join("../../../tests/rows/advice.txt")).unwrap();
-    for row in table.lines().filter(|line| !line.is_empty() && !line.starts_with('#')) {
-        let (pattern, line) = row.split_once('|').map_or((row, None), |(pattern, line)| (pattern, Some(line)));
-        let (_, lines) = explained(&decoded(pattern), "\u{1}\u{1}/\u{1}", MatchOptions::new());
-        let last = lines.lines().last().unwrap();
-        assert!(line.map_or(!last.starts_with("write"), |line| last == decoded(line)), "{row}: {lines}");
-    }
-}
-
 /// Rows `FIELD|OPTIONS|PATTERN|TEXT|WANTED`, as the table says.
 #[test]
 fn pieces() {
-    let Some(folder) = folder() else { return };
-    let table = fs::read_to_string(folder.join("../../../tests/rows/captures.txt")).unwrap();
+    let table = fs::read_to_string(tables("rows/captures.txt")).unwrap();
     for row in table.lines().filter(|line| !line.starts_with('#')) {
         let [field, letters, pattern, text, wanted] = row.split('|').collect::<Vec<_>>()[..] else { panic!("{row}") };
         let text = text.replace("LONGEST", &"\u{10fffe}".repeat(4_194_304));
@@ -213,9 +142,8 @@ fn kind(kind: TokenKind) -> &'static str {
 /// An answer is the line that decides, or 0, and of a list that is refused `R` and why.
 #[test]
 fn ignore_lists() {
-    let Some(folder) = folder() else { return };
-    let questions = fs::read_to_string(folder.join("../../../tests/rows/git.questions")).unwrap();
-    let answers = fs::read_to_string(folder.join("../../../tests/rows/git.answers")).unwrap();
+    let questions = fs::read_to_string(tables("rows/git.questions")).unwrap();
+    let answers = fs::read_to_string(tables("rows/git.answers")).unwrap();
     let (mut list, mut found) = (IgnoreList::new(""), Vec::new());
     for question in questions.split_terminator('\0') {
         match (question.split_at(1), &list) {

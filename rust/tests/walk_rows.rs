@@ -1,5 +1,4 @@
-//! Walks from outside, as the repository has them in `walks.txt`, over trees in memory: `CADMIUMDOVE_ROWS` is the
-//! folder, and by default that of the repository that this crate is in. Outside of it there are none.
+//! Walks from outside, as the table `tests/tables/vectors/walks.txt` has them, over trees in memory.
 
 use std::collections::BTreeMap;
 use std::fs;
@@ -173,11 +172,8 @@ fn options(setting: &str) -> MatchOptions {
 
 #[test]
 fn walk_rows() {
-    let here = Path::new(env!("CARGO_MANIFEST_DIR")).join("../crates/glob_vectors/data");
-    // A packed crate is without them.
-    let rows = std::env::var_os("CADMIUMDOVE_ROWS").map(PathBuf::from).or_else(|| here.exists().then_some(here));
-    let Some(folder) = rows else { return };
-    let text = fs::read_to_string(folder.join("walks.txt")).unwrap();
+    let table = Path::new(env!("CARGO_MANIFEST_DIR")).join("tests/tables/vectors/walks.txt");
+    let text = fs::read_to_string(table).unwrap();
     let (mut state, mut count) = (State::default(), 0);
     for line in text.replace("\n ", " ").lines().filter(|line| !line.starts_with(['#', '='])) {
         if let Some((patterns, items)) = line.split_once(" =>") {

@@ -1,12 +1,10 @@
 //! Made by `bin/rust_crate` from the proved sources in `crates/`: do not edit.
-// Some items are for contracts alone, or for callers in Rattle.
-#![allow(dead_code, unused_imports, unused_variables)]
-// What clippy would have otherwise is written so for the proofs.
+// Style of the sources, where a proof wants it.
 #![allow(clippy::byte_char_slices, clippy::let_and_return, clippy::manual_find, clippy::manual_ignore_case_cmp)]
 #![allow(clippy::manual_map, clippy::needless_range_loop, clippy::nonminimal_bool, clippy::ptr_arg)]
 #![allow(clippy::question_mark, clippy::should_implement_trait, clippy::too_many_arguments, clippy::manual_contains)]
 #![allow(clippy::single_match, clippy::vec_init_then_push, clippy::redundant_pattern_matching)]
-#![allow(clippy::slow_vector_initialization)]
+#![allow(clippy::slow_vector_initialization, clippy::redundant_static_lifetimes)]
 
 pub mod glob_captures;
 pub mod glob_pattern;
@@ -21,16 +19,4 @@ pub mod glob_prune {
 }
 pub mod glob {
     pub mod paths;
-}
-pub mod globs {
-    pub mod explain {
-        pub mod explanation;
-        pub mod foreign;
-        pub mod hints;
-        pub mod instead;
-        pub mod notes;
-        pub mod rows;
-        pub mod stop;
-    }
-    pub mod visible;
 }

@@ -1,5 +1,4 @@
-//! Made by `bin/rust_crate` from `crates/glob/src/paths.rt`.
-//! Contracts are there, and their proofs in `crates/glob/proofs`; it is changed there alone.
+//! Made by `bin/rust_crate` from `crates/glob/src/paths.rt`, where its contracts are: sha256 c9066ac1e6748767.
 //!
 //! A walk over a tree, item by item.
 
@@ -32,18 +31,31 @@ impl<T: Tree> Paths<T> {
     }
 
     /// How many units of work were charged: never more than the limit. It is 0 before the first call of `next`.
+    ///
+    /// <details><summary>Contract</summary>
+    ///
+    /// ```text
+    /// ensures spent { result ≡ self.now.spent }
+    /// ensures within { result ≤ self.now.limit }
+    /// ```
+    ///
+    /// </details>
     pub fn spent(&self) -> u64 {
         self.machine.spent()
     }
 
     /// How many items `next` gave, a refusal too: at most one more than `spent`. After two paths it is 2.
+    ///
+    /// <details><summary>Contract</summary>
+    ///
+    /// ```text
+    /// ensures given { result ≡ self.now.given }
+    /// ensures few { result ≤ self.now.spent + 1 }
+    /// ```
+    ///
+    /// </details>
     pub fn given(&self) -> u128 {
         self.machine.given()
-    }
-
-    /// The tree, as the walk leaves it.
-    pub(crate) fn into_tree(self) -> T {
-        self.tree
     }
 }
 
@@ -54,7 +66,7 @@ impl<T: Tree> Iterator for Paths<T> {
     /// `None`.
     ///
     /// An error's cause is `Read` where a directory could not be listed, and the walk goes on; `Limit` where the next
-    /// unit of work does not fit the limit. After that only `None` follows.
+    /// unit of work does not fit the limit. After the last two only `None` follows.
     fn next(&mut self) -> Option<GlobResult> {
         loop {
             match self.machine.advance(&mut self.tree) {
@@ -75,6 +87,20 @@ impl<T: Tree> Iterator for Paths<T> {
 /// A pattern with a fault is refused: the fault of the whole text, or else that of the first component that has one, as
 /// where a bracket holds `/`. Its place counts characters, from the start of the text or of that component: for
 /// `x/a[/]b` it is 1. The tree is then dropped.
+///
+/// <details><summary>Contract</summary>
+///
+/// ```text
+/// ensures accepted { IfOk result (λ _. walk_fault pattern.now ≡ None) }
+/// ensures refused { IfErr result (RefusesWith (walk_fault pattern.now)) }
+/// ensures fresh { IfOk result (IsFresh tree limit) }
+/// ensures aim { IfOk result
+///     (λ p. (c : Content) → listing_of c p.aim ≡ listing c options pattern.now) }
+/// ensures listing { (c : Content) → IsTold (T.tells tree) c
+///     → IfOk result (λ p. p.left ≡ Some (listing c options pattern.now)) }
+/// ```
+///
+/// </details>
 pub fn glob_in<T: Tree>(tree: T, pattern: &str, options: MatchOptions, limit: u64) -> Result<Paths<T>, PatternError> {
     let machine = WalkMachine::new(pattern, options, limit)?;
     Ok(Paths::new(tree, machine))

@@ -1,5 +1,4 @@
-//! Made by `bin/rust_crate` from `crates/glob_captures/src/capturing.rt`.
-//! Contracts are there, and their proofs in `crates/glob_captures/proofs`; it is changed there alone.
+//! Made by `bin/rust_crate` from `crates/glob_captures/src/capturing.rt`, where its contracts are: sha256 a9ab2b4069e0b3ff.
 //!
 //! The piece of a text that each token of a pattern takes.
 
@@ -7,7 +6,7 @@ use crate::proved::glob_captures::error::CapturesError;
 use crate::proved::glob_captures::piece::Piece;
 use crate::proved::glob_captures::rests::{rests_of, Rests};
 use crate::proved::glob_captures::span::{span_of, Span};
-use crate::proved::glob_captures::steps::{bytes_of, form_of, is_too_large, MOST_STEPS};
+use crate::proved::glob_captures::steps::{bytes_of, form_of, is_too_large};
 use crate::proved::glob_pattern::{characters_of, opens, tokens_len, MatchOptions, Pattern};
 
 /// The piece of the text that each token of the pattern takes, as places in bytes, one after another; `None` exactly if
@@ -21,6 +20,19 @@ use crate::proved::glob_pattern::{characters_of, opens, tokens_len, MatchOptions
 ///
 /// - [`CapturesError::TooLarge`]: the tokens times the bytes are more than
 ///   [`MOST_STEPS`](crate::proved::glob_captures::MOST_STEPS). Nothing was done.
+///
+/// <details><summary>Contract</summary>
+///
+/// ```text
+/// ensures answer { IfOk result
+///     (λ found. IsSome found ↔ Matches options (chars pattern.now) (chars text.now)) }
+/// ensures pieces { IfOk result (λ found. IfSome found (λ pieces.
+///     AreCaptures options (tokens_of (chars pattern.now)) (chars text.now) pieces.items)) }
+/// ensures large { (result ≡ Err CapturesError.TooLarge)
+///     ↔ (MOST_STEPS < length (tokens_of (chars pattern.now)) * length text.now) }
+/// ```
+///
+/// </details>
 pub fn captures(pattern: &Pattern, text: &str, options: MatchOptions) -> Result<Option<Vec<Piece>>, CapturesError> {
     if is_too_large(pattern, text) {
         return Err(CapturesError::TooLarge);
@@ -31,18 +43,18 @@ pub fn captures(pattern: &Pattern, text: &str, options: MatchOptions) -> Result<
     let characters = characters_of(text);
     let span = span_of(pattern);
     let rests = rests_of(pattern, options, characters.as_slice(), span);
-    let pieces = shortest_pieces(pattern, options, characters.as_slice(), span, rests.as_slice());
+    let pieces = shortest_pieces(pattern, characters.as_slice(), span, rests.as_slice());
     Ok(Some(pieces))
 }
 
 /// The places of the pieces, each as short as those after it allow.
-fn shortest_pieces(pattern: &Pattern, options: MatchOptions, text: &[char], span: Span, rests: &[Rests]) -> Vec<Piece> {
+fn shortest_pieces(pattern: &Pattern, text: &[char], span: Span, rests: &[Rests]) -> Vec<Piece> {
     let tokens = tokens_len(pattern);
     let mut pieces = Vec::with_capacity(tokens);
     let mut place = 0;
     let mut start = 0;
     for token in 0..tokens {
-        let after = shortest_end(pattern, token, options, text, place, span, rests);
+        let after = shortest_end(pattern, token, text, place, span, rests);
         let end = start + bytes_of(&text[place..after]);
         pieces.push(Piece { start, end });
         place = after;
@@ -52,16 +64,7 @@ fn shortest_pieces(pattern: &Pattern, options: MatchOptions, text: &[char], span
 }
 
 /// Where the shortest piece of a token from a place on ends. The options are those that `rests` was made with.
-fn shortest_end(
-    pattern: &Pattern,
-    token: usize,
-    options: MatchOptions,
-    text: &[char],
-    place: usize,
-    span: Span,
-    rests: &[Rests],
-) -> usize {
-    let _options = options;
+fn shortest_end(pattern: &Pattern, token: usize, text: &[char], place: usize, span: Span, rests: &[Rests]) -> usize {
     let form = form_of(pattern, token);
     if !form.grows {
         place + 1

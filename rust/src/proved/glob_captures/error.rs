@@ -1,5 +1,4 @@
-//! Made by `bin/rust_crate` from `crates/glob_captures/src/error.rt`.
-//! Contracts are there, and their proofs in `crates/glob_captures/proofs`; it is changed there alone.
+//! Made by `bin/rust_crate` from `crates/glob_captures/src/error.rt`, where its contracts are: sha256 0487a7622f36292e.
 //!
 //! Why pieces are not computed.
 

@@ -1,5 +1,4 @@
-//! Made by `bin/rust_crate` from `crates/glob_captures/src/lib.rt`.
-//! Contracts are there, and their proofs in `crates/glob_captures/proofs`; it is changed there alone.
+//! Made by `bin/rust_crate` from `crates/glob_captures/src/lib.rt`, where its contracts are: sha256 edfd3045eb7186e1.
 //!
 //! Which piece of a text each token of a pattern takes, and how far a text that does not match could be taken.
 

@@ -1,5 +1,4 @@
-//! Made by `bin/rust_crate` from `crates/glob_captures/src/piece.rt`.
-//! Contracts are there, and their proofs in `crates/glob_captures/proofs`; it is changed there alone.
+//! Made by `bin/rust_crate` from `crates/glob_captures/src/piece.rt`, where its contracts are: sha256 3c5f63d7ee126a21.
 //!
 //! Pieces of a text.
 

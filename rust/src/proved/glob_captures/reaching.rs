@@ -1,10 +1,11 @@
-//! Made by `bin/rust_crate` from `crates/glob_captures/src/reaching.rt`.
-//! Contracts are there, and their proofs in `crates/glob_captures/proofs`; it is changed there alone.
+//! Made by `bin/rust_crate` from `crates/glob_captures/src/reaching.rt`, where its contracts are: sha256 d6b8456d0b7906a4.
+//! `Vec::with_capacity` and `resize` are there `vec![x; n]`: memory that is asked for as zeros is never what was freed
+//! last, and costs more.
 //!
 //! How far a text can be taken, and what waits there.
 
 use crate::proved::glob_captures::error::CapturesError;
-use crate::proved::glob_captures::steps::{bytes_of, form_of, is_too_large, takes_at, Form, MOST_STEPS};
+use crate::proved::glob_captures::steps::{bytes_of, form_of, is_too_large, takes_at, Form};
 use crate::proved::glob_pattern::{characters_of, opens, tokens_len, MatchOptions, Pattern};
 
 /// How far a text could be taken.
@@ -28,6 +29,19 @@ pub struct Reached {
 ///
 /// - [`CapturesError::TooLarge`]: the tokens times the bytes are more than
 ///   [`MOST_STEPS`](crate::proved::glob_captures::MOST_STEPS). Nothing was done.
+///
+/// <details><summary>Contract</summary>
+///
+/// ```text
+/// ensures reached { IfOk result (λ reached. IsReached options (tokens_of (chars pattern.now))
+///     (chars text.now) reached.place reached.waiting.items) }
+/// ensures ascending { IfOk result
+///     (λ reached. AllPairs (λ number later. number < later) reached.waiting.items) }
+/// ensures large { (result ≡ Err CapturesError.TooLarge)
+///     ↔ (MOST_STEPS < length (tokens_of (chars pattern.now)) * length text.now) }
+/// ```
+///
+/// </details>
 pub fn reach(pattern: &Pattern, text: &str, options: MatchOptions) -> Result<Reached, CapturesError> {
     if is_too_large(pattern, text) {
         return Err(CapturesError::TooLarge);

@@ -1,5 +1,6 @@
-//! Made by `bin/rust_crate` from `crates/glob_captures/src/rests.rt`.
-//! Contracts are there, and their proofs in `crates/glob_captures/proofs`; it is changed there alone.
+//! Made by `bin/rust_crate` from `crates/glob_captures/src/rests.rt`, where its contracts are: sha256 84d04e7b7d1c450b.
+//! `Vec::with_capacity` and `resize` are there `vec![x; n]`: memory that is asked for as zeros is never what was freed
+//! last, and costs more.
 //!
 //! From where on the last tokens take the rest of a text.
 
@@ -27,7 +28,7 @@ pub fn rests_of(pattern: &Pattern, options: MatchOptions, text: &[char], span: S
     if span.first == span.last {
         return rows;
     }
-    let mut row = rests_after_span(pattern, options, text, span);
+    let mut row = rests_after_span(pattern, text, span);
     for done in 0..span.last - span.first {
         let token = span.last - done;
         add_token(pattern, token, options, text, row.as_mut_slice());
@@ -44,8 +45,7 @@ fn row_after(pattern: &Pattern, token: usize, row: &[bool]) -> Rests {
 }
 
 /// For the tokens after the last wildcard, each of which takes one character: at one place alone.
-fn rests_after_span(pattern: &Pattern, options: MatchOptions, text: &[char], span: Span) -> Vec<bool> {
-    let _options = options;
+fn rests_after_span(pattern: &Pattern, text: &[char], span: Span) -> Vec<bool> {
     let mut row = Vec::with_capacity(text.len() + 1);
     row.resize(text.len() + 1, false);
     row[text.len() - (tokens_len(pattern) - 1 - span.last)] = true;

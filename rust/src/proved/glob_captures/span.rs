@@ -1,5 +1,4 @@
-//! Made by `bin/rust_crate` from `crates/glob_captures/src/span.rt`.
-//! Contracts are there, and their proofs in `crates/glob_captures/proofs`; it is changed there alone.
+//! Made by `bin/rust_crate` from `crates/glob_captures/src/span.rt`, where its contracts are: sha256 aecae3c3dafafb87.
 //!
 //! The wildcards `*` and `**` of a pattern: between them pieces have to be searched.
 

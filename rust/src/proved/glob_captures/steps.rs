@@ -1,5 +1,4 @@
-//! Made by `bin/rust_crate` from `crates/glob_captures/src/steps.rt`.
-//! Contracts are there, and their proofs in `crates/glob_captures/proofs`; it is changed there alone.
+//! Made by `bin/rust_crate` from `crates/glob_captures/src/steps.rt`, where its contracts are: sha256 26c50d5e80a3ec29.
 //!
 //! What both directions share: the bound on the work, what a token's piece may be, and places in bytes.
 

@@ -1,5 +1,4 @@
-//! Made by `bin/rust_crate` from `crates/glob_captures/src/written.rt`.
-//! Contracts are there, and their proofs in `crates/glob_captures/proofs`; it is changed there alone.
+//! Made by `bin/rust_crate` from `crates/glob_captures/src/written.rt`, where its contracts are: sha256 26beee050e8f5e65.
 //!
 //! How the tokens of a pattern are written.
 
@@ -19,6 +18,20 @@ pub struct Written {
 /// The tokens of a pattern, in order. Those of `a[bc]*` are a `Literal` from 0 up to 1, a `OneOf` up to 5, and an
 /// `AnySequence` up to 6: each is written from where the one before it ends. Neighbouring `**/` are one token, and are
 /// written as one.
+///
+/// <details><summary>Contract</summary>
+///
+/// ```text
+/// ensures many { IfOk result
+///     (λ list. length list.items ≡ length (tokens_of (chars pattern.now))) }
+/// ensures kinds { IfOk result (λ list.
+///     map (λ token. token.kind) list.items ≡ map kind_of (tokens_of (chars pattern.now))) }
+/// ensures adjacent { IfOk result (λ list. (end : ℕ) × AreAdjacent 0 list.items end) }
+/// ensures written { IfOk result (λ list. AreWritten (chars pattern.now)
+///     0 (tokens_of (chars pattern.now)) list.items (length (chars pattern.now))) }
+/// ```
+///
+/// </details>
 pub fn tokens(pattern: &Pattern) -> Vec<Written> {
     let characters = characters_of(pattern.as_str());
     let text = characters.as_slice();

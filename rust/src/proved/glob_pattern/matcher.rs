@@ -1,5 +1,4 @@
-//! Made by `bin/rust_crate` from `crates/glob_pattern/src/matcher.rt`.
-//! Contracts are there, and their proofs in `crates/glob_pattern/proofs`; it is changed there alone.
+//! Made by `bin/rust_crate` from `crates/glob_pattern/src/matcher.rt`, where its contracts are: sha256 7f02e9dc47ac0cc1.
 //!
 //! Judges, and whether by their answers characters split into pieces.
 
@@ -7,7 +6,7 @@ mod positions;
 mod shape_word;
 
 pub use positions::{decide, Span};
-pub use shape_word::{shape_words, with_bit, ShapeWord};
+pub use shape_word::{shape_words, ShapeWord};
 
 /// How many tokens a word of 64 bits has. Its last bit is the position after them, as the first bit of the next word
 /// is.
@@ -76,25 +75,4 @@ pub trait Judge {
 
     /// The count: how many questions were asked.
     fn asked(&self) -> u128;
-}
-
-/// Whether all characters of a judge split into pieces, one for each shape, where the token of the shape's number takes
-/// each character of its piece. So the shapes of `*a` split `bca` into `bc` and `a`. The questions are at most shapes
-/// times characters. The judge must not have stepped; it needs a token for each shape, and room in its count for as
-/// many questions.
-#[inline(always)]
-pub fn run_positions<J: Judge>(shapes: &[Shape], judge: &mut J) -> bool {
-    decide_all(shapes, judge)
-}
-
-/// [`run_positions`] over the shapes of tokens.
-#[inline(always)]
-pub fn decide_all<T: Shaped, J: Judge>(tokens: &[T], judge: &mut J) -> bool {
-    let span = Span::all(tokens.len());
-    if tokens.len() <= WORD {
-        decide(tokens, &[ShapeWord::new(tokens, span.end, 0)], span, judge)
-    } else {
-        let words = shape_words(tokens, span.end);
-        decide(tokens, words.as_slice(), span, judge)
-    }
 }

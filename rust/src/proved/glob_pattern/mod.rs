@@ -1,5 +1,4 @@
-//! Made by `bin/rust_crate` from `crates/glob_pattern/src/lib.rt`.
-//! Contracts are there, and their proofs in `crates/glob_pattern/proofs`; it is changed there alone.
+//! Made by `bin/rust_crate` from `crates/glob_pattern/src/lib.rt`, where its contracts are: sha256 9e865e34a3826856.
 //!
 //! Patterns in the syntax of Unix shells: parsing them, and matching texts and paths with them. `src/**/[!t]*.rs`
 //! matches each source below `src` whose name does not begin with `t`.
@@ -13,7 +12,6 @@ mod token;
 
 pub use error::{PatternError, PatternErrorKind};
 pub use grammar::{characters_of, close_from, opens};
-pub use matcher::{run_positions, Judge, Shape};
 pub use options::MatchOptions;
-pub use pattern::{literal_at, may_match, token_kind, token_takes, tokens_len, Pattern, TokenKind};
+pub use pattern::{literal_at, token_kind, token_takes, tokens_len, Pattern, TokenKind};
 pub use token::taking::is_open;

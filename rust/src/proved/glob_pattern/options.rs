@@ -1,5 +1,4 @@
-//! Made by `bin/rust_crate` from `crates/glob_pattern/src/options.rt`.
-//! Contracts are there, and their proofs in `crates/glob_pattern/proofs`; it is changed there alone.
+//! Made by `bin/rust_crate` from `crates/glob_pattern/src/options.rt`, where its contracts are: sha256 7db9960d18273b7e.
 //!
 //! The options of a match, and their letters and bits.
 
@@ -19,12 +18,28 @@ pub struct MatchOptions {
 
 impl MatchOptions {
     /// Case-sensitive, and without the separator rule and the dot rule: so `A*` does not match `a/b`, and `*` does.
+    ///
+    /// <details><summary>Contract</summary>
+    ///
+    /// ```text
+    /// ensures { result ≡ new_options }
+    /// ```
+    ///
+    /// </details>
     pub const fn new() -> Self {
         MatchOptions { case_sensitive: true, require_literal_separator: false, require_literal_leading_dot: false }
     }
 
     /// These options with the one that a letter sets, as on a command line: `i` case-insensitive, `s` the separator
     /// rule, `d` the dot rule. `None` for another letter.
+    ///
+    /// <details><summary>Contract</summary>
+    ///
+    /// ```text
+    /// ensures { result ≡ with_letter letter self }
+    /// ```
+    ///
+    /// </details>
     pub fn with_letter(self, letter: char) -> Option<Self> {
         let mut options = self;
         match letter {
@@ -38,6 +53,14 @@ impl MatchOptions {
 
     /// The options of `new()` with those that the letters set, in any order: `is` is case-insensitive, with the
     /// separator rule. `None` if one is no letter of an option.
+    ///
+    /// <details><summary>Contract</summary>
+    ///
+    /// ```text
+    /// ensures { result ≡ with_letters letters.now new_options }
+    /// ```
+    ///
+    /// </details>
     pub fn from_letters(letters: &str) -> Option<Self> {
         let mut options = MatchOptions::new();
         for letter in letters.as_bytes() {
@@ -47,6 +70,14 @@ impl MatchOptions {
     }
 
     /// The options of three bits: 1 case-insensitive, 2 the separator rule, 4 the dot rule. Other bits are ignored.
+    ///
+    /// <details><summary>Contract</summary>
+    ///
+    /// ```text
+    /// ensures { result ≡ options_of_bits bits }
+    /// ```
+    ///
+    /// </details>
     pub const fn from_bits(bits: u32) -> Self {
         MatchOptions {
             case_sensitive: bits & 1 == 0,

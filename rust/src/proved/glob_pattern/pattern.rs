@@ -1,5 +1,4 @@
-//! Made by `bin/rust_crate` from `crates/glob_pattern/src/pattern.rt`.
-//! Contracts are there, and their proofs in `crates/glob_pattern/proofs`; it is changed there alone.
+//! Made by `bin/rust_crate` from `crates/glob_pattern/src/pattern.rt`, where its contracts are: sha256 487342e1bf12436a.
 //!
 //! Patterns: parsing, and matching texts.
 
@@ -37,6 +36,15 @@ pub struct Pattern {
 
 impl Pattern {
     /// The text that the pattern was parsed from, as `a/*.rs`. It is accepted: parsed again it gives an equal pattern.
+    ///
+    /// <details><summary>Contract</summary>
+    ///
+    /// ```text
+    /// ensures text { result.now ≡ self.now }
+    /// ensures accepted { IsAccepted (chars self.now) }
+    /// ```
+    ///
+    /// </details>
     pub fn as_str(&self) -> &str {
         self.text.as_str()
     }
@@ -47,40 +55,35 @@ impl Pattern {
     ///
     /// The error is [`PatternError`] if the text is not accepted, with its first fault from the left, whose place
     /// counts characters.
+    ///
+    /// <details><summary>Contract</summary>
+    ///
+    /// ```text
+    /// ensures accepted { IfOk result (λ _. IsAccepted (chars pattern.now)) }
+    /// ensures text { IfOk result (λ p. p ≡ pattern.now) }
+    /// ensures refused { IfErr result (Refuses (chars pattern.now)) }
+    /// ```
+    ///
+    /// </details>
     pub fn new(pattern: &str) -> Result<Self, PatternError> {
         let tokens = grammar::read_tokens(pattern)?;
         let compiled = Compiled::new(tokens);
         let text = String::from(pattern);
         Ok(Pattern { text, compiled })
     }
-}
 
-impl std::str::FromStr for Pattern {
-    type Err = PatternError;
-
-    /// [`new`](Self::new), under the name of the trait `FromStr`, with its errors. So `from_str("*.rs")` is the
-    /// pattern of `new("*.rs")`.
-    fn from_str(s: &str) -> Result<Self, PatternError> {
-        Self::new(s)
-    }
-}
-
-impl Default for Pattern {
-    /// The empty pattern, which matches the empty text alone: `""` and not `"a"`.
-    fn default() -> Self {
-        Pattern { text: String::new(), compiled: Compiled::empty() }
-    }
-}
-
-impl Clone for Pattern {
-    fn clone(&self) -> Self {
-        Pattern { text: self.text.clone(), compiled: self.compiled.clone() }
-    }
-}
-
-impl Pattern {
     /// Whether the pattern matches the whole text, case-sensitive, without the separator rule and the dot rule:
     /// [`matches_with`](Self::matches_with) under `MatchOptions::new()`. So `*.rs` matches `main.rs` and `src/main.rs`.
+    ///
+    /// <details><summary>Contract</summary>
+    ///
+    /// ```text
+    /// ensures answer { IfOk result
+    ///     (λ yes. IsTrue yes ↔ Matches new_options (chars self.now) (chars str.now)) }
+    /// ensures short { IsShort (chars self.now) → IsOk result }
+    /// ```
+    ///
+    /// </details>
     #[inline(always)]
     pub fn matches(&self, str: &str) -> bool {
         self.matches_with(str, MatchOptions::new())
@@ -88,6 +91,16 @@ impl Pattern {
 
     /// Whether the pattern matches the whole text: whether the text splits into one allowed piece for each token. So
     /// `*.rs` matches `src/main.rs`, and with the separator rule it does not.
+    ///
+    /// <details><summary>Contract</summary>
+    ///
+    /// ```text
+    /// ensures answer { IfOk result
+    ///     (λ yes. IsTrue yes ↔ Matches options (chars self.now) (chars str.now)) }
+    /// ensures short { IsShort (chars self.now) → IsOk result }
+    /// ```
+    ///
+    /// </details>
     #[inline(always)]
     pub fn matches_with(&self, str: &str, options: MatchOptions) -> bool {
         self.compiled.matches(self.text.as_str(), str, options)
@@ -97,17 +110,72 @@ impl Pattern {
     /// beforehand: how often it is asked whether a token takes a character. Their number is at most the pattern's
     /// characters times the text's, and for a match at least the text's characters. So `a` and the text `a` take one
     /// question, and the answer is `(true, 1)`.
+    ///
+    /// <details><summary>Contract</summary>
+    ///
+    /// ```text
+    /// ensures answer { IfOk result
+    ///     (λ counted. IsTrue counted.0 ↔ Matches options (chars self.now) (chars str.now)) }
+    /// ensures most { IfOk result
+    ///     (λ counted. counted.1 ≤ length (chars self.now) * length (chars str.now)) }
+    /// ensures least { IfOk result
+    ///     (λ counted. IsTrue counted.0 → length (chars str.now) ≤ counted.1) }
+    /// ensures short { IsShort (chars self.now) → IsOk result }
+    /// ```
+    ///
+    /// </details>
     #[inline(always)]
     pub fn matches_counted(&self, str: &str, options: MatchOptions) -> (bool, u128) {
         self.compiled.matches_counted(str, options)
     }
 }
 
-/// Whether a text of these bytes may be one that the pattern matches, by its ends and a search for a needle: so for
-/// `*.rs` it may be `main.rs`, and not `main.c`. The bytes need not be UTF-8.
-#[inline(always)]
-pub fn may_match(pattern: &Pattern, bytes: &[u8], options: MatchOptions) -> bool {
-    pattern.compiled.may_match(pattern.text.as_str(), bytes, options)
+impl std::str::FromStr for Pattern {
+    type Err = PatternError;
+
+    /// [`new`](Self::new), under the name of the trait `FromStr`, with its errors. So `from_str("*.rs")` is the pattern of
+    /// `new("*.rs")`.
+    ///
+    /// <details><summary>Contract</summary>
+    ///
+    /// ```text
+    /// ensures accepted { IfOk result (λ _. IsAccepted (chars s.now)) }
+    /// ensures text { IfOk result (λ p. p ≡ s.now) }
+    /// ensures refused { IfErr result (Refuses (chars s.now)) }
+    /// ```
+    ///
+    /// </details>
+    fn from_str(s: &str) -> Result<Self, PatternError> {
+        Self::new(s)
+    }
+}
+
+impl Default for Pattern {
+    /// The empty pattern, which matches the empty text alone: `""` and not `"a"`.
+    ///
+    /// <details><summary>Contract</summary>
+    ///
+    /// ```text
+    /// ensures { result ≡ [] }
+    /// ```
+    ///
+    /// </details>
+    fn default() -> Self {
+        Pattern { text: String::new(), compiled: Compiled::empty() }
+    }
+}
+
+impl Clone for Pattern {
+    /// <details><summary>Contract</summary>
+    ///
+    /// ```text
+    /// ensures { IfOk result (λ p. p ≡ self.now) }
+    /// ```
+    ///
+    /// </details>
+    fn clone(&self) -> Self {
+        Pattern { text: self.text.clone(), compiled: self.compiled.clone() }
+    }
 }
 
 /// The character that the token of this number is, counted from 0, or `None` if it is a wildcard or a bracket, or there

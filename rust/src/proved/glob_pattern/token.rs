@@ -1,5 +1,4 @@
-//! Made by `bin/rust_crate` from `crates/glob_pattern/src/token.rt`.
-//! Contracts are there, and their proofs in `crates/glob_pattern/proofs`; it is changed there alone.
+//! Made by `bin/rust_crate` from `crates/glob_pattern/src/token.rt`, where its contracts are: sha256 b87eb54d54382a13.
 //!
 //! The tokens of a pattern.
 
@@ -9,8 +8,8 @@ pub mod taking;
 use crate::proved::glob_pattern::matcher::{Shape, Shaped};
 use bracket::Bracket;
 
-/// A token: what a unit of a pattern means. `C` is the content of a bracket. The shape of `AnySequence` is `Run`, that
-/// of `Recursive` is `Deep`, and that of each other token is `One`.
+/// A token: what a unit of a pattern means. `C` is the content of a bracket. The shape of `AnySequence` is `Run`, that of
+/// `Recursive` is `Deep`, and that of each other token is `One`.
 #[derive(Clone)]
 pub enum Token<C> {
     /// A character.

@@ -1,5 +1,4 @@
-//! Made by `bin/rust_crate` from `crates/glob_prune/src/ignoring.rt`.
-//! Contracts are there, and their proofs in `crates/glob_prune/proofs`; it is changed there alone.
+//! Made by `bin/rust_crate` from `crates/glob_prune/src/ignoring.rt`, where its contracts are: sha256 8605d2d23d7dc918.
 //!
 //! An ignore list excludes what its rules ignore.
 

@@ -1,5 +1,4 @@
-//! Made by `bin/rust_crate` from `crates/glob_prune/src/matching.rt`.
-//! Contracts are there, and their proofs in `crates/glob_prune/proofs`; it is changed there alone.
+//! Made by `bin/rust_crate` from `crates/glob_prune/src/matching.rt`, where its contracts are: sha256 dccc18cb639aa94d.
 //!
 //! A set of patterns excludes what one of them matches.
 

@@ -1,5 +1,4 @@
-//! Made by `bin/rust_crate` from `crates/glob_rules/src/error.rt`.
-//! Contracts are there, and their proofs in `crates/glob_rules/proofs`; it is changed there alone.
+//! Made by `bin/rust_crate` from `crates/glob_rules/src/error.rt`, where its contracts are: sha256 62b0791887feaa67.
 //!
 //! Why a text is no ignore list.
 

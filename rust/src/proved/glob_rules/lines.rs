@@ -1,5 +1,4 @@
-//! Made by `bin/rust_crate` from `crates/glob_rules/src/lines.rt`.
-//! Contracts are there, and their proofs in `crates/glob_rules/proofs`; it is changed there alone.
+//! Made by `bin/rust_crate` from `crates/glob_rules/src/lines.rt`, where its contracts are: sha256 14338078d60f53b0.
 //!
 //! The lines of an ignore list.
 
@@ -15,21 +14,53 @@ pub struct Line {
 
 impl Line {
     /// What the line is.
+    ///
+    /// <details><summary>Contract</summary>
+    ///
+    /// ```text
+    /// ensures { result ≡ self.now.outcome }
+    /// ```
+    ///
+    /// </details>
     pub fn outcome(&self) -> Outcome {
         self.outcome
     }
 
     /// Whether its rule begins with `!`.
+    ///
+    /// <details><summary>Contract</summary>
+    ///
+    /// ```text
+    /// ensures { result ≡ self.now.negative }
+    /// ```
+    ///
+    /// </details>
     pub fn negative(&self) -> bool {
         self.negative
     }
 
     /// Whether its rule is for directories alone.
+    ///
+    /// <details><summary>Contract</summary>
+    ///
+    /// ```text
+    /// ensures { result ≡ self.now.directories }
+    /// ```
+    ///
+    /// </details>
     pub fn directories(&self) -> bool {
         self.directories
     }
 
     /// Its pattern.
+    ///
+    /// <details><summary>Contract</summary>
+    ///
+    /// ```text
+    /// ensures { result.now ≡ self.now.glob }
+    /// ```
+    ///
+    /// </details>
     pub fn glob(&self) -> &[u8] {
         self.glob.as_slice()
     }
@@ -42,6 +73,14 @@ impl Line {
 
 impl Line {
     /// The line of these bytes.
+    ///
+    /// <details><summary>Contract</summary>
+    ///
+    /// ```text
+    /// ensures { IfOk result (λ line. line ≡ line_of text.now) }
+    /// ```
+    ///
+    /// </details>
     pub fn read(text: &[u8]) -> Self {
         if has(text, 0, b'#') {
             return Self::nothing();

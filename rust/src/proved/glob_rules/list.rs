@@ -1,5 +1,4 @@
-//! Made by `bin/rust_crate` from `crates/glob_rules/src/list.rt`.
-//! Contracts are there, and their proofs in `crates/glob_rules/proofs`; it is changed there alone.
+//! Made by `bin/rust_crate` from `crates/glob_rules/src/list.rt`, where its contracts are: sha256 2aab854f254df3ec.
 //!
 //! Ignore lists: which paths they ignore, and by which rule.
 
@@ -12,17 +11,16 @@ use crate::proved::glob_set::PatternSet;
 /// The rules of one ignore file, as gitignore(5) has them, for the paths below its directory.
 ///
 /// ```text
-/// let list = IgnoreList::new("*.o\ntarget/\n!keep.o\n")?;
-/// list.is_ignored("src/a.o", false)         // true
-/// list.is_ignored("src/keep.o", false)      // false
-/// list.is_ignored("target", false)          // false
-/// list.is_ignored("target/keep.o", false)   // true
+/// let list = IgnoreList::new(alloc, "*.o\ntarget/\n!keep.o\n")?;
+/// list.is_ignored("src/a.o", false)?         // true
+/// list.is_ignored("src/keep.o", false)?      // false
+/// list.is_ignored("target", false)?          // false
+/// list.is_ignored("target/keep.o", false)?   // true
 /// ```
 ///
 /// A path is the names from the list's directory on, with `/` between them and none at its start or its end.
 #[derive(Clone)]
 pub struct IgnoreList {
-    lines: usize,
     rules: Vec<Rule>,
     // the patterns of the rules, in their order
     set: PatternSet,
@@ -32,15 +30,34 @@ impl IgnoreList {
     /// The rules of a text, a line each. Comments, blank lines and lines that can name nothing have none.
     ///
     /// The error is [`Line`](RuleRefusal::Line) for the first line that is refused.
+    ///
+    /// <details><summary>Contract</summary>
+    ///
+    /// ```text
+    /// ensures rules { IfOk result (λ list. list ≡ rules_of text.now) }
+    /// ensures taken { IfOk result (λ _. AreTaken text.now) }
+    /// ensures refused { IfErr result (RefusesText text.now) }
+    /// ```
+    ///
+    /// </details>
     pub fn new(text: &str) -> Result<Self, RuleRefusal> {
-        let (lines, rules, patterns) = Rules::read(text)?.into_parts();
+        let (_, rules, patterns) = Rules::read(text)?.into_parts();
         let set = PatternSet::new(patterns, rule_options());
-        Ok(IgnoreList { lines, rules, set })
+        Ok(IgnoreList { rules, set })
     }
 
     /// Whether the list ignores a path, where `is_directory` says that it is a directory. A symbolic link is none. Of
     /// the directories above the path, each of which is taken for one, the outermost that is ignored decides; else it
     /// is the last rule that names the path. So by `a/` and `!a/b` the path `a/b` is ignored.
+    ///
+    /// <details><summary>Contract</summary>
+    ///
+    /// ```text
+    /// ensures answer { IfOk result (λ yes. yes ≡ is_ignored self.now path.now is_directory) }
+    /// ensures short { AreShort self.now.patterns → IsOk result }
+    /// ```
+    ///
+    /// </details>
     pub fn is_ignored(&self, path: &str, is_directory: bool) -> bool {
         let decides = self.deciding(path, is_directory);
         self.ignores(decides)
@@ -48,6 +65,16 @@ impl IgnoreList {
 
     /// The rule that decides whether the list ignores a path, or `None` if no rule names it: by `a/` and `!a/b` it is
     /// that of line 1 for `a/b`.
+    ///
+    /// <details><summary>Contract</summary>
+    ///
+    /// ```text
+    /// ensures rule { IfOk result
+    ///     (λ rule. rule ≡ deciding_rule self.now path.now is_directory) }
+    /// ensures short { AreShort self.now.patterns → IsOk result }
+    /// ```
+    ///
+    /// </details>
     pub fn deciding_rule(&self, path: &str, is_directory: bool) -> Option<Rule> {
         match self.deciding(path, is_directory) {
             Some(number) => Some(self.rules[number]),

@@ -1,5 +1,4 @@
-//! Made by `bin/rust_crate` from `crates/glob_rules/src/listing.rt`.
-//! Contracts are there, and their proofs in `crates/glob_rules/proofs`; it is changed there alone.
+//! Made by `bin/rust_crate` from `crates/glob_rules/src/listing.rt`, where its contracts are: sha256 e16abeea991ec2a1.
 //!
 //! The characters of a bracket, written out.
 

@@ -1,5 +1,4 @@
-//! Made by `bin/rust_crate` from `crates/glob_rules/src/lib.rt`.
-//! Contracts are there, and their proofs in `crates/glob_rules/proofs`; it is changed there alone.
+//! Made by `bin/rust_crate` from `crates/glob_rules/src/lib.rt`, where its contracts are: sha256 becc3f9791b2d326.
 //!
 //! Ignore lists: which paths the rules of gitignore(5) leave out.
 //!

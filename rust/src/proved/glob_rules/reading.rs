@@ -1,5 +1,4 @@
-//! Made by `bin/rust_crate` from `crates/glob_rules/src/reading.rt`.
-//! Contracts are there, and their proofs in `crates/glob_rules/proofs`; it is changed there alone.
+//! Made by `bin/rust_crate` from `crates/glob_rules/src/reading.rt`, where its contracts are: sha256 0e05f076360c1545.
 //!
 //! Rules read a byte at a time.
 

@@ -1,5 +1,4 @@
-//! Made by `bin/rust_crate` from `crates/glob_rules/src/rule.rt`.
-//! Contracts are there, and their proofs in `crates/glob_rules/proofs`; it is changed there alone.
+//! Made by `bin/rust_crate` from `crates/glob_rules/src/rule.rt`, where its contracts are: sha256 30c2df5280c34c3c.
 //!
 //! Rules of an ignore list.
 

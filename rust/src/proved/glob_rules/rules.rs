@@ -1,5 +1,4 @@
-//! Made by `bin/rust_crate` from `crates/glob_rules/src/rules.rt`.
-//! Contracts are there, and their proofs in `crates/glob_rules/proofs`; it is changed there alone.
+//! Made by `bin/rust_crate` from `crates/glob_rules/src/rules.rt`, where its contracts are: sha256 bb8372ab509db428.
 //!
 //! The rules of a text, line by line.
 
@@ -56,10 +55,7 @@ impl Rules {
 /// The pattern of a rule of this line.
 fn pattern_of(glob: &[u8], line: usize) -> Result<Pattern, RuleRefusal> {
     let text = str::from_utf8(glob).map_err(|_| RuleRefusal::Line(line, Reason::Pattern))?;
-    Pattern::new(text).map_err(|refusal| {
-        let _ = refusal;
-        RuleRefusal::Line(line, Reason::Pattern)
-    })
+    Pattern::new(text).map_err(|_| RuleRefusal::Line(line, Reason::Pattern))
 }
 
 /// The text without a byte order mark at its start.

@@ -1,5 +1,4 @@
-//! Made by `bin/rust_crate` from `crates/glob_rules/src/steps.rt`.
-//! Contracts are there, and their proofs in `crates/glob_rules/proofs`; it is changed there alone.
+//! Made by `bin/rust_crate` from `crates/glob_rules/src/steps.rt`, where its contracts are: sha256 1d1670cbff811491.
 //!
 //! What one byte of a rule means, after those before it.
 

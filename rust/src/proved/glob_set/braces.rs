@@ -1,5 +1,4 @@
-//! Made by `bin/rust_crate` from `crates/glob_set/src/braces.rt`.
-//! Contracts are there, and their proofs in `crates/glob_set/proofs`; it is changed there alone.
+//! Made by `bin/rust_crate` from `crates/glob_set/src/braces.rt`, where its contracts are: sha256 93e55180cff3835f.
 //!
 //! Braces in patterns: `src/*.{c,h}` is short for `src/*.c` and `src/*.h`.
 //!

@@ -1,5 +1,4 @@
-//! Made by `bin/rust_crate` from `crates/glob_set/src/components.rt`.
-//! Contracts are there, and their proofs in `crates/glob_set/proofs`; it is changed there alone.
+//! Made by `bin/rust_crate` from `crates/glob_set/src/components.rt`, where its contracts are: sha256 c738de849f54b82a.
 //!
 //! Components of texts and their beginnings, and the hashes that texts are looked up by.
 

@@ -1,5 +1,4 @@
-//! Made by `bin/rust_crate` from `crates/glob_set/src/error.rt`.
-//! Contracts are there, and their proofs in `crates/glob_set/proofs`; it is changed there alone.
+//! Made by `bin/rust_crate` from `crates/glob_set/src/error.rt`, where its contracts are: sha256 b9fc2f6319d07838.
 //!
 //! Why texts make no set.
 

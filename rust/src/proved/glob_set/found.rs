@@ -1,5 +1,4 @@
-//! Made by `bin/rust_crate` from `crates/glob_set/src/found.rt`.
-//! Contracts are there, and their proofs in `crates/glob_set/proofs`; it is changed there alone.
+//! Made by `bin/rust_crate` from `crates/glob_set/src/found.rt`, where its contracts are: sha256 dca36b1f3f9a65fa.
 
 const ROOM: usize = 16;
 

@@ -1,5 +1,4 @@
-//! Made by `bin/rust_crate` from `crates/glob_set/src/key.rt`.
-//! Contracts are there, and their proofs in `crates/glob_set/proofs`; it is changed there alone.
+//! Made by `bin/rust_crate` from `crates/glob_set/src/key.rt`, where its contracts are: sha256 67e6e100eb82afbd.
 //!
 //! Keys, by which few patterns are found for a text.
 

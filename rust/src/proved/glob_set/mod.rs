@@ -1,5 +1,4 @@
-//! Made by `bin/rust_crate` from `crates/glob_set/src/lib.rt`.
-//! Contracts are there, and their proofs in `crates/glob_set/proofs`; it is changed there alone.
+//! Made by `bin/rust_crate` from `crates/glob_set/src/lib.rt`, where its contracts are: sha256 37b87986311c3aff.
 //!
 //! Sets of patterns: which of many patterns match a text, where few of them are asked about it.
 //!

@@ -1,5 +1,4 @@
-//! Made by `bin/rust_crate` from `crates/glob_set/src/needs.rt`.
-//! Contracts are there, and their proofs in `crates/glob_set/proofs`; it is changed there alone.
+//! Made by `bin/rust_crate` from `crates/glob_set/src/needs.rt`, where its contracts are: sha256 82b4a6b9e074f31b.
 //!
 //! What a text needs so that a pattern may match it.
 

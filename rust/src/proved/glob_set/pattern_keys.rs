@@ -1,5 +1,6 @@
-//! Made by `bin/rust_crate` from `crates/glob_set/src/pattern_keys.rt`.
-//! Contracts are there, and their proofs in `crates/glob_set/proofs`; it is changed there alone.
+//! Made by `bin/rust_crate` from `crates/glob_set/src/pattern_keys.rt`, where its contracts are: sha256 754ca6e776073c31.
+//! `Vec::with_capacity` and `resize` are there `vec![x; n]`: memory that is asked for as zeros is never what was freed
+//! last, and costs more.
 //!
 //! The keys of patterns: what each text has that they match, by which few patterns are found for a text.
 
@@ -102,8 +103,8 @@ fn count_slot(key: Key, slots: usize) -> usize {
     slot_of(key.hash() ^ salt, slots)
 }
 
-/// What looking a key up costs each text, counted in patterns that are asked: a text is looked up by each number of
-/// bytes that a beginning or an ending has.
+/// What looking a key up costs each text, counted in patterns that are asked: a text is looked up by each number of bytes
+/// that a beginning or an ending has.
 fn cost_of(key: Key) -> u8 {
     match key {
         Key::Component(_) => 0,

@@ -1,5 +1,6 @@
-//! Made by `bin/rust_crate` from `crates/glob_set/src/set.rt`.
-//! Contracts are there, and their proofs in `crates/glob_set/proofs`; it is changed there alone.
+//! Made by `bin/rust_crate` from `crates/glob_set/src/set.rt`, where its contracts are: sha256 f41387b76e1d0829.
+//! `of_texts` is there `from_texts`: by hand it takes all kinds of lists.
+//! `of_braces` is there `from_braces`: by hand it takes all kinds of lists.
 //!
 //! Sets of patterns: which of them match a text.
 
@@ -22,9 +23,9 @@ use asking::{bits_for, earlier, later};
 /// those of the text.
 ///
 /// ```text
-/// let ignored = PatternSet::from_texts(&["**/*.o", "**/target/**"], options)?;
-/// ignored.first_match("src/a.o")    // Some(0)
-/// ignored.is_match("src/a.rs")      // false
+/// let ignored = PatternSet::from_texts(alloc, &["**/*.o", "**/target/**"], options)?;
+/// ignored.first_match("src/a.o")?    // Some(0)
+/// ignored.is_match("src/a.rs")?      // false
 /// ```
 #[derive(Clone)]
 pub struct PatternSet {
@@ -35,27 +36,60 @@ pub struct PatternSet {
     keyed: Keyed,
     // by the classes of texts the numbers of the other patterns that may match one
     buckets: Vec<Bucket>,
+
     all: Bucket,
     options: MatchOptions,
 }
 
 impl PatternSet {
     /// The patterns, in order: that of number 0 first.
+    ///
+    /// <details><summary>Contract</summary>
+    ///
+    /// ```text
+    /// ensures { result.now ≡ self.now.patterns }
+    /// ```
+    ///
+    /// </details>
     pub fn patterns(&self) -> &[Pattern] {
         self.patterns.as_slice()
     }
 
     /// The options that the patterns match by.
+    ///
+    /// <details><summary>Contract</summary>
+    ///
+    /// ```text
+    /// ensures { result ≡ self.now.options }
+    /// ```
+    ///
+    /// </details>
     pub fn options(&self) -> MatchOptions {
         self.options
     }
 
     /// How many patterns there are: 2 of `*.o` and `target/**`.
+    ///
+    /// <details><summary>Contract</summary>
+    ///
+    /// ```text
+    /// ensures { result ≡ length self.now.patterns }
+    /// ```
+    ///
+    /// </details>
     pub fn len(&self) -> usize {
         self.patterns.len()
     }
 
     /// Whether there are no patterns, so that nothing is matched.
+    ///
+    /// <details><summary>Contract</summary>
+    ///
+    /// ```text
+    /// ensures { IsTrue result ↔ (length self.now.patterns ≡ 0) }
+    /// ```
+    ///
+    /// </details>
     pub fn is_empty(&self) -> bool {
         self.patterns.len() == 0
     }
@@ -63,6 +97,15 @@ impl PatternSet {
 
 impl PatternSet {
     /// A set of these patterns, in this order.
+    ///
+    /// <details><summary>Contract</summary>
+    ///
+    /// ```text
+    /// ensures { IfOk result
+    ///     (λ set. set ≡ record { patterns = patterns.items; options = options }) }
+    /// ```
+    ///
+    /// </details>
     pub fn new(patterns: Vec<Pattern>, options: MatchOptions) -> Self {
         let needs = needs_of(patterns.as_slice());
         let keys = keys_of(patterns.as_slice());
@@ -93,11 +136,31 @@ impl PatternSet {
     }
 
     /// Whether any of the patterns matches the text: by `*.o` and `target/**`, `a.o` is matched, and `a.rs` is not.
+    ///
+    /// <details><summary>Contract</summary>
+    ///
+    /// ```text
+    /// ensures answer { IfOk result
+    ///     (λ yes. IsTrue yes ↔ AnyMatch self.now.options self.now.patterns text.now) }
+    /// ensures short { AreShort self.now.patterns → IsOk result }
+    /// ```
+    ///
+    /// </details>
     pub fn is_match(&self, text: &str) -> bool {
         self.first_match(text).is_some()
     }
 
     /// The number of the first pattern that matches the text, or `None`: by `a*` and `*b`, 0 of `ab`, and 1 of `b`.
+    ///
+    /// <details><summary>Contract</summary>
+    ///
+    /// ```text
+    /// ensures answer { IfOk result
+    ///     (FirstMatch self.now.options self.now.patterns text.now) }
+    /// ensures short { AreShort self.now.patterns → IsOk result }
+    /// ```
+    ///
+    /// </details>
     pub fn first_match(&self, text: &str) -> Option<usize> {
         let mut found = Found::new();
         let listed = self.listed_for(text, &mut found);
@@ -108,6 +171,16 @@ impl PatternSet {
     }
 
     /// The number of the last pattern that matches the text, or `None`: by `a*` and `*b`, 1 of `ab`, and 0 of `a`.
+    ///
+    /// <details><summary>Contract</summary>
+    ///
+    /// ```text
+    /// ensures answer { IfOk result
+    ///     (LastMatch self.now.options self.now.patterns text.now) }
+    /// ensures short { AreShort self.now.patterns → IsOk result }
+    /// ```
+    ///
+    /// </details>
     pub fn last_match(&self, text: &str) -> Option<usize> {
         let mut found = Found::new();
         let listed = self.listed_for(text, &mut found);
@@ -119,6 +192,16 @@ impl PatternSet {
 
     /// Replaces the content of `numbers` by the numbers of all patterns that match the text, in ascending order: by
     /// `a*` and `*b`, 0 and 1 for `ab`, and none for `c`.
+    ///
+    /// <details><summary>Contract</summary>
+    ///
+    /// ```text
+    /// ensures all { OnOk result
+    ///     (numbers.new.items ≡ all_matches self.now.options self.now.patterns text.now) }
+    /// ensures none { OnErr result (numbers.new.items ≡ []) }
+    /// ```
+    ///
+    /// </details>
     pub fn matches_into(&self, text: &str, numbers: &mut Vec<usize>) {
         self.find_matches(text, numbers);
 

@@ -1,5 +1,4 @@
-//! Made by `bin/rust_crate` from `crates/glob_tree/src/path_text.rt`.
-//! Contracts are there, and their proofs in `crates/glob_tree/proofs`; it is changed there alone.
+//! Made by `bin/rust_crate` from `crates/glob_tree/src/path_text.rt`, where its contracts are: sha256 c686c4c848c7afb1.
 //!
 //! The texts of paths.
 
@@ -41,14 +40,6 @@ fn all_stay(path: &str) -> bool {
     path.split('/').all(stays)
 }
 
-/// What is before the last `/` of a path, and what is after it.
-pub(crate) fn cut_last(path: &str) -> Option<(&str, &str)> {
-    match path.rsplit_once('/') {
-        Some((above, name)) => Some((above, name)),
-        None => None,
-    }
-}
-
 /// Whether a piece of a path is empty or `.`, so that it leads nowhere else.
 pub fn stays(piece: &str) -> bool {
     piece.is_empty() || piece == "."
@@ -57,15 +48,4 @@ pub fn stays(piece: &str) -> bool {
 /// Whether the name begins with a dot, as `.a` does.
 pub fn begins_with_dot(name: &str) -> bool {
     name.starts_with('.')
-}
-
-/// Whether a directory is the last one on a way, or above it; the empty path is above each.
-pub(crate) fn is_on_way(directory: &str, way: &str) -> bool {
-    if directory.is_empty() {
-        return true;
-    }
-    match way.strip_prefix(directory) {
-        Some(rest) => rest.is_empty() || rest.starts_with('/'),
-        None => false,
-    }
 }

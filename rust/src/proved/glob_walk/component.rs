@@ -1,5 +1,4 @@
-//! Made by `bin/rust_crate` from `crates/glob_walk/src/component.rt`.
-//! Contracts are there, and their proofs in `crates/glob_walk/proofs`; it is changed there alone.
+//! Made by `bin/rust_crate` from `crates/glob_walk/src/component.rt`, where its contracts are: sha256 156e1d58be9e78a8.
 //!
 //! The components of a pattern, each read once.
 

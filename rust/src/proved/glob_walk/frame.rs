@@ -1,5 +1,4 @@
-//! Made by `bin/rust_crate` from `crates/glob_walk/src/frame.rt`.
-//! Contracts are there, and their proofs in `crates/glob_walk/proofs`; it is changed there alone.
+//! Made by `bin/rust_crate` from `crates/glob_walk/src/frame.rt`, where its contracts are: sha256 96ae922bdc9b1dfb.
 //!
 //! A directory that is gone through.
 //!
@@ -33,8 +32,8 @@ pub enum Cursor {
 pub struct Frame {
     /// Its path.
     pub path: String,
-    /// The number of the component for which it was listed. If that has wildcards, it is matched with the entries. If
-    /// it is `**`, the component after it is.
+    /// The number of the component for which it was listed. If that has wildcards, it is matched with the entries. If it
+    /// is `**`, the component after it is.
     pub component: usize,
     /// Whether that component is `**`.
     pub recursive: bool,

@@ -1,9 +1,6 @@
-//! Made by `bin/rust_crate` from `crates/glob_walk/src/machine.rt`.
-//! Contracts are there, and their proofs in `crates/glob_walk/proofs`; it is changed there alone.
+//! Made by `bin/rust_crate` from `crates/glob_walk/src/machine.rt`, where its contracts are: sha256 ebe9078b97476dc7.
 //!
 //! A walk that asks its caller, and reads nothing itself.
-
-use std::io;
 
 use crate::proved::glob_pattern::{MatchOptions, PatternError};
 use crate::proved::glob_tree::{Entry, Look, Tree};
@@ -14,6 +11,7 @@ use crate::proved::glob_walk::query::QueryKind;
 use crate::proved::glob_walk::stack::Stack;
 use crate::proved::glob_walk::task::{Accepted, Task, TaskState};
 use crate::proved::glob_walk::walker::Walker;
+use std::io;
 
 /// What a walk does next.
 pub enum Step {
@@ -46,9 +44,9 @@ pub enum Answer {
 /// archive or a network, at once or later.
 ///
 /// ```text
-/// let mut machine = WalkMachine::new("*", MatchOptions::new(), 100)?;
+/// let mut machine = WalkMachine::new(alloc, "*", MatchOptions::new(), 100)?;
 /// machine.next()                  // Step::Look, where machine.path() is "."
-/// machine.looked(Look::Dir)   // Step::ListNames, where machine.path() is "."
+/// machine.looked(Ok(Look::Dir))   // Step::ListNames, where machine.path() is "."
 /// machine.listed(Ok(entries))     // of files `y` and `x`: Step::Item(Ok("x"))
 /// machine.next()                  // Step::Item(Ok("y"))
 /// machine.next()                  // Step::Done; machine.spent() is 4
@@ -71,6 +69,22 @@ impl WalkMachine {
     ///
     /// A pattern with a fault is refused: the fault of the whole text, or else that of the first component that has
     /// one.
+    ///
+    /// <details><summary>Contract</summary>
+    ///
+    /// ```text
+    /// ensures accepted { IfOk result (λ _. walk_fault pattern.now ≡ None) }
+    /// ensures refused { IfErr result (RefusesWith (walk_fault pattern.now)) }
+    /// ensures fresh { IfOk result (IsFreshMachine limit) }
+    /// ensures listing { IfOk result
+    ///     (λ walk. (c : Content) → left_of c walk ≡ listing c options pattern.now) }
+    /// ensures aim { IfOk result
+    ///     (λ walk. (c : Content) → listing_of c walk.aim ≡ listing c options pattern.now) }
+    /// ensures begun { IfOk result
+    ///     (λ walk. (c : Content) → HasGiven (listing c options pattern.now) c [] walk) }
+    /// ```
+    ///
+    /// </details>
     pub fn new(pattern: &str, options: MatchOptions, limit: u64) -> Result<Self, PatternError> {
         let plan = Plan::read(pattern, options)?;
         let start = String::from(plan.start());
@@ -88,6 +102,17 @@ impl WalkMachine {
 
     /// The next step, where no question is open: at first, and after an item. The first step of each walk is
     /// `Step::Look`, at the path `.` or `/`, or the refusal of its unit by a limit of 0.
+    ///
+    /// <details><summary>Contract</summary>
+    ///
+    /// ```text
+    /// requires free { self.old.asked ≡ None }
+    /// ensures steps { StepGoes IsSomeContent 0 self.old (saying result) self.new }
+    /// ensures driven { (c : Content) → (all : List Mark) → (given : List Item) → IsSomeContent c
+    ///     → HasGiven all c given self.old → GivesNext all c given (saying result) self.new }
+    /// ```
+    ///
+    /// </details>
     pub fn next(&mut self) -> Step {
         self.resume(Answer::Nothing)
     }
@@ -96,6 +121,21 @@ impl WalkMachine {
     /// over a file `x`, those of `*` return `Look`, `ListNames`, the item `x`, and `Done`.
     ///
     /// The tree is asked at most one question.
+    ///
+    /// <details><summary>Contract</summary>
+    ///
+    /// ```text
+    /// ensures content { T.tells tree.new ≡ T.tells tree.old }
+    /// ensures untouched { self.old.asked ≡ None → tree.new ≡ tree.old }
+    /// ensures steps { (n : ℕ)
+    ///     × (T.asks tree.new ≡ T.asks tree.old + question_units self.old.asked + n)
+    ///     × StepGoes (IsTold (T.tells tree.old)) n self.old (saying result) self.new }
+    /// ensures driven { (c : Content) → (all : List Mark) → (given : List Item)
+    ///     → IsTold (T.tells tree.old) c
+    ///     → HasGiven all c given self.old → GivesNext all c given (saying result) self.new }
+    /// ```
+    ///
+    /// </details>
     pub fn advance<T: Tree>(&mut self, tree: &mut T) -> Step {
         let answer = self.ask(tree);
         self.resume(answer)
@@ -103,6 +143,20 @@ impl WalkMachine {
 
     /// The answer of a tree to the question that is open, and `Nothing` where none is. [`resume`](WalkMachine::resume)
     /// takes it; [`advance`](WalkMachine::advance) is the two in one.
+    ///
+    /// <details><summary>Contract</summary>
+    ///
+    /// ```text
+    /// ensures content { T.tells tree.new ≡ T.tells tree.old }
+    /// ensures untouched { self.now.asked ≡ None → tree.new ≡ tree.old }
+    /// ensures asks { T.asks tree.new
+    ///     ≡ T.asks tree.old + question_units self.now.asked + answer_count result }
+    /// ensures answer { IsAnswer self.now.asked result }
+    /// ensures answered { (c : Content) → IsTold (T.tells tree.old) c
+    ///     → IsAnswered self.now.asked result c }
+    /// ```
+    ///
+    /// </details>
     pub fn ask<T: Tree>(&self, tree: &mut T) -> Answer {
         let Some(query) = &self.walker.query else {
             return Answer::Nothing;
@@ -115,24 +169,67 @@ impl WalkMachine {
         }
     }
 
-    /// Answers the look that is asked for, and returns the next step. Where `*` looks at `.`, `looked(Look::Dir)` is
-    /// `Step::ListNames`, and `looked(Look::Missing)` is `Step::Done`.
+    /// Answers the look that is asked for, and returns the next step. Where `*` looks at `.`, `looked(Ok(Look::Dir))`
+    /// is `Step::ListNames`, and `looked(Ok(Look::Missing))` is `Step::Done`.
+    ///
+    /// <details><summary>Contract</summary>
+    ///
+    /// ```text
+    /// requires asked { IsLook self.old.asked }
+    /// ensures failed { IfErr seen (λ _. saying result ≡ Says NoMemory) }
+    /// ensures steps { StepGoes (IsSeenIn self.old.asked seen) 0
+    ///     self.old (saying result) self.new }
+    /// ensures driven { (c : Content) → (all : List Mark) → (given : List Item)
+    ///     → IsSeenIn self.old.asked seen c
+    ///     → HasGiven all c given self.old → GivesNext all c given (saying result) self.new }
+    /// ```
+    ///
+    /// </details>
     pub fn looked(&mut self, seen: Look) -> Step {
         self.resume(Answer::Look(seen))
     }
 
     /// Answers the listing that is asked for, of entries or of names alone, with its entries in any order, and returns
     /// the next step, for one unit of work an entry. Where `*` lists `.`, `listed` of the files `y` and `x` gives the
-    /// item `x`. After `Err(e)` that is an error with the path, the kind of `e` and the cause `Read`, and the walk goes
-    /// on.
+    /// item `x`. After `Err(ListError::Read(e))` that is an error with the path, the kind of `e` and the cause `Read`,
+    /// and the walk goes on.
+    ///
+    /// <details><summary>Contract</summary>
+    ///
+    /// ```text
+    /// requires asked { IsList self.old.asked }
+    /// ensures failed { IfErr listed
+    ///     (λ e. saying result ≡ Says (list_error_outcome (question_path self.old.asked) e)) }
+    /// ensures steps { StepGoes (IsListedIn self.old.asked listed) (entry_count listed)
+    ///     self.old (saying result) self.new }
+    /// ensures driven { (c : Content) → (all : List Mark) → (given : List Item)
+    ///     → IsListedIn self.old.asked listed c
+    ///     → HasGiven all c given self.old → GivesNext all c given (saying result) self.new }
+    /// ```
+    ///
+    /// </details>
     pub fn listed(&mut self, listed: Result<Vec<Entry>, io::Error>) -> Step {
         self.resume(Answer::List(listed))
     }
 
     /// Takes the answer to the question that is open, or `Nothing` where none is, and returns the next step, as
     /// [`looked`](WalkMachine::looked), [`listed`](WalkMachine::listed) and [`next`](WalkMachine::next) do: with
-    /// `Answer::Look(seen)` it is `looked(seen)`. What is no answer to the open question leaves it open: it is asked
-    /// again, for no unit.
+    /// `Answer::Look(seen)` it is `looked(seen)`.
+    ///
+    /// <details><summary>Contract</summary>
+    ///
+    /// ```text
+    /// requires answer { IsAnswer self.old.asked answer }
+    /// ensures failed { IfFailed answer (question_path self.old.asked)
+    ///     (λ o. saying result ≡ Says o) }
+    /// ensures steps { StepGoes (IsAnswered self.old.asked answer) (answer_count answer)
+    ///     self.old (saying result) self.new }
+    /// ensures driven { (c : Content) → (all : List Mark) → (given : List Item)
+    ///     → IsAnswered self.old.asked answer c
+    ///     → HasGiven all c given self.old → GivesNext all c given (saying result) self.new }
+    /// ```
+    ///
+    /// </details>
     pub fn resume(&mut self, answer: Answer) -> Step {
         if self.over {
             return Step::Done;
@@ -147,6 +244,14 @@ impl WalkMachine {
 impl WalkMachine {
     /// The path that is asked for, as `a` where the entries of the directory `a` are, and the empty text where no
     /// question is open.
+    ///
+    /// <details><summary>Contract</summary>
+    ///
+    /// ```text
+    /// ensures { result.now ≡ question_path self.now.asked }
+    /// ```
+    ///
+    /// </details>
     pub fn path(&self) -> &str {
         match &self.walker.query {
             Some(query) => query.path.as_str(),
@@ -156,12 +261,30 @@ impl WalkMachine {
 
     /// How many units of work were charged, that of an open question too: never more than the limit. It is 1 at the
     /// first question, and 4 where `*` has looked at a directory, and listed it with two entries.
+    ///
+    /// <details><summary>Contract</summary>
+    ///
+    /// ```text
+    /// ensures spent { result ≡ self.now.spent }
+    /// ensures within { result ≤ self.now.limit }
+    /// ```
+    ///
+    /// </details>
     pub fn spent(&self) -> u64 {
         self.walker.meter.spent
     }
 
     /// How many items were given, a refusal too: at most one more than `spent`. It is 2 where `*` has given two files,
     /// and 1 where a limit of 0 refused the first unit.
+    ///
+    /// <details><summary>Contract</summary>
+    ///
+    /// ```text
+    /// ensures given { result ≡ self.now.given }
+    /// ensures few { result ≤ self.now.spent + 1 }
+    /// ```
+    ///
+    /// </details>
     pub fn given(&self) -> u128 {
         self.given
     }

@@ -1,5 +1,4 @@
-//! Made by `bin/rust_crate` from `crates/glob_walk/src/meter.rt`.
-//! Contracts are there, and their proofs in `crates/glob_walk/proofs`; it is changed there alone.
+//! Made by `bin/rust_crate` from `crates/glob_walk/src/meter.rt`, where its contracts are: sha256 55740a1d74689bbb.
 //!
 //! The limit of a walk, and what is charged to it.
 //!

@@ -1,5 +1,4 @@
-//! Made by `bin/rust_crate` from `crates/glob_walk/src/lib.rt`.
-//! Contracts are there, and their proofs in `crates/glob_walk/proofs`; it is changed there alone.
+//! Made by `bin/rust_crate` from `crates/glob_walk/src/lib.rt`, where its contracts are: sha256 9e88a1b9fd62568f.
 //!
 //! The walk of a pattern over a tree, as a machine whose questions its caller answers.
 
@@ -17,8 +16,6 @@ mod step;
 mod task;
 mod walker;
 
-pub use component::is_recursive;
-pub use ending::{end_of, End};
 pub use error::{GlobCause, GlobError, GlobResult};
 pub use machine::{Answer, Step, WalkMachine};
 pub use plain::is_plain;

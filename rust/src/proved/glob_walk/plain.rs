@@ -1,5 +1,4 @@
-//! Made by `bin/rust_crate` from `crates/glob_walk/src/plain.rt`.
-//! Contracts are there, and their proofs in `crates/glob_walk/proofs`; it is changed there alone.
+//! Made by `bin/rust_crate` from `crates/glob_walk/src/plain.rt`, where its contracts are: sha256 69bd7c771693e8e5.
 //!
 //! Which patterns are plain.
 
@@ -14,6 +13,16 @@ use crate::proved::glob_walk::plan::{past_root, Plan};
 /// [`WalkMachine::new`](crate::proved::glob_walk::WalkMachine::new) refuses is refused as there.
 ///
 /// So `src/**/*.rs` is plain, and `src/./*.rs` and `.*` are not; `a**` is refused.
+///
+/// <details><summary>Contract</summary>
+///
+/// ```text
+/// ensures plain { IfOk result (λ yes. yes ≡ is_plain pattern.now) }
+/// ensures accepted { IfOk result (λ _. walk_fault pattern.now ≡ None) }
+/// ensures refused { IfErr result (RefusesWith (walk_fault pattern.now)) }
+/// ```
+///
+/// </details>
 pub fn is_plain(pattern: &str) -> Result<bool, PatternError> {
     Plan::read(pattern, MatchOptions::new())?;
     Ok(are_plain(past_root(pattern)))

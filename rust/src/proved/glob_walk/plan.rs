@@ -1,5 +1,4 @@
-//! Made by `bin/rust_crate` from `crates/glob_walk/src/plan.rt`.
-//! Contracts are there, and their proofs in `crates/glob_walk/proofs`; it is changed there alone.
+//! Made by `bin/rust_crate` from `crates/glob_walk/src/plan.rt`, where its contracts are: sha256 b243a7b7bcae9009.
 //!
 //! What a walk looks for.
 //!

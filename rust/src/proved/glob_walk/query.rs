@@ -1,5 +1,4 @@
-//! Made by `bin/rust_crate` from `crates/glob_walk/src/query.rt`.
-//! Contracts are there, and their proofs in `crates/glob_walk/proofs`; it is changed there alone.
+//! Made by `bin/rust_crate` from `crates/glob_walk/src/query.rt`, where its contracts are: sha256 0f66a9aebe34b8b8.
 //!
 //! A question that is open.
 

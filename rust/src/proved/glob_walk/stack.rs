@@ -1,5 +1,4 @@
-//! Made by `bin/rust_crate` from `crates/glob_walk/src/stack.rt`.
-//! Contracts are there, and their proofs in `crates/glob_walk/proofs`; it is changed there alone.
+//! Made by `bin/rust_crate` from `crates/glob_walk/src/stack.rt`, where its contracts are: sha256 db08b790c77409f0.
 //!
 //! What a walk has still to do.
 //!

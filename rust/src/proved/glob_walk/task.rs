@@ -1,5 +1,4 @@
-//! Made by `bin/rust_crate` from `crates/glob_walk/src/task.rt`.
-//! Contracts are there, and their proofs in `crates/glob_walk/proofs`; it is changed there alone.
+//! Made by `bin/rust_crate` from `crates/glob_walk/src/task.rt`, where its contracts are: sha256 c0376d1b6b77db95.
 //!
 //! What a walk does next: at one path, with the components from a number on.
 

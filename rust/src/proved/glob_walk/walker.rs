@@ -1,5 +1,4 @@
-//! Made by `bin/rust_crate` from `crates/glob_walk/src/walker.rt`.
-//! Contracts are there, and their proofs in `crates/glob_walk/proofs`; it is changed there alone.
+//! Made by `bin/rust_crate` from `crates/glob_walk/src/walker.rt`, where its contracts are: sha256 933256f8472cb2a6.
 //!
 //! The turns of a walk.
 //!
@@ -26,17 +25,15 @@
 //! what was left of the listing begins with what the turn charged and gave, and what the walk then stands for is the
 //! rest. A turn that returns no [`Step`] goes on.
 
-use std::io;
-
 use crate::proved::glob_tree::{child, Entry, Look};
 use crate::proved::glob_walk::component::{is_current_or_parent, Component};
 use crate::proved::glob_walk::frame::{Cursor, Frame};
 use crate::proved::glob_walk::machine::{Answer, Step};
 use crate::proved::glob_walk::meter::{sort_entries, Meter};
-use crate::proved::glob_walk::plan::Plan;
 use crate::proved::glob_walk::query::{Query, QueryKind};
 use crate::proved::glob_walk::stack::Stack;
 use crate::proved::glob_walk::task::{task_after_look, Accepted, Task, TaskState};
+use std::io;
 
 /// A limit, and what a walk has still to do.
 pub struct Walker {
@@ -52,7 +49,9 @@ impl Walker {
         if !self.meter.charge() {
             return Step::limit(path);
         }
-        self.ask(Query { path, component, kind: QueryKind::Look(accepted) })
+        let kind = QueryKind::Look(accepted);
+        self.query = Some(Query { path, component, kind });
+        Step::Look
     }
 
     /// Asks for the listing of a directory for a component, which is `**` or has wildcards, for one unit. Where no
@@ -62,7 +61,9 @@ impl Walker {
             return Step::limit(path);
         }
         let kinds = self.stack.plan.needs_kinds(component, recursive);
-        self.ask(Query { path, component, kind: QueryKind::List { recursive, kinds } })
+        let kind = QueryKind::List { recursive, kinds };
+        self.query = Some(Query { path, component, kind });
+        Step::list(kinds)
     }
 
     /// Charges the entries of a directory that was listed, and puts it on the stack with its first cursor. Where names
@@ -72,7 +73,6 @@ impl Walker {
         path: String,
         component: usize,
         recursive: bool,
-        kinds: bool,
         mut entries: Vec<Entry>,
     ) -> Option<Step> {
         if !self.meter.charge_entries(entries.len()) {
@@ -99,7 +99,7 @@ impl Walker {
         };
         if component.is_literal() {
             let path = path.as_str();
-            let task = literal_task(plan, component, path, number, is_dir);
+            let task = literal_task(component, path, number, is_dir);
             self.stack.next = Some(task);
             return None;
         }
@@ -135,31 +135,20 @@ impl Walker {
         }
     }
 
-    /// Takes the answer to the question that is open, if one is: what comes of it at once. After what is no answer to
-    /// the question it stays open, and is asked again, for no further unit.
+    /// Takes the answer to the question that is open, if one is: what comes of it at once.
     fn take_answer(&mut self, answer: Answer) -> Option<Step> {
-        let query = self.query.take()?;
-        match query.kind {
-            QueryKind::Look(accepted) => {
-                let Answer::Look(seen) = answer else {
-                    return Some(self.ask(query));
-                };
-                self.take_look(query.path, query.component, accepted, seen)
+        let Some(query) = self.query.take() else {
+            let Answer::Nothing = answer else { unreachable!() };
+            return None;
+        };
+        let Query { path, component, kind } = query;
+        match (kind, answer) {
+            (QueryKind::Look(accepted), Answer::Look(seen)) => self.take_look(path, component, accepted, seen),
+            (QueryKind::List { recursive, kinds: _ }, Answer::List(listed)) => {
+                self.take_listing(path, component, recursive, listed)
             }
-            QueryKind::List { recursive, kinds } => {
-                let Answer::List(listed) = answer else {
-                    return Some(self.ask(query));
-                };
-                self.take_listing(query.path, query.component, recursive, kinds, listed)
-            }
+            _ => unreachable!(),
         }
-    }
-
-    /// Asks a question whose unit was charged.
-    fn ask(&mut self, query: Query) -> Step {
-        let step = Step::ask(query.kind);
-        self.query = Some(query);
-        step
     }
 
     /// Takes the answer to a look, and leaves the task that follows, if any.
@@ -175,11 +164,10 @@ impl Walker {
         path: String,
         component: usize,
         recursive: bool,
-        kinds: bool,
         answer: Result<Vec<Entry>, io::Error>,
     ) -> Option<Step> {
         match answer {
-            Ok(entries) => self.enter_listed(path, component, recursive, kinds, entries),
+            Ok(entries) => self.enter_listed(path, component, recursive, entries),
             Err(e) => Some(Step::unread(path, e)),
         }
     }
@@ -206,7 +194,7 @@ impl Walker {
 
 /// The task of a literal component at a path: the look at the two joined. `.` and `..` are there in a directory alone,
 /// and any other name where something is there.
-fn literal_task(plan: &Plan, component: &Component, path: &str, number: usize, is_dir: bool) -> Task {
+fn literal_task(component: &Component, path: &str, number: usize, is_dir: bool) -> Task {
     let name = component.as_str();
     let accepted = Accepted::of_literal(is_current_or_parent(name), is_dir);
     Task { path: child(path, name), component: number + 1, state: TaskState::Unseen(accepted) }

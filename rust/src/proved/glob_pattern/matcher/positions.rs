@@ -1,12 +1,13 @@
-//! Made by `bin/rust_crate` from `crates/glob_pattern/src/matcher/positions.rt`.
-//! Contracts are there, and their proofs in `crates/glob_pattern/proofs`; it is changed there alone.
+//! Made by `bin/rust_crate` from `crates/glob_pattern/src/matcher/positions.rt`, where its contracts are: sha256 bd9d1b41b1243d42.
+//! `Vec::with_capacity` and `resize` are there `vec![x; n]`: memory that is asked for as zeros is never what was freed
+//! last, and costs more.
 //!
 //! A bit-parallel automaton (NFA). Its states are positions: which numbers of leading tokens may have split the
 //! characters so far. Bit n of a word is set where the tokens before the word's nth are done, or the nth has begun and
 //! may go on. A character moves all positions at once.
 
 use super::shape_word::ShapeWord;
-use super::{Judge, Shaped, WORD};
+use super::{Judge, WORD};
 
 /// Which part of the shapes a run goes over.
 #[derive(Clone, Copy)]
@@ -35,38 +36,38 @@ impl Span {
 /// Whether the shapes before the span's end split the characters. Contracts alone read `tokens`, here and below: no
 /// body does.
 #[inline(always)]
-pub fn decide<T: Shaped, J: Judge>(tokens: &[T], words: &[ShapeWord], span: Span, judge: &mut J) -> bool {
+pub fn decide<J: Judge>(words: &[ShapeWord], span: Span, judge: &mut J) -> bool {
     if words.len() == 1 {
-        run_word(tokens, words[0], span, judge)
+        run_word(words[0], span, judge)
     } else {
         let mut alive = Vec::with_capacity(words.len());
         alive.resize(words.len(), 0);
-        run_words(tokens, words, alive.as_mut_slice(), span, judge)
+        run_words(words, alive.as_mut_slice(), span, judge)
     }
 }
 
 /// [`decide`] where there is one word. The two loops differ in their step alone.
 #[inline(always)]
-fn run_word<T: Shaped, J: Judge>(tokens: &[T], word: ShapeWord, span: Span, judge: &mut J) -> bool {
+fn run_word<J: Judge>(word: ShapeWord, span: Span, judge: &mut J) -> bool {
     if word.is_flat() {
-        run(tokens, word, true, span, judge)
+        run(word, true, span, judge)
     } else {
-        run(tokens, word, false, span, judge)
+        run(word, false, span, judge)
     }
 }
 
 /// [`run_word`], by the step of flat shapes if these are `flat`.
 #[inline(always)]
-fn run<T: Shaped, J: Judge>(tokens: &[T], word: ShapeWord, flat: bool, span: Span, judge: &mut J) -> bool {
+fn run<J: Judge>(word: ShapeWord, flat: bool, span: Span, judge: &mut J) -> bool {
     let mut alive = word.step(0, judge.opens(), true);
     while alive != 0 {
         if alive & span.accepting != 0 {
             return true;
         }
         if !judge.step() {
-            return is_whole(tokens, span.end, &[alive]);
+            return is_whole(span.end, &[alive]);
         }
-        let took = ask(tokens, span.end, word, 0, alive, judge);
+        let took = ask(word, 0, alive, judge);
         alive = word.step_by(flat, took, judge.opens());
     }
     false
@@ -74,36 +75,30 @@ fn run<T: Shaped, J: Judge>(tokens: &[T], word: ShapeWord, flat: bool, span: Spa
 
 /// [`decide`] where there are several words, with room for the position set: a zero for each word.
 #[inline(always)]
-fn run_words<T: Shaped, J: Judge>(
-    tokens: &[T],
-    words: &[ShapeWord],
-    alive: &mut [u64],
-    span: Span,
-    judge: &mut J,
-) -> bool {
+fn run_words<J: Judge>(words: &[ShapeWord], alive: &mut [u64], span: Span, judge: &mut J) -> bool {
     let last = word_before(span.end);
-    let mut live = set_start(tokens, span.end, words, judge.opens(), alive);
+    let mut live = set_start(words, judge.opens(), alive);
     while live.high != 0 {
         if alive[last] & span.accepting != 0 {
             return true;
         }
         if !judge.step() {
-            return is_whole(tokens, span.end, alive);
+            return is_whole(span.end, alive);
         }
-        live = step_words(tokens, span.end, words, alive, live, judge);
+        live = step_words(words, alive, live, judge);
     }
     false
 }
 
 /// Asks the tokens of word `n` that are alive about the character last stepped over. Returns those that take it.
 #[inline(always)]
-fn ask<T: Shaped, J: Judge>(tokens: &[T], end: usize, word: ShapeWord, n: usize, alive: u64, judge: &mut J) -> u64 {
+fn ask<J: Judge>(word: ShapeWord, n: usize, alive: u64, judge: &mut J) -> u64 {
     judge.takes_each(n, alive & word.tokens)
 }
 
 /// Sets the words, which must be 0, to the position set before the first character.
 #[inline(always)]
-fn set_start<T: Shaped>(tokens: &[T], end: usize, words: &[ShapeWord], opens: bool, alive: &mut [u64]) -> Live {
+fn set_start(words: &[ShapeWord], opens: bool, alive: &mut [u64]) -> Live {
     let mut whole = true;
     for n in 0..alive.len() {
         if !whole {
@@ -124,7 +119,7 @@ fn word_before(end: usize) -> usize {
 
 /// Whether the shapes before number `end` split the characters: whether the position after the last is in the set.
 #[inline(always)]
-fn is_whole<T: Shaped>(tokens: &[T], end: usize, alive: &[u64]) -> bool {
+fn is_whole(end: usize, alive: &[u64]) -> bool {
     // Where the last word is full this is its last bit.
     let word = word_before(end);
     (alive[word] >> (end - WORD * word)) & 1 != 0
@@ -133,14 +128,7 @@ fn is_whole<T: Shaped>(tokens: &[T], end: usize, alive: &[u64]) -> bool {
 /// Steps the words to the judge's place, and returns those that are live there. Words in which nothing is alive are
 /// neither asked nor stepped, unless the word before them has come to its end.
 #[inline(always)]
-fn step_words<T: Shaped, J: Judge>(
-    tokens: &[T],
-    end: usize,
-    words: &[ShapeWord],
-    alive: &mut [u64],
-    live: Live,
-    judge: &mut J,
-) -> Live {
+fn step_words<J: Judge>(words: &[ShapeWord], alive: &mut [u64], live: Live, judge: &mut J) -> Live {
     let opens = judge.opens();
     let mut next = Live { low: alive.len(), high: 0 };
     let mut whole = false;
@@ -148,7 +136,7 @@ fn step_words<T: Shaped, J: Judge>(
         if !whole && live.high <= n {
             return next;
         }
-        let word = step_word(tokens, end, words[n], n, alive[n], opens, whole, judge);
+        let word = step_word(words[n], n, alive[n], opens, whole, judge);
         alive[n] = word;
         next = next.with(n, word);
         whole = word >> WORD != 0;
@@ -158,20 +146,11 @@ fn step_words<T: Shaped, J: Judge>(
 
 /// What is alive in word `n` after the character last stepped over. `opens` and `whole` are as in [`ShapeWord::step`].
 #[inline(always)]
-fn step_word<T: Shaped, J: Judge>(
-    tokens: &[T],
-    end: usize,
-    word: ShapeWord,
-    n: usize,
-    alive: u64,
-    opens: bool,
-    whole: bool,
-    judge: &mut J,
-) -> u64 {
+fn step_word<J: Judge>(word: ShapeWord, n: usize, alive: u64, opens: bool, whole: bool, judge: &mut J) -> u64 {
     if alive == 0 && !whole {
         return 0;
     }
-    let took = ask(tokens, end, word, n, alive, judge);
+    let took = ask(word, n, alive, judge);
     word.step(took, opens, whole)
 }
 

@@ -1,5 +1,4 @@
-//! Made by `bin/rust_crate` from `crates/glob_pattern/src/matcher/shape_word.rt`.
-//! Contracts are there, and their proofs in `crates/glob_pattern/proofs`; it is changed there alone.
+//! Made by `bin/rust_crate` from `crates/glob_pattern/src/matcher/shape_word.rt`, where its contracts are: sha256 7fbc79102819cf70.
 //!
 //! The shapes of neighbouring tokens as bits, and one step of a position set over them.
 

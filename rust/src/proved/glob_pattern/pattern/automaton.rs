@@ -1,5 +1,4 @@
-//! Made by `bin/rust_crate` from `crates/glob_pattern/src/pattern/automaton.rt`.
-//! Contracts are there, and their proofs in `crates/glob_pattern/proofs`; it is changed there alone.
+//! Made by `bin/rust_crate` from `crates/glob_pattern/src/pattern/automaton.rt`, where its contracts are: sha256 0a0fad36fc338950.
 //!
 //! The automaton of a pattern's tokens between the ends: their shapes as words of bits, and which of them take which
 //! characters.
@@ -36,15 +35,7 @@ impl Automaton {
     pub fn empty() -> Self {
         Automaton { first: ShapeWord::NONE, words: Vec::new(), accepting: 0, masks: CharMasks::Plain([0; 3]) }
     }
-}
 
-impl Clone for Automaton {
-    fn clone(&self) -> Self {
-        Automaton { first: self.first, words: self.words.clone(), accepting: self.accepting, masks: self.masks.clone() }
-    }
-}
-
-impl Automaton {
     /// Whether the tokens before number `end` split the text, at whose start a component starts or not, and how many
     /// questions it took.
     #[inline(always)]
@@ -63,14 +54,14 @@ impl Automaton {
         }
         let span = Span { end, accepting };
         let one_by_one = TextJudge::new(&tokens[..end], text, opening, options);
-        let mut judge = MaskJudge::new(one_by_one, &self.masks, end.div_ceil(WORD));
-        let answer = decide(tokens, self.words(tokens, end), span, &mut judge);
+        let mut judge = MaskJudge::new(one_by_one, &self.masks);
+        let answer = decide(self.words(end), span, &mut judge);
         (answer, judge.asked())
     }
 
     /// The shapes as bits.
     #[inline(always)]
-    fn words(&self, tokens: &[Token<Bracket>], end: usize) -> &[ShapeWord] {
+    fn words(&self, end: usize) -> &[ShapeWord] {
         if end <= WORD {
             slice::from_ref(&self.first)
         } else {
@@ -86,6 +77,12 @@ impl Automaton {
         } else {
             self.accepting
         }
+    }
+}
+
+impl Clone for Automaton {
+    fn clone(&self) -> Self {
+        Automaton { first: self.first, words: self.words.clone(), accepting: self.accepting, masks: self.masks.clone() }
     }
 }
 

@@ -1,5 +1,6 @@
-//! Made by `bin/rust_crate` from `crates/glob_pattern/src/pattern/char_masks.rt`.
-//! Contracts are there, and their proofs in `crates/glob_pattern/proofs`; it is changed there alone.
+//! Made by `bin/rust_crate` from `crates/glob_pattern/src/pattern/char_masks.rt`, where its contracts are: sha256 02525868ebe8d6c5.
+//! `Vec::with_capacity` and `resize` are there `vec![x; n]`: memory that is asked for as zeros is never what was freed
+//! last, and costs more.
 //!
 //! Masks: for each class of characters, which of 63 neighbouring tokens take its characters.
 

@@ -1,5 +1,4 @@
-//! Made by `bin/rust_crate` from `crates/glob_pattern/src/pattern/classes.rt`.
-//! Contracts are there, and their proofs in `crates/glob_pattern/proofs`; it is changed there alone.
+//! Made by `bin/rust_crate` from `crates/glob_pattern/src/pattern/classes.rt`, where its contracts are: sha256 8d4dece27762050d.
 //!
 //! Classes of characters: the characters of a class are taken by the same tokens.
 //!

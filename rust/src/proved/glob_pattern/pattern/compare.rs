@@ -1,11 +1,9 @@
-//! Made by `bin/rust_crate` from `crates/glob_pattern/src/pattern/compare.rt`.
-//! Contracts are there, and their proofs in `crates/glob_pattern/proofs`; it is changed there alone.
+//! Made by `bin/rust_crate` from `crates/glob_pattern/src/pattern/compare.rt`, where its contracts are: sha256 10f59138e26d070f.
 //!
 //! A pattern is compared, hashed and printed as its text.
 
 use crate::proved::glob_pattern::pattern::Pattern;
 use std::cmp::Ordering;
-use std::fmt;
 use std::hash::{Hash, Hasher};
 
 impl PartialEq for Pattern {
@@ -31,19 +29,5 @@ impl Ord for Pattern {
 impl Hash for Pattern {
     fn hash<H: Hasher>(&self, state: &mut H) {
         self.as_str().hash(state);
-    }
-}
-
-/// The pattern's text.
-impl fmt::Display for Pattern {
-    fn fmt(&self, f: &mut fmt::Formatter<'_>) -> fmt::Result {
-        f.pad(self.as_str())
-    }
-}
-
-/// The pattern's text, with its name.
-impl fmt::Debug for Pattern {
-    fn fmt(&self, f: &mut fmt::Formatter<'_>) -> fmt::Result {
-        f.debug_struct("Pattern").field("original", &self.as_str()).finish_non_exhaustive()
     }
 }

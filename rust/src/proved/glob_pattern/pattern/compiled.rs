@@ -1,10 +1,9 @@
-//! Made by `bin/rust_crate` from `crates/glob_pattern/src/pattern/compiled.rt`.
-//! Contracts are there, and their proofs in `crates/glob_pattern/proofs`; it is changed there alone.
+//! Made by `bin/rust_crate` from `crates/glob_pattern/src/pattern/compiled.rt`, where its contracts are: sha256 2a05525a43c4f138.
 //!
 //! What a match reads of a pattern, and how a match goes: the ends of the text are compared, a needle is searched for,
 //! and what is between goes through the automaton.
 
-use crate::proved::glob_pattern::matcher::{decide_all, Judge};
+use crate::proved::glob_pattern::matcher::{decide, shape_words, Judge, ShapeWord, Span, WORD};
 use crate::proved::glob_pattern::options::MatchOptions;
 use crate::proved::glob_pattern::pattern::automaton::Automaton;
 use crate::proved::glob_pattern::pattern::ends::Ends;
@@ -32,14 +31,6 @@ impl Compiled {
         self.tokens.as_slice()
     }
 
-    /// Whether the tokens, which are the pattern's, may match a text of these bytes: by the literals at its ends, and
-    /// by a needle. The bytes need not be UTF-8.
-    #[inline(always)]
-    pub fn may_match(&self, pattern: &str, bytes: &[u8], options: MatchOptions) -> bool {
-        let tokens = self.tokens.as_slice();
-        self.ends.have_literals(tokens, pattern, bytes, options) && self.needle.may_be_in(bytes)
-    }
-
     /// The character of the token of this number, if there is one and it is a literal.
     pub fn literal_at(&self, number: usize) -> Option<char> {
         match self.tokens.get(number) {
@@ -65,25 +56,11 @@ impl Compiled {
     pub fn empty() -> Self {
         Compiled { tokens: Vec::new(), ends: Ends::NONE, needle: Needle::NONE, automaton: Automaton::empty() }
     }
-}
 
-impl Clone for Compiled {
-    fn clone(&self) -> Self {
-        Compiled {
-            tokens: self.tokens.clone(),
-            ends: self.ends,
-            needle: self.needle,
-            automaton: self.automaton.clone(),
-        }
-    }
-}
-
-impl Compiled {
     /// Whether the tokens, which are the pattern's, match the text.
     #[inline(always)]
     pub fn matches(&self, pattern: &str, text: &str, options: MatchOptions) -> bool {
-        let tokens = self.tokens.as_slice();
-        if self.ends.reject(tokens, pattern, text, options) {
+        if self.ends.reject(pattern, text, options) {
             return false;
         }
         self.matches_in_full(pattern, text, options)
@@ -98,8 +75,8 @@ impl Compiled {
     }
 
     /// The answer of [`matches`](Self::matches), and how many questions it took: how often a token was asked whether it
-    /// takes a character. Each token at an end counts, though the text may be rejected before it is asked. If one is at
-    /// the start, and the text is not empty, one more counts: [`Ends::reject`] may compare the first byte beforehand.
+    /// takes a character. Each token at an end counts, though the text may be rejected before it is asked, and the first
+    /// counts twice: [`Ends::reject`] asks it, too.
     #[inline(always)]
     fn matches_asking(&self, pattern: &str, text: &str, options: MatchOptions) -> (bool, u128) {
         let tokens = self.tokens.as_slice();
@@ -125,8 +102,30 @@ impl Compiled {
     #[inline(never)]
     pub fn matches_counted(&self, text: &str, options: MatchOptions) -> (bool, u128) {
         let tokens = self.tokens.as_slice();
-        let mut judge = TextJudge::new(tokens, text, true, options);
-        let answer = decide_all(tokens, &mut judge);
-        (answer, judge.asked())
+        if tokens.len() <= WORD {
+            ask_all(tokens, &[ShapeWord::new(tokens, tokens.len(), 0)], text, options)
+        } else {
+            let words = shape_words(tokens, tokens.len());
+            ask_all(tokens, words.as_slice(), text, options)
+        }
     }
+}
+
+impl Clone for Compiled {
+    fn clone(&self) -> Self {
+        Compiled {
+            tokens: self.tokens.clone(),
+            ends: self.ends,
+            needle: self.needle,
+            automaton: self.automaton.clone(),
+        }
+    }
+}
+
+/// Whether the tokens match the text, and how many questions it takes, by their shapes as bits.
+#[inline(always)]
+fn ask_all(tokens: &[Token<Bracket>], words: &[ShapeWord], text: &str, options: MatchOptions) -> (bool, u128) {
+    let mut judge = TextJudge::new(tokens, text, true, options);
+    let answer = decide(words, Span::all(tokens.len()), &mut judge);
+    (answer, judge.asked())
 }

@@ -1,5 +1,4 @@
-//! Made by `bin/rust_crate` from `crates/glob_pattern/src/pattern/ends.rt`.
-//! Contracts are there, and their proofs in `crates/glob_pattern/proofs`; it is changed there alone.
+//! Made by `bin/rust_crate` from `crates/glob_pattern/src/pattern/ends.rt`, where its contracts are: sha256 2b9e54fda3ecae7c.
 //!
 //! What a text has to have at its ends: the literals with which a pattern begins and ends, compared as bytes, and the
 //! characters that other tokens of one character take there.
@@ -69,7 +68,7 @@ impl Ends {
 
     /// Whether the bytes begin and end with the pattern's literals. They need not be UTF-8.
     #[inline(always)]
-    pub fn have_literals(&self, tokens: &[Token<Bracket>], pattern: &str, bytes: &[u8], options: MatchOptions) -> bool {
+    pub fn have_literals(&self, pattern: &str, bytes: &[u8], options: MatchOptions) -> bool {
         let literals = pattern.as_bytes();
         let prefix = &literals[..self.prefix.bytes];
         let suffix = &literals[literals.len() - self.suffix.bytes..];
@@ -78,7 +77,7 @@ impl Ends {
 
     /// Whether the text is rejected by its length or its first byte. It is cheap, so that callers have it inline.
     #[inline(always)]
-    pub fn reject(&self, tokens: &[Token<Bracket>], pattern: &str, text: &str, options: MatchOptions) -> bool {
+    pub fn reject(&self, pattern: &str, text: &str, options: MatchOptions) -> bool {
         let (bytes, literals) = (text.as_bytes(), pattern.as_bytes());
         if bytes.len() < self.prefix.bytes + self.suffix.bytes {
             return true;
@@ -86,8 +85,7 @@ impl Ends {
         self.prefix.bytes > 0 && !are_same(&bytes[..1], &literals[..1], options)
     }
 
-    /// Takes the ends from a text: so those of `src/*.rs` leave `main` of `src/main.rs`. `None`: the text does not
-    /// match.
+    /// Takes the ends from a text: so those of `src/*.rs` leave `main` of `src/main.rs`. `None`: the text does not match.
     #[inline(always)]
     pub fn strip<'a>(
         &self,
@@ -96,7 +94,7 @@ impl Ends {
         text: &'a str,
         options: MatchOptions,
     ) -> Option<Part<'a>> {
-        let part = self.strip_literals(tokens, pattern, text, options)?;
+        let part = self.strip_literals(pattern, text, options)?;
         if self.prefix.count == self.lead && self.suffix.count == self.trail {
             return Some(part);
         }
@@ -106,17 +104,11 @@ impl Ends {
 
     /// Takes the literals from the ends of a text. `None`: it does not have them.
     #[inline(always)]
-    fn strip_literals<'a>(
-        &self,
-        tokens: &[Token<Bracket>],
-        pattern: &str,
-        text: &'a str,
-        options: MatchOptions,
-    ) -> Option<Part<'a>> {
+    fn strip_literals<'a>(&self, pattern: &str, text: &'a str, options: MatchOptions) -> Option<Part<'a>> {
         if self.prefix.count == 0 && self.suffix.count == 0 {
             return Some(Part { text, opening: true });
         }
-        if !self.have_literals(tokens, pattern, text.as_bytes(), options) {
+        if !self.have_literals(pattern, text.as_bytes(), options) {
             return None;
         }
         let (start, end) = (self.prefix.bytes, text.len() - self.suffix.bytes);

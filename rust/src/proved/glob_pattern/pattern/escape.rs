@@ -1,5 +1,4 @@
-//! Made by `bin/rust_crate` from `crates/glob_pattern/src/pattern/escape.rt`.
-//! Contracts are there, and their proofs in `crates/glob_pattern/proofs`; it is changed there alone.
+//! Made by `bin/rust_crate` from `crates/glob_pattern/src/pattern/escape.rt`, where its contracts are: sha256 eae733eb1f78dd8b.
 //!
 //! Texts escaped, as patterns that match themselves.
 
@@ -8,6 +7,15 @@ use crate::proved::glob_pattern::pattern::Pattern;
 impl Pattern {
     /// The text as a pattern that matches it: each `?`, `*`, `[` and `]` is put in a bracket of its own, and every
     /// other character as it is. So `a[1].rs` becomes `a[[]1[]].rs`.
+    ///
+    /// <details><summary>Contract</summary>
+    ///
+    /// ```text
+    /// ensures { IfOk result
+    ///     (λ t. chars (string_bytes t) ≡ escaped_text (chars s.now)) }
+    /// ```
+    ///
+    /// </details>
     pub fn escape(s: &str) -> String {
         let specials = count_special(s);
         if specials == 0 {

@@ -1,5 +1,4 @@
-//! Made by `bin/rust_crate` from `crates/glob_pattern/src/pattern/judge.rt`.
-//! Contracts are there, and their proofs in `crates/glob_pattern/proofs`; it is changed there alone.
+//! Made by `bin/rust_crate` from `crates/glob_pattern/src/pattern/judge.rt`, where its contracts are: sha256 5b31bca0dc96c13a.
 //!
 //! The judge of a text's characters and a pattern's tokens.
 
@@ -17,9 +16,6 @@ use std::str::Chars;
 pub struct TextJudge<'a> {
     tokens: &'a [Token<Bracket>],
     options: MatchOptions,
-    text: &'a str,
-    // a component starts at the start of the text
-    opening: bool,
     rest: Chars<'a>,
     // the character last stepped over and the one before it: `/` comes before the text, too, where a component starts
     // there
@@ -36,8 +32,6 @@ impl<'a> TextJudge<'a> {
         TextJudge {
             tokens,
             options,
-            text,
-            opening,
             rest: text.chars(),
             current: if opening { '/' } else { '\0' },
             before: '/',
@@ -49,7 +43,6 @@ impl<'a> TextJudge<'a> {
     #[inline(always)]
     fn advance(&mut self) -> bool {
         // Named for the proof: what is left is UTF-8.
-        let _left = self.rest.as_str();
         let Some(c) = self.rest.next() else {
             return false;
         };

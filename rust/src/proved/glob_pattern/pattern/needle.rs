@@ -1,5 +1,6 @@
-//! Made by `bin/rust_crate` from `crates/glob_pattern/src/pattern/needle.rt`.
-//! Contracts are there, and their proofs in `crates/glob_pattern/proofs`; it is changed there alone.
+//! Made by `bin/rust_crate` from `crates/glob_pattern/src/pattern/needle.rt`, where its contracts are: sha256 1b761c17a4710399.
+//! `use crate::lanes::u8x16` is there `use std::simd::prelude::*`: SIMD of std is not stable, so `crate::lanes` has the
+//! one type that is used.
 //!
 //! Bytes of a pattern that each text it matches contains, searched for sixteen offsets at a time.
 

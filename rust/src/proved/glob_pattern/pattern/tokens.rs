@@ -1,5 +1,4 @@
-//! Made by `bin/rust_crate` from `crates/glob_pattern/src/pattern/tokens.rt`.
-//! Contracts are there, and their proofs in `crates/glob_pattern/proofs`; it is changed there alone.
+//! Made by `bin/rust_crate` from `crates/glob_pattern/src/pattern/tokens.rt`, where its contracts are: sha256 2acafebd48ac5326.
 //!
 //! The tokens of a pattern, one by one: how many there are, of which kind, and what each takes.
 

@@ -1,5 +1,4 @@
-//! Made by `bin/rust_crate` from `crates/glob_pattern/src/token/bracket.rt`.
-//! Contracts are there, and their proofs in `crates/glob_pattern/proofs`; it is changed there alone.
+//! Made by `bin/rust_crate` from `crates/glob_pattern/src/token/bracket.rt`, where its contracts are: sha256 5d49499239220761.
 //!
 //! Brackets: which characters they hold.
 
@@ -19,6 +18,15 @@ pub enum Entry {
 
 impl Entry {
     /// The first and the last character. A single character is both.
+    ///
+    /// <details><summary>Contract</summary>
+    ///
+    /// ```text
+    /// ensures first { result.0 ≡ first_of self }
+    /// ensures last { result.1 ≡ last_of self }
+    /// ```
+    ///
+    /// </details>
     pub fn ends(self) -> (char, char) {
         match self {
             Entry::Single(x) => (x, x),

@@ -1,5 +1,4 @@
-//! Made by `bin/rust_crate` from `crates/glob_pattern/src/token/taking.rt`.
-//! Contracts are there, and their proofs in `crates/glob_pattern/proofs`; it is changed there alone.
+//! Made by `bin/rust_crate` from `crates/glob_pattern/src/token/taking.rt`, where its contracts are: sha256 eb3de1ecba3b4931.
 //!
 //! Which characters a token takes under the options.
 

@@ -1,5 +1,4 @@
-//! Made by `bin/rust_crate` from `crates/glob_set/src/braces/counting.rt`.
-//! Contracts are there, and their proofs in `crates/glob_set/proofs`; it is changed there alone.
+//! Made by `bin/rust_crate` from `crates/glob_set/src/braces/counting.rt`, where its contracts are: sha256 41d8fbc7c3994934.
 //!
 //! How many alternatives lexemes have, and whether their braces are balanced.
 

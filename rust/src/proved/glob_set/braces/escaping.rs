@@ -1,5 +1,4 @@
-//! Made by `bin/rust_crate` from `crates/glob_set/src/braces/escaping.rt`.
-//! Contracts are there, and their proofs in `crates/glob_set/proofs`; it is changed there alone.
+//! Made by `bin/rust_crate` from `crates/glob_set/src/braces/escaping.rt`, where its contracts are: sha256 70e2361acea78525.
 //!
 //! Texts escaped, as patterns with braces that match themselves.
 

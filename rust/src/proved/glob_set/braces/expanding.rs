@@ -1,5 +1,4 @@
-//! Made by `bin/rust_crate` from `crates/glob_set/src/braces/expanding.rt`.
-//! Contracts are there, and their proofs in `crates/glob_set/proofs`; it is changed there alone.
+//! Made by `bin/rust_crate` from `crates/glob_set/src/braces/expanding.rt`, where its contracts are: sha256 32327eadbad1ecdd.
 //!
 //! The alternatives of lexemes.
 

@@ -1,5 +1,4 @@
-//! Made by `bin/rust_crate` from `crates/glob_set/src/braces/lexemes.rt`.
-//! Contracts are there, and their proofs in `crates/glob_set/proofs`; it is changed there alone.
+//! Made by `bin/rust_crate` from `crates/glob_set/src/braces/lexemes.rt`, where its contracts are: sha256 f1dc4aad068b448d.
 //!
 //! What each character of a text means to braces.
 

@@ -1,5 +1,4 @@
-//! Made by `bin/rust_crate` from `crates/glob_set/src/set/asking.rt`.
-//! Contracts are there, and their proofs in `crates/glob_set/proofs`; it is changed there alone.
+//! Made by `bin/rust_crate` from `crates/glob_set/src/set/asking.rt`, where its contracts are: sha256 b167efa649b03ca4.
 //!
 //! Asking the patterns of a set that may match a text.
 

@@ -1,5 +1,4 @@
-//! Made by `bin/rust_crate` from `crates/glob_walk/src/frame/tasks.rt`.
-//! Contracts are there, and their proofs in `crates/glob_walk/proofs`; it is changed there alone.
+//! Made by `bin/rust_crate` from `crates/glob_walk/src/frame/tasks.rt`, where its contracts are: sha256 c1ffa00daf78e4e4.
 //!
 //! The tasks that come of a directory's entries, and of `.` and `..` in it.
 //!

@@ -1,5 +1,4 @@
-//! Made by `bin/rust_crate` from `crates/glob_pattern/src/pattern/char_masks/row.rt`.
-//! Contracts are there, and their proofs in `crates/glob_pattern/proofs`; it is changed there alone.
+//! Made by `bin/rust_crate` from `crates/glob_pattern/src/pattern/char_masks/row.rt`, where its contracts are: sha256 4649933c91cc8281.
 //!
 //! A row of masks: for each class of characters, which of 63 neighbouring tokens take its characters.
 
@@ -36,12 +35,12 @@ pub fn fill(row: &mut [u64], classes: Classes<'_>, tokens: &[Token<Bracket>], st
     for n in start..tokens.len().min(start.saturating_add(WORD)) {
         kinds = list_token(row, classes, kinds, n - start, &tokens[n], case_sensitive);
     }
-    finish(row, classes, kinds, case_sensitive);
+    finish(row, classes, kinds);
 }
 
 /// Makes the masks of the tokens that list a character those of the tokens that take it.
 #[inline(always)]
-fn finish(row: &mut [u64], classes: Classes<'_>, kinds: Kinds, case_sensitive: bool) {
+fn finish(row: &mut [u64], classes: Classes<'_>, kinds: Kinds) {
     let separator = (row[classes.class('/')] & !kinds.brackets) | kinds.recursive;
     let dot = row[classes.class('.')] & !kinds.brackets;
     invert(row, kinds.others);

@@ -1,5 +1,4 @@
-//! Made by `bin/rust_crate` from `crates/glob_pattern/src/pattern/judge/mask_judge.rt`.
-//! Contracts are there, and their proofs in `crates/glob_pattern/proofs`; it is changed there alone.
+//! Made by `bin/rust_crate` from `crates/glob_pattern/src/pattern/judge/mask_judge.rt`, where its contracts are: sha256 994f2f8a0d6fb22d.
 //!
 //! A judge that asks all tokens of a word at once.
 
@@ -11,8 +10,6 @@ use crate::proved::glob_pattern::pattern::char_masks::{CharMasks, Rows};
 pub struct MaskJudge<'a> {
     judge: TextJudge<'a>,
     rows: Rows<'a>,
-    // how many words the masks have
-    words: usize,
     // the class of the character last stepped over
     class: usize,
 }
@@ -20,9 +17,9 @@ pub struct MaskJudge<'a> {
 impl<'a> MaskJudge<'a> {
     /// The judge, which has not stepped, with the masks of its tokens, of so many words.
     #[inline(always)]
-    pub fn new(judge: TextJudge<'a>, masks: &'a CharMasks, words: usize) -> Self {
+    pub fn new(judge: TextJudge<'a>, masks: &'a CharMasks) -> Self {
         let rows = masks.rows(judge.options.case_sensitive);
-        MaskJudge { judge, rows, words, class: 0 }
+        MaskJudge { judge, rows, class: 0 }
     }
 }
 

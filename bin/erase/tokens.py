@@ -1,0 +1,56 @@
+"""The tokens of a source: Rust's, and contracts and ghost lines as a token each."""
+import re
+from typing import NamedTuple
+
+TOKEN = re.compile(r"""
+    (?P<space>\s+)
+  | (?P<comment>//[^\n]*)
+  | (?P<text>b?"(?:\\[\s\S]|[^"\\])*"|br?"[^"]*")
+  | (?P<char>b?'(?:\\u\{\w+\}|\\x..|\\.|[^'\\])')
+  | (?P<life>'\w+)
+  | (?P<number>\d\w*(?:\.\d\w*)?)
+  | (?P<name>[^\W\d]\w*)
+  | (?P<mark>\.\.=|\.\.\.|<<=|>>=|::|->|=>|==|!=|<=|>=|&&|\|\||\.\.|\+=|-=|\*=|/=|%=|\^=|&=|\|=|<<|[-+*/%^!&|=<>@.,;:\#$?~(){}\[\]])
+""", re.X)
+
+
+class Token(NamedTuple):
+    kind: str
+    text: str
+    start: int
+    end: int
+
+
+def tokens(source):
+    """The tokens, without spaces; comments are among them. A contract is `requires` or `ensures` with all of its braces."""
+    found, at = [], 0
+    while at < len(source):
+        part = TOKEN.match(source, at)
+        if not part:
+            raise SyntaxError(f"no token: {source[at:at + 40]!r}")
+        kind, end = part.lastgroup, part.end()
+        if kind == "name" and part[0] in ("requires", "ensures"):
+            kind, end = "contract", closed(source, max(source.find("{", at), at))
+        elif kind == "name" and part[0] == "ghost":
+            kind, end = "ghost", ghost_end(source, at)
+        if kind != "space":
+            found.append(Token(kind, source[at:end], at, end))
+        at = end
+    return found
+
+
+def closed(source, at):
+    """The place after the brace that closes the one at a place. In contracts a brace is always a bracket."""
+    level = 0
+    for place in range(at, len(source)):
+        level += (source[place] == "{") - (source[place] == "}")
+        if level == 0:
+            return place + 1
+    raise SyntaxError("a brace is not closed")
+
+
+def ghost_end(source, at):
+    """The place after the `;` or `,` that ends a ghost line."""
+    while source[at] not in ";,":
+        at = closed(source, at) if source[at] == "{" else at + 1
+    return at + 1
