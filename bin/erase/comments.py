@@ -56,7 +56,7 @@ def without_asides(lines, fails, facts, width, paths):
     for kind, part in groupby(numbered(lines), key=lambda line: line[0]):
         part = [line for _, line in part]
         if kind[0] == "code" and part[0] == "```text":
-            out += ["```text", *example(part[1:-1], facts).split("\n"), "```"]
+            out += fenced(example(part[1:-1], facts), facts.public)
         elif kind[0] == "prose":
             out += prose(part, fails, facts, width, paths)
         else:
@@ -77,6 +77,15 @@ def numbered(lines):
         kind, code = now, code ^ fence
         found.append(((kind, number), line))
     return found
+
+
+def fenced(code, public):
+    """An example in its fence. One that asserts something is a test, with imports of what it names."""
+    if "assert" not in code:
+        return ["```text", *code.split("\n"), "```"]
+    paths = sorted({public[token.text] for token in Parser(code).tokens if token.text in public})
+    ends = ["# Ok::<(), Box<dyn std::error::Error>>(())"] if "?" in code else []
+    return ["```", *(f"# use {path};" for path in paths), *code.split("\n"), *ends, "```"]
 
 
 def example(lines, facts):

@@ -322,8 +322,8 @@ class Eraser:
         self.arguments(node, node.name)
 
     def visit_macro(self, node):
-        if node.memory:
-            self.edits.put(node.memory_start, node.memory_end)
+        if node.first:
+            self.cut(node.first)
         for argument in node.arguments:
             self.visit(argument)
         if node.count:

@@ -74,26 +74,33 @@ def heads_of(parser):
 # In one file
 
 def with_traits(text):
-    """With functions that are of a trait in Rust in an `impl` of that."""
+    """With functions that are of a trait in Rust in an `impl` of that, at the end, and neighbouring `impl`s as one."""
     parser = parsed(text)
-    edits = Edits(text)
+    edits, traits = Edits(text), []
+    last_block = None
     for block in parser.tree.items:
         if block.kind != "impl" or block.of:
+            last_block = None
             continue
         moved = [item for item in block.items if item.kind == "fn" and (item.name, len(item.params)) in TRAITS]
         for item in moved:
-            edits.drop(*with_comments(parser, item))
             start, end = with_comments(parser, item)
+            edits.drop(start, end)
             said = text[start:item.plain_start] + text[item.visible.end if item.visible else item.plain_start:end]
             error = ""
             if item.name == "from_str":
                 error = f"type Err = {text[item.answer.segments[-1].arguments.types[1].start:item.answer.end - 1]};\n\n"
             kind = text[block.type.start:block.type.end]
-            trait = TRAITS[item.name, len(item.params)]
-            edits.put(block.end, block.end, f"\n\nimpl {trait} for {kind} {{\n{error}{said}\n}}")
-        if moved and len(moved) == len(block.items):
-            edits.put(block.start, block.end)
-    return edits.result()
+            traits.append(f"\nimpl {TRAITS[item.name, len(item.params)]} for {kind} {{\n{error}{said}\n}}\n")
+        head = text[block.start:block.open]
+        if len(moved) == len(block.items):
+            edits.drop(block.start, block.end)
+        elif last_block and text[last_block.start:last_block.open] == head and not text[last_block.end:block.start].strip():
+            edits.put(last_block.end - 1, block.open, "\n")
+            last_block = block
+        else:
+            last_block = block
+    return edits.result() + "".join(traits)
 
 
 class Crate:

@@ -863,11 +863,12 @@ class Parser:
         node = Node("macro", path.start, name=path.segments[-1].name, memory=None, arguments=[], pattern=None, count=None)
         self.take()
         close = {"(": ")", "[": "]", "{": "}"}[self.take()]
-        start = self.here()
+        start, node.first = self.here(), None
         if self.take("in"):
             node.memory = self.expression()
+        if node.memory or self.peek() == "rt" and self.peek(1) == ";" and self.take():
             self.want(";")
-            node.memory_start, node.memory_end = start, self.tokens[self.at - 1].end
+            node.first = self.done(Node("first", start))
         while not self.take(close):
             if node.arguments and node.name in PATTERN_MACROS:
                 node.pattern = self.pattern()

@@ -48,9 +48,7 @@ impl Pattern {
     pub fn as_str(&self) -> &str {
         self.text.as_str()
     }
-}
 
-impl Pattern {
     /// Parses a pattern. So `src/**/*.rs` is accepted, and `src/**.rs` is not.
     ///
     /// The error is [`PatternError`] if the text is not accepted, with its first fault from the left, whose place
@@ -130,6 +128,12 @@ impl Pattern {
     }
 }
 
+/// The character that the token of this number is, counted from 0, or `None` if it is a wildcard or a bracket, or there
+/// is none: of `a*.rs` it is `.` at 2.
+pub fn literal_at(pattern: &Pattern, number: usize) -> Option<char> {
+    pattern.compiled.literal_at(number)
+}
+
 impl std::str::FromStr for Pattern {
     type Err = PatternError;
 
@@ -176,10 +180,4 @@ impl Clone for Pattern {
     fn clone(&self) -> Self {
         Pattern { text: self.text.clone(), compiled: self.compiled.clone() }
     }
-}
-
-/// The character that the token of this number is, counted from 0, or `None` if it is a wildcard or a bracket, or there
-/// is none: of `a*.rs` it is `.` at 2.
-pub fn literal_at(pattern: &Pattern, number: usize) -> Option<char> {
-    pattern.compiled.literal_at(number)
 }

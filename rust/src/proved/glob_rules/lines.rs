@@ -69,9 +69,7 @@ impl Line {
     fn nothing() -> Self {
         Line { outcome: Outcome::Nothing, negative: false, directories: false, glob: Vec::new() }
     }
-}
 
-impl Line {
     /// The line of these bytes.
     ///
     /// <details><summary>Contract</summary>

@@ -48,9 +48,7 @@ impl Reading {
         let front: &[u8] = if path { &[] } else { &[b'*', b'*', b'/'] };
         Reading { mode: Mode::Units(path, path), spans: Vec::new(), glob: Vec::from(front) }
     }
-}
 
-impl Reading {
     /// Reads one byte, where `ahead` is what follows it, up to the next `]` or the end.
     fn advance(&mut self, c: u8, ahead: &[u8]) {
         let step = step_from(self.mode, c, ahead);

@@ -93,9 +93,7 @@ impl PatternSet {
     pub fn is_empty(&self) -> bool {
         self.patterns.len() == 0
     }
-}
 
-impl PatternSet {
     /// A set of these patterns, in this order.
     ///
     /// <details><summary>Contract</summary>

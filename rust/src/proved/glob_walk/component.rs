@@ -42,9 +42,7 @@ impl Component {
             Form::Literal(_) | Form::Wild(_) => false,
         }
     }
-}
 
-impl Component {
     /// Reads a component. One with a fault is refused with it.
     pub fn read(text: &str) -> Result<Self, PatternError> {
         let form = if is_literal(text) {

@@ -239,9 +239,7 @@ impl WalkMachine {
         self.over = step.is_last();
         step
     }
-}
 
-impl WalkMachine {
     /// The path that is asked for, as `a` where the entries of the directory `a` are, and the empty text where no
     /// question is open.
     ///

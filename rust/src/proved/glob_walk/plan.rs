@@ -36,9 +36,7 @@ impl Plan {
             directories: ends_in_separator(pattern),
         })
     }
-}
 
-impl Plan {
     /// The path at which the walk starts: the root, or the current directory.
     pub fn start(&self) -> &'static str {
         if self.rooted {

@@ -80,12 +80,6 @@ impl Automaton {
     }
 }
 
-impl Clone for Automaton {
-    fn clone(&self) -> Self {
-        Automaton { first: self.first, words: self.words.clone(), accepting: self.accepting, masks: self.masks.clone() }
-    }
-}
-
 /// The bit of the last token before number `end`, in its word, if it is a wildcard whose pieces end anywhere.
 fn free_end(tokens: &[Token<Bracket>], end: usize) -> u64 {
     if end == 0 {
@@ -96,5 +90,11 @@ fn free_end(tokens: &[Token<Bracket>], end: usize) -> u64 {
         Shape::Run => last,
         Shape::Deep if end == tokens.len() => last,
         Shape::One | Shape::Deep => 0,
+    }
+}
+
+impl Clone for Automaton {
+    fn clone(&self) -> Self {
+        Automaton { first: self.first, words: self.words.clone(), accepting: self.accepting, masks: self.masks.clone() }
     }
 }

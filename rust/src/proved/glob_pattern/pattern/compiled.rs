@@ -38,9 +38,7 @@ impl Compiled {
             _ => None,
         }
     }
-}
 
-impl Compiled {
     /// Compiles the tokens.
     pub fn new(tokens: Vec<Token<Bracket>>) -> Self {
         let list = tokens.as_slice();
@@ -111,6 +109,14 @@ impl Compiled {
     }
 }
 
+/// Whether the tokens match the text, and how many questions it takes, by their shapes as bits.
+#[inline(always)]
+fn ask_all(tokens: &[Token<Bracket>], words: &[ShapeWord], text: &str, options: MatchOptions) -> (bool, u128) {
+    let mut judge = TextJudge::new(tokens, text, true, options);
+    let answer = decide(words, Span::all(tokens.len()), &mut judge);
+    (answer, judge.asked())
+}
+
 impl Clone for Compiled {
     fn clone(&self) -> Self {
         Compiled {
@@ -120,12 +126,4 @@ impl Clone for Compiled {
             automaton: self.automaton.clone(),
         }
     }
-}
-
-/// Whether the tokens match the text, and how many questions it takes, by their shapes as bits.
-#[inline(always)]
-fn ask_all(tokens: &[Token<Bracket>], words: &[ShapeWord], text: &str, options: MatchOptions) -> (bool, u128) {
-    let mut judge = TextJudge::new(tokens, text, true, options);
-    let answer = decide(words, Span::all(tokens.len()), &mut judge);
-    (answer, judge.asked())
 }
