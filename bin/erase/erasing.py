@@ -4,8 +4,11 @@ from .facts import is_allocator, last, memory_result
 
 # Functions of std that have another name where nothing fails.
 RENAMED = {("Vec", "from_slice"): "from", ("String", "from_str"): "from"}
+# Functions that Rust has in a trait.
+OF_TRAITS = {"clone", "default", "from_str"}
 # Left to hands: traits that have more methods in Rust.
-BY_HAND = {("Error", "PatternError"), ("Error", "GlobError"), ("Display", "Pattern"), ("Debug", "Pattern")}
+BY_HAND = {("Error", "PatternError"), ("Error", "GlobError"), ("Display", "Pattern"), ("Debug", "Pattern"),
+    ("Error", "SetRefusal"), ("Error", "BraceSetRefusal")}
 
 
 class Eraser:
@@ -177,6 +180,10 @@ class Eraser:
             self.edits.put(node.head_end, end, " " if node.body else "")
             if self.is_exported(node):
                 self.state(node)
+        if self.is_exported(node) and node.answer and last(node.answer) != "Result" and node.name not in OF_TRAITS \
+                and not any(self.text[param.start:param.end].startswith("&mut self") or param.type is not None
+                and param.type.kind == "ref" and param.type.mut for param in node.params):
+            self.edits.put(node.plain_start, node.plain_start, "#[must_use]\n")
         for part in (*node.attributes, node.generics, node.where):
             if part:
                 self.visit(part)

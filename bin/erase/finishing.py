@@ -227,24 +227,23 @@ class Crate:
 
     def items(self, files, edits):
         """Without functions that none of those that stay names, and types and constants that nothing names."""
-        live, found, bodies = set(), set(), {}
+        live, found, bodies = set(), {(None, name) for name in self.exports(files)}, {}
         count = sum((names_of(parser) for parser in files.values()), Counter())
         for parser in files.values():
             for node, owner in owned(parser.tree):
                 if node.kind == "fn":
-                    bodies.setdefault((owner is not None, node.name), []).append(node)
+                    bodies.setdefault(key_of(node, owner), []).append((node, owner))
                     if node.in_trait or self.is_exported(parser, node, owner):
-                        found.add((owner is not None, node.name))
+                        found.add(key_of(node, owner))
                 elif node.kind in ("const", "struct", "enum"):
-                    found |= named_functions(node)
-        found |= {(False, name) for name in self.exports(files)}
+                    found |= named_functions(node, owner)
         while found:
             live |= found
-            found = {name for one in found for body in bodies.get(one, []) for name in named_functions(body)} - live
+            found = {name for one in found for body in bodies.get(one, []) for name in named_functions(*body)} - live
         for key, parser in files.items():
             for node, owner in owned(parser.tree):
                 if node.kind == "impl" and not node.items and not node.of \
-                        or node.kind == "fn" and not node.in_trait and (owner is not None, node.name) not in live \
+                        or node.kind == "fn" and not node.in_trait and key_of(node, owner) not in live \
                         or node.kind in ("enum", "struct", "const", "type") and not owner and node.name not in self.by_hand \
                         and count[node.name] <= self.own(node, files):
                     edits[key].drop(*with_comments(parser, node))
@@ -343,15 +342,21 @@ class Crate:
                         self.imported.add((*root, *path[1:]))
 
 
-def named_functions(node):
-    """The functions that a node names: whether each is of a type, and its name."""
+def key_of(function, owner):
+    """A function by the type that it is of, where it is one, and by its name; a method by its name."""
+    return "self" if takes_self(function) else owner, function.name
+
+
+def named_functions(node, owner):
+    """The functions that a node names."""
     found = set()
     for part in node.walk():
         if part.kind == "method":
-            found.add((True, part.name))
+            found.add(("self", part.name))
         elif part.kind == "path":
             names = [segment.name for segment in part.segments]
-            found.add((len(names) > 1 and names[-2][:1].isupper(), names[-1]))
+            kind = names[-2] if len(names) > 1 and names[-2][:1].isupper() else None
+            found |= {(owner if kind == "Self" else kind, names[-1])} | ({("self", names[-1])} if kind else set())
     return found
 
 

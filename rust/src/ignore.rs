@@ -37,3 +37,29 @@ impl Default for IgnoreList {
         IgnoreList::new("").expect("no line is refused")
     }
 }
+
+impl IgnoreList {
+    /// The rules of a text without the lines that are refused, and why each of these is, as for a file of somebody else.
+    ///
+    /// ```
+    /// use cadmiumdove::ignore::IgnoreList;
+    ///
+    /// let (list, refused) = IgnoreList::lenient("*.o\n[é]\ntarget/\n");
+    /// assert!(list.is_ignored("a.o", false) && list.is_ignored("target", true));
+    /// assert_eq!(refused[0].to_string(), IgnoreList::new("*.o\n[é]\ntarget/\n").unwrap_err().to_string());
+    /// assert_eq!(list.deciding_rule("target", true).map(|rule| rule.line), Some(3));
+    /// ```
+    pub fn lenient(text: &str) -> (Self, Vec<RuleRefusal>) {
+        let (mut kept, mut refused) = (String::new(), Vec::new());
+        for (number, line) in text.split_inclusive('\n').enumerate() {
+            match IgnoreList::new(line) {
+                Ok(_) => kept.push_str(line),
+                Err(RuleRefusal::Line(_, reason)) => {
+                    refused.push(RuleRefusal::Line(number + 1, reason));
+                    kept.push('\n');
+                }
+            }
+        }
+        (IgnoreList::new(&kept).expect("each line was read"), refused)
+    }
+}

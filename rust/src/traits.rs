@@ -1,14 +1,14 @@
 //! Traits of Rust's library that the proved sources have no use for.
 
+use std::error::Error;
 use std::fmt;
-use std::hash::{Hash, Hasher};
 use std::iter::FusedIterator;
 use std::slice;
 use std::str::FromStr;
 
 use crate::ignore::{IgnoreList, RuleRefusal};
 use crate::set::{BraceSetRefusal, PatternSet, SetRefusal};
-use crate::walk::{Entry, Name, Paths, Tree};
+use crate::walk::{Name, Paths, Tree};
 use crate::{MatchOptions, Pattern, PatternError};
 
 /// The pattern's text.
@@ -40,20 +40,6 @@ impl TryFrom<&str> for Pattern {
     }
 }
 
-impl Clone for PatternError {
-    fn clone(&self) -> Self {
-        PatternError { pos: self.pos, msg: self.msg }
-    }
-}
-
-impl PartialEq for PatternError {
-    fn eq(&self, other: &Self) -> bool {
-        (self.pos, self.msg) == (other.pos, other.msg)
-    }
-}
-
-impl Eq for PatternError {}
-
 /// The set of the patterns, in their order, under [`MatchOptions::new`].
 ///
 /// ```
@@ -80,46 +66,33 @@ impl<'a> IntoIterator for &'a PatternSet {
     }
 }
 
-impl Clone for SetRefusal {
-    fn clone(&self) -> Self {
-        let SetRefusal::Syntax(number, error) = self;
-        SetRefusal::Syntax(*number, error.clone())
+/// Its source is the fault of the text.
+///
+/// ```
+/// use cadmiumdove::set::PatternSet;
+/// use cadmiumdove::MatchOptions;
+/// use std::error::Error;
+///
+/// let refusal = PatternSet::from_texts(["a", "["], MatchOptions::new()).unwrap_err();
+/// let fault = "Pattern syntax error near position 0: invalid range pattern";
+/// assert_eq!(refusal.source().unwrap().to_string(), fault);
+/// ```
+impl Error for SetRefusal {
+    fn source(&self) -> Option<&(dyn Error + 'static)> {
+        let SetRefusal::Syntax(_, error) = self;
+        Some(error)
     }
 }
 
-impl PartialEq for SetRefusal {
-    fn eq(&self, other: &Self) -> bool {
-        let (SetRefusal::Syntax(number, error), SetRefusal::Syntax(others, fault)) = (self, other);
-        (number, error) == (others, fault)
-    }
-}
-
-impl Eq for SetRefusal {}
-
-impl Clone for BraceSetRefusal {
-    fn clone(&self) -> Self {
+/// Its source is the fault of the text or of its alternative.
+impl Error for BraceSetRefusal {
+    fn source(&self) -> Option<&(dyn Error + 'static)> {
         match self {
-            BraceSetRefusal::Braces(number, error) => BraceSetRefusal::Braces(*number, *error),
-            BraceSetRefusal::Pattern(number, alternative, error) => {
-                BraceSetRefusal::Pattern(*number, *alternative, error.clone())
-            }
+            BraceSetRefusal::Braces(_, error) => Some(error),
+            BraceSetRefusal::Pattern(_, _, error) => Some(error),
         }
     }
 }
-
-impl PartialEq for BraceSetRefusal {
-    fn eq(&self, other: &Self) -> bool {
-        match (self, other) {
-            (BraceSetRefusal::Braces(n, error), BraceSetRefusal::Braces(m, fault)) => (n, error) == (m, fault),
-            (BraceSetRefusal::Pattern(n, i, error), BraceSetRefusal::Pattern(m, j, fault)) => {
-                (n, i, error) == (m, j, fault)
-            }
-            _ => false,
-        }
-    }
-}
-
-impl Eq for BraceSetRefusal {}
 
 /// As [`IgnoreList::new`].
 ///
@@ -135,55 +108,6 @@ impl FromStr for IgnoreList {
 
     fn from_str(text: &str) -> Result<Self, RuleRefusal> {
         IgnoreList::new(text)
-    }
-}
-
-impl Clone for RuleRefusal {
-    fn clone(&self) -> Self {
-        let RuleRefusal::Line(line, reason) = self;
-        RuleRefusal::Line(*line, *reason)
-    }
-}
-
-impl PartialEq for RuleRefusal {
-    fn eq(&self, other: &Self) -> bool {
-        let (RuleRefusal::Line(line, reason), RuleRefusal::Line(others, why)) = (self, other);
-        (line, reason) == (others, why)
-    }
-}
-
-impl Eq for RuleRefusal {}
-
-impl Clone for Name {
-    fn clone(&self) -> Self {
-        crate::proved::glob_tree::copy_name(self)
-    }
-}
-
-impl PartialEq for Name {
-    fn eq(&self, other: &Self) -> bool {
-        self.as_str() == other.as_str()
-    }
-}
-
-impl Eq for Name {}
-
-/// In the order of bytes, as walks have them.
-impl PartialOrd for Name {
-    fn partial_cmp(&self, other: &Self) -> Option<std::cmp::Ordering> {
-        Some(self.cmp(other))
-    }
-}
-
-impl Ord for Name {
-    fn cmp(&self, other: &Self) -> std::cmp::Ordering {
-        self.as_str().cmp(other.as_str())
-    }
-}
-
-impl Hash for Name {
-    fn hash<H: Hasher>(&self, state: &mut H) {
-        self.as_str().hash(state);
     }
 }
 
@@ -215,20 +139,6 @@ impl TryFrom<String> for Name {
         Name::new(text)
     }
 }
-
-impl Clone for Entry {
-    fn clone(&self) -> Self {
-        Entry { name: self.name.clone(), is_dir: self.is_dir }
-    }
-}
-
-impl PartialEq for Entry {
-    fn eq(&self, other: &Self) -> bool {
-        (&self.name, self.is_dir) == (&other.name, other.is_dir)
-    }
-}
-
-impl Eq for Entry {}
 
 /// After `None` comes only `None`.
 impl<T: Tree> FusedIterator for Paths<T> {}

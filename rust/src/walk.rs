@@ -6,18 +6,18 @@
 //! entries are charged:
 //!
 //! ```
-//! use cadmiumdove::walk::{glob_in, Disk, GlobCause};
+//! use cadmiumdove::walk::{glob_in, spent, Disk, GlobCause};
 //! use cadmiumdove::MatchOptions;
 //!
 //! let mut paths = glob_in(Disk::new(), "src/**/*.rs", MatchOptions::new(), 10_000)?;
 //! for item in &mut paths {
 //!     match item {
 //!         Ok(path) => println!("{}", path.display()),
-//!         Err(error) if error.reason() == GlobCause::Limit => println!("too much to look at"),
+//!         Err(error) if GlobCause::of(&error) == GlobCause::Limit => println!("too much to look at"),
 //!         Err(error) => println!("{error}"),
 //!     }
 //! }
-//! assert!(paths.spent() <= 10_000);
+//! assert!(spent(&paths) <= 10_000);
 //! # Ok::<(), cadmiumdove::PatternError>(())
 //! ```
 //!
@@ -75,6 +75,40 @@ pub use crate::disk::Disk;
 pub use crate::proved::glob::paths::{glob_in, Paths};
 pub use crate::proved::glob_tree::{Entry, Look, Name, Tree};
 pub use crate::proved::glob_walk::{is_plain, Answer, GlobCause, GlobError, GlobResult, Step, WalkMachine};
+
+impl GlobCause {
+    /// Why a path is an error of a walk: where a directory cannot be listed, `Read`.
+    ///
+    /// ```
+    /// use cadmiumdove::walk::{glob_in, Disk, GlobCause};
+    /// use cadmiumdove::MatchOptions;
+    ///
+    /// let mut paths = glob_in(Disk::new(), "*", MatchOptions::new(), 0).unwrap();
+    /// let error = paths.next().unwrap().unwrap_err();
+    /// assert_eq!(GlobCause::of(&error), GlobCause::Limit);
+    /// ```
+    pub fn of(error: &GlobError) -> Self {
+        error.reason()
+    }
+}
+
+/// How many units of work a walk was charged: never more than its limit, and 0 before the first call of `next`.
+///
+/// ```
+/// use cadmiumdove::walk::{glob_in, spent, Disk};
+/// use cadmiumdove::MatchOptions;
+///
+/// let mut paths = glob_in(Disk::new(), "Cargo.toml", MatchOptions::new(), 100).unwrap();
+/// assert_eq!((spent(&paths), paths.by_ref().count(), spent(&paths)), (0, 1, 2));
+/// ```
+pub fn spent<T: Tree>(paths: &Paths<T>) -> u64 {
+    paths.spent()
+}
+
+/// How many items a walk gave: at most one more than it [`spent`].
+pub fn given<T: Tree>(paths: &Paths<T>) -> u128 {
+    paths.given()
+}
 
 /// So a walk leaves the tree to its caller.
 ///

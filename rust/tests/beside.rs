@@ -12,7 +12,9 @@ use cadmiumdove::ignore::{IgnoreList, Reason, Rule, RuleRefusal};
 use cadmiumdove::prune::{first_excluded, Exclusion, Pruned};
 use cadmiumdove::set::braces::BraceError;
 use cadmiumdove::set::{BraceSetRefusal, PatternSet, SetRefusal};
-use cadmiumdove::walk::{glob_in, is_plain, Answer, Disk, Entry, GlobCause, Look, Name, Step, Tree, WalkMachine};
+use cadmiumdove::walk::{
+    given, glob_in, is_plain, spent, Answer, Disk, Entry, GlobCause, Look, Name, Step, Tree, WalkMachine,
+};
 use cadmiumdove::{MatchOptions, Pattern};
 
 const NEW: MatchOptions = MatchOptions::new();
@@ -120,15 +122,15 @@ fn limits() {
     for limit in 0.. {
         let mut walk = glob_in(Files(&["x", "y"]), "*", NEW, limit).unwrap();
         let items: Vec<_> = walk.by_ref().collect();
-        assert!(walk.spent() <= limit && walk.given() as usize == items.len());
+        assert!(spent(&walk) <= limit && given(&walk) as usize == items.len());
         match items.last().unwrap() {
             Ok(path) => {
-                assert_eq!((path.as_path(), items.len(), walk.spent()), (Path::new("y"), 2, limit));
+                assert_eq!((path.as_path(), items.len(), spent(&walk)), (Path::new("y"), 2, limit));
                 needed = limit;
                 break;
             }
             Err(error) => {
-                assert_eq!((error.reason(), error.path()), (GlobCause::Limit, Path::new(".")));
+                assert_eq!((GlobCause::of(error), error.path()), (GlobCause::Limit, Path::new(".")));
                 assert_eq!(error.to_string(), "attempting to read `.` resulted in an error: walk limit reached");
             }
         }

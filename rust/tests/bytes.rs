@@ -97,7 +97,7 @@ fn a_directory_that_vanishes_after_it_was_listed_is_an_error() {
     fs::remove_dir_all(root.join("b")).unwrap();
     let error = paths.next().unwrap().unwrap_err();
     assert_eq!((error.path(), error.error().kind()), (&*root.join("b"), ErrorKind::NotFound));
-    assert_eq!(error.reason(), GlobCause::Read);
+    assert_eq!(GlobCause::of(&error), GlobCause::Read);
     assert!(error.source().is_none());
     let cause = error.error();
     #[allow(deprecated)]

@@ -14,9 +14,15 @@ fn tables(path: &str) -> PathBuf {
     Path::new(env!("CARGO_MANIFEST_DIR")).join("tests/tables").join(path)
 }
 
-/// The letters of options after a dash.
+/// Options by letters after a dash: `i` for either case, `s` for the separator rule, `d` for the dot rule.
 fn options(setting: &str) -> MatchOptions {
-    MatchOptions::from_letters(setting.strip_prefix('-').unwrap()).unwrap()
+    let letters = setting.strip_prefix('-').unwrap();
+    assert!(letters.chars().all(|letter| "isd".contains(letter)), "{setting}");
+    MatchOptions {
+        case_sensitive: !letters.contains('i'),
+        require_literal_separator: letters.contains('s'),
+        require_literal_leading_dot: letters.contains('d'),
+    }
 }
 
 /// Whether a row of a table is what this crate says.
@@ -110,7 +116,7 @@ fn pieces() {
     for row in table.lines().filter(|line| !line.starts_with('#')) {
         let [field, letters, pattern, text, wanted] = row.split('|').collect::<Vec<_>>()[..] else { panic!("{row}") };
         let text = text.replace("LONGEST", &"\u{10fffe}".repeat(4_194_304));
-        let (pattern, options) = (Pattern::new(pattern).unwrap(), MatchOptions::from_letters(letters).unwrap());
+        let (pattern, options) = (Pattern::new(pattern).unwrap(), options(&format!("-{letters}")));
         let found: Vec<String> = match field {
             "pieces" => match captures(&pattern, &text, options).unwrap() {
                 Some(pieces) => pieces.iter().map(|piece| piece.end.to_string()).collect(),

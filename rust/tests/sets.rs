@@ -78,7 +78,7 @@ fn a_set_answers_as_its_patterns_do() {
         texts.extend(longest.iter().flat_map(|text| ["a", "B", "/", ".", "é"].map(|next| format!("{text}{next}"))));
     }
     for bits in 0..8 {
-        let options = MatchOptions::from_bits(bits);
+        let options = options(bits);
         let set = PatternSet::new(patterns.clone(), options);
         let mut numbers = Vec::new();
         for text in &texts {
@@ -102,7 +102,7 @@ fn a_large_set_answers_as_its_patterns_do() {
     texts.extend((0..450).step_by(9).map(|it| texts[it].to_uppercase()).collect::<Vec<_>>());
     texts.extend([16, 17, 40, 450].map(|count| texts[..count].join("/")));
     for bits in 0..8 {
-        let options = MatchOptions::from_bits(bits);
+        let options = options(bits);
         let set = PatternSet::new(patterns.clone(), options);
         for text in &texts {
             let expected = (0..patterns.len()).filter(|&number| patterns[number].matches_with(text, options));
@@ -119,4 +119,13 @@ fn most_alternatives() {
     let text = |commas| format!("{{{}}}", ",".repeat(commas));
     assert_eq!(braces::expand(&text(braces::MOST_ALTERNATIVES - 1)).map(|texts| texts.len()), Ok(1000));
     assert_eq!(braces::expand(&text(braces::MOST_ALTERNATIVES)), Err(BraceError::TooMany));
+}
+
+/// Options by bits: either case, the separator rule, the dot rule.
+fn options(bits: u32) -> MatchOptions {
+    MatchOptions {
+        case_sensitive: bits & 1 == 0,
+        require_literal_separator: bits & 2 != 0,
+        require_literal_leading_dot: bits & 4 != 0,
+    }
 }

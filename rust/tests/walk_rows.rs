@@ -5,7 +5,7 @@ use std::fs;
 use std::io::{self, ErrorKind};
 use std::path::{Path, PathBuf};
 
-use cadmiumdove::walk::{glob_in, Entry, GlobCause, GlobError, Look, Name, Tree};
+use cadmiumdove::walk::{self, glob_in, Entry, GlobCause, GlobError, Look, Name, Tree};
 use cadmiumdove::MatchOptions;
 
 /// A tree in memory: whether each path of names is a directory, and which directories cannot be listed.
@@ -102,7 +102,7 @@ fn expanded(word: &str) -> String {
 fn written(item: Result<PathBuf, GlobError>) -> String {
     match item {
         Ok(path) => path.to_str().unwrap().to_owned(),
-        Err(error) if error.reason() == GlobCause::Limit => format!("^{}", error.path().display()),
+        Err(error) if GlobCause::of(&error) == GlobCause::Limit => format!("^{}", error.path().display()),
         Err(error) => format!("!{}:{:?}", error.path().display(), error.error().kind()),
     }
 }
@@ -153,7 +153,7 @@ impl State {
                         let items: Vec<String> = items.split_whitespace().map(expanded).collect();
                         assert_eq!(found, items, "{pattern} {limit} {options:?}");
                         assert!(
-                            spent.is_none_or(|spent| spent.trim() == walk.spent().to_string()),
+                            spent.is_none_or(|units| units.trim() == walk::spent(&walk).to_string()),
                             "{pattern} {limit}"
                         );
                     }
@@ -165,9 +165,15 @@ impl State {
     }
 }
 
-/// The letters of options after a dash.
+/// Options by letters after a dash: `i` for either case, `s` for the separator rule, `d` for the dot rule.
 fn options(setting: &str) -> MatchOptions {
-    MatchOptions::from_letters(setting.strip_prefix('-').unwrap()).unwrap()
+    let letters = setting.strip_prefix('-').unwrap();
+    assert!(letters.chars().all(|letter| "isd".contains(letter)), "{setting}");
+    MatchOptions {
+        case_sensitive: !letters.contains('i'),
+        require_literal_separator: letters.contains('s'),
+        require_literal_leading_dot: letters.contains('d'),
+    }
 }
 
 #[test]

@@ -31,30 +31,12 @@ impl<T: Tree> Paths<T> {
     }
 
     /// How many units of work were charged: never more than the limit. It is 0 before the first call of `next`.
-    ///
-    /// <details><summary>Contract</summary>
-    ///
-    /// ```text
-    /// ensures spent { result ≡ self.now.spent }
-    /// ensures within { result ≤ self.now.limit }
-    /// ```
-    ///
-    /// </details>
-    pub fn spent(&self) -> u64 {
+    pub(crate) fn spent(&self) -> u64 {
         self.machine.spent()
     }
 
     /// How many items `next` gave, a refusal too: at most one more than `spent`. After two paths it is 2.
-    ///
-    /// <details><summary>Contract</summary>
-    ///
-    /// ```text
-    /// ensures given { result ≡ self.now.given }
-    /// ensures few { result ≤ self.now.spent + 1 }
-    /// ```
-    ///
-    /// </details>
-    pub fn given(&self) -> u128 {
+    pub(crate) fn given(&self) -> u128 {
         self.machine.given()
     }
 }

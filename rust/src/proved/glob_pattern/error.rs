@@ -37,7 +37,7 @@ impl PatternErrorKind {
 
 /// Where a text is no pattern, and why. For `a**` it has the place 0 and the message `recursive wildcards must form a
 /// single path component`, and is printed as `Pattern syntax error near position 0: ` and the message.
-#[derive(Debug)]
+#[derive(Debug, Clone, PartialEq, Eq)]
 pub struct PatternError {
     /// The place, in characters from 0.
     pub pos: usize,

@@ -26,64 +26,9 @@ impl MatchOptions {
     /// ```
     ///
     /// </details>
+    #[must_use]
     pub const fn new() -> Self {
         MatchOptions { case_sensitive: true, require_literal_separator: false, require_literal_leading_dot: false }
-    }
-
-    /// These options with the one that a letter sets, as on a command line: `i` case-insensitive, `s` the separator
-    /// rule, `d` the dot rule. `None` for another letter.
-    ///
-    /// <details><summary>Contract</summary>
-    ///
-    /// ```text
-    /// ensures { result ≡ with_letter letter self }
-    /// ```
-    ///
-    /// </details>
-    pub fn with_letter(self, letter: char) -> Option<Self> {
-        let mut options = self;
-        match letter {
-            'i' => options.case_sensitive = false,
-            's' => options.require_literal_separator = true,
-            'd' => options.require_literal_leading_dot = true,
-            _ => return None,
-        }
-        Some(options)
-    }
-
-    /// The options of `new()` with those that the letters set, in any order: `is` is case-insensitive, with the
-    /// separator rule. `None` if one is no letter of an option.
-    ///
-    /// <details><summary>Contract</summary>
-    ///
-    /// ```text
-    /// ensures { result ≡ with_letters letters.now new_options }
-    /// ```
-    ///
-    /// </details>
-    pub fn from_letters(letters: &str) -> Option<Self> {
-        let mut options = MatchOptions::new();
-        for letter in letters.as_bytes() {
-            options = options.with_letter(*letter as char)?;
-        }
-        Some(options)
-    }
-
-    /// The options of three bits: 1 case-insensitive, 2 the separator rule, 4 the dot rule. Other bits are ignored.
-    ///
-    /// <details><summary>Contract</summary>
-    ///
-    /// ```text
-    /// ensures { result ≡ options_of_bits bits }
-    /// ```
-    ///
-    /// </details>
-    pub const fn from_bits(bits: u32) -> Self {
-        MatchOptions {
-            case_sensitive: bits & 1 == 0,
-            require_literal_separator: bits & 2 == 2,
-            require_literal_leading_dot: bits & 4 == 4,
-        }
     }
 }
 

@@ -45,6 +45,7 @@ impl Pattern {
     /// ```
     ///
     /// </details>
+    #[must_use]
     pub fn as_str(&self) -> &str {
         self.text.as_str()
     }
@@ -102,29 +103,6 @@ impl Pattern {
     #[inline(always)]
     pub fn matches_with(&self, str: &str, options: MatchOptions) -> bool {
         self.compiled.matches(self.text.as_str(), str, options)
-    }
-
-    /// The answer of [`matches_with`](Self::matches_with), and how many questions it takes if the ends are not compared
-    /// beforehand: how often it is asked whether a token takes a character. Their number is at most the pattern's
-    /// characters times the text's, and for a match at least the text's characters. So `a` and the text `a` take one
-    /// question, and the answer is `(true, 1)`.
-    ///
-    /// <details><summary>Contract</summary>
-    ///
-    /// ```text
-    /// ensures answer { IfOk result
-    ///     (λ counted. IsTrue counted.0 ↔ Matches options (chars self.now) (chars str.now)) }
-    /// ensures most { IfOk result
-    ///     (λ counted. counted.1 ≤ length (chars self.now) * length (chars str.now)) }
-    /// ensures least { IfOk result
-    ///     (λ counted. IsTrue counted.0 → length (chars str.now) ≤ counted.1) }
-    /// ensures short { IsShort (chars self.now) → IsOk result }
-    /// ```
-    ///
-    /// </details>
-    #[inline(always)]
-    pub fn matches_counted(&self, str: &str, options: MatchOptions) -> (bool, u128) {
-        self.compiled.matches_counted(str, options)
     }
 }
 

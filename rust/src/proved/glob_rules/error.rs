@@ -36,7 +36,7 @@ impl fmt::Display for Reason {
 /// Why a text is refused as an ignore list, by [`IgnoreList::new`](crate::proved::glob_rules::IgnoreList::new). So the
 /// text `[é]` is refused with `Line`, the line 1 and [`Reason::BeyondAscii`], and prints as `line 1: a bracket names a
 /// character beyond ASCII`.
-#[derive(Debug)]
+#[derive(Debug, Clone, PartialEq, Eq)]
 pub enum RuleRefusal {
     /// The first line that is refused, counted from 1, and why.
     Line(usize, Reason),

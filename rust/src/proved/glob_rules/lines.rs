@@ -22,6 +22,7 @@ impl Line {
     /// ```
     ///
     /// </details>
+    #[must_use]
     pub fn outcome(&self) -> Outcome {
         self.outcome
     }
@@ -35,6 +36,7 @@ impl Line {
     /// ```
     ///
     /// </details>
+    #[must_use]
     pub fn negative(&self) -> bool {
         self.negative
     }
@@ -48,6 +50,7 @@ impl Line {
     /// ```
     ///
     /// </details>
+    #[must_use]
     pub fn directories(&self) -> bool {
         self.directories
     }
@@ -61,6 +64,7 @@ impl Line {
     /// ```
     ///
     /// </details>
+    #[must_use]
     pub fn glob(&self) -> &[u8] {
         self.glob.as_slice()
     }

@@ -4,14 +4,13 @@
 
 use crate::proved::glob_pattern::PatternError;
 use crate::proved::glob_set::braces::BraceError;
-use std::error::Error;
 use std::fmt;
 
 /// Why texts were refused as the patterns of a set, by
 /// [`PatternSet::from_texts`](crate::proved::glob_set::PatternSet::from_texts). So `*.o` and `[a` are refused with
 /// `Syntax`, the number 1 and the place 0, and that prints as `pattern 1: Pattern syntax error near position 0: invalid
 /// range pattern`.
-#[derive(Debug)]
+#[derive(Debug, Clone, PartialEq, Eq)]
 pub enum SetRefusal {
     /// The first text that is not accepted: its number, counted from 0, and its first fault from the left.
     Syntax(usize, PatternError),
@@ -28,11 +27,9 @@ impl fmt::Display for SetRefusal {
     }
 }
 
-impl Error for SetRefusal {}
-
 /// Why texts with braces were refused as the patterns of a set, by
 /// [`PatternSet::from_braces`](crate::proved::glob_set::PatternSet::from_braces). Numbers are counted from 0.
-#[derive(Debug)]
+#[derive(Debug, Clone, PartialEq, Eq)]
 pub enum BraceSetRefusal {
     /// The first text with a fault, by its number, and the fault of its braces: of `*.o` and `{a`, 1 and that the `{`
     /// at place 0 is not closed.
@@ -56,5 +53,3 @@ impl fmt::Display for BraceSetRefusal {
         }
     }
 }
-
-impl Error for BraceSetRefusal {}

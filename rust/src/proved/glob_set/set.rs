@@ -51,6 +51,7 @@ impl PatternSet {
     /// ```
     ///
     /// </details>
+    #[must_use]
     pub fn patterns(&self) -> &[Pattern] {
         self.patterns.as_slice()
     }
@@ -64,6 +65,7 @@ impl PatternSet {
     /// ```
     ///
     /// </details>
+    #[must_use]
     pub fn options(&self) -> MatchOptions {
         self.options
     }
@@ -77,6 +79,7 @@ impl PatternSet {
     /// ```
     ///
     /// </details>
+    #[must_use]
     pub fn len(&self) -> usize {
         self.patterns.len()
     }
@@ -90,6 +93,7 @@ impl PatternSet {
     /// ```
     ///
     /// </details>
+    #[must_use]
     pub fn is_empty(&self) -> bool {
         self.patterns.len() == 0
     }

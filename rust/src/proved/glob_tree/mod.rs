@@ -4,6 +4,6 @@ mod name;
 mod path_text;
 mod tree;
 
-pub use name::{copy_name, Name};
+pub use name::Name;
 pub use path_text::{begins_with_dot, child, join};
 pub use tree::{Entry, Look, Tree};

@@ -5,7 +5,7 @@
 /// A proper name, as an entry of a directory has: not empty, not `.`, not `..`, and without `/` and NUL.
 ///
 /// `a.rs` and `...` are names; `a/b` is none.
-#[derive(Debug)]
+#[derive(Debug, Clone, PartialEq, Eq, PartialOrd, Ord, Hash)]
 pub struct Name {
     text: String,
 }
@@ -41,23 +41,10 @@ impl Name {
     /// ```
     ///
     /// </details>
+    #[must_use]
     pub fn as_str(&self) -> &str {
         self.text.as_str()
     }
-}
-
-/// A copy of the name, as `a.rs` of `a.rs`.
-///
-/// <details><summary>Contract</summary>
-///
-/// ```text
-/// ensures { IfOk result (λ copy. copy ≡ name.now) }
-/// ```
-///
-/// </details>
-pub fn copy_name(name: &Name) -> Name {
-    let text = String::from(name.text.as_str());
-    Name { text }
 }
 
 /// Whether the text is a proper name: `a.rs` is, and `..` is not.

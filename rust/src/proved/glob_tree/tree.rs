@@ -27,13 +27,14 @@ impl Look {
     /// ```
     ///
     /// </details>
+    #[must_use]
     pub fn is_dir(self) -> bool {
         matches!(self, Look::Dir)
     }
 }
 
 /// An entry of a directory, as a listing returns it. The file `b` in it has the name `b`, and is no directory.
-#[derive(Debug)]
+#[derive(Debug, Clone, PartialEq, Eq)]
 pub struct Entry {
     /// Its name in the directory.
     pub name: Name,

@@ -51,6 +51,7 @@ impl GlobError {
     /// ```
     ///
     /// </details>
+    #[must_use]
     pub fn path(&self) -> &Path {
         self.path.as_path()
     }
@@ -65,6 +66,7 @@ impl GlobError {
     /// ```
     ///
     /// </details>
+    #[must_use]
     pub fn error(&self) -> &io::Error {
         &self.error
     }
@@ -79,12 +81,13 @@ impl GlobError {
     /// ```
     ///
     /// </details>
+    #[must_use]
     pub fn into_error(self) -> io::Error {
         self.error
     }
 
     /// Why the path could not be read: `Read` for a directory that may not be listed.
-    pub fn reason(&self) -> GlobCause {
+    pub(crate) fn reason(&self) -> GlobCause {
         self.cause
     }
 }

@@ -250,6 +250,7 @@ impl WalkMachine {
     /// ```
     ///
     /// </details>
+    #[must_use]
     pub fn path(&self) -> &str {
         match &self.walker.query {
             Some(query) => query.path.as_str(),
@@ -268,6 +269,7 @@ impl WalkMachine {
     /// ```
     ///
     /// </details>
+    #[must_use]
     pub fn spent(&self) -> u64 {
         self.walker.meter.spent
     }
@@ -283,6 +285,7 @@ impl WalkMachine {
     /// ```
     ///
     /// </details>
+    #[must_use]
     pub fn given(&self) -> u128 {
         self.given
     }

@@ -26,13 +26,6 @@ struct Live {
     high: usize,
 }
 
-impl Span {
-    /// So many shapes, from the first on.
-    pub fn all(count: usize) -> Self {
-        Span { end: count, accepting: 0 }
-    }
-}
-
 /// Whether the shapes before the span's end split the characters. Contracts alone read `tokens`, here and below: no
 /// body does.
 #[inline(always)]

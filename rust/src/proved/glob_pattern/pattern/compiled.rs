@@ -3,11 +3,9 @@
 //! What a match reads of a pattern, and how a match goes: the ends of the text are compared, a needle is searched for,
 //! and what is between goes through the automaton.
 
-use crate::proved::glob_pattern::matcher::{decide, shape_words, Judge, ShapeWord, Span, WORD};
 use crate::proved::glob_pattern::options::MatchOptions;
 use crate::proved::glob_pattern::pattern::automaton::Automaton;
 use crate::proved::glob_pattern::pattern::ends::Ends;
-use crate::proved::glob_pattern::pattern::judge::TextJudge;
 use crate::proved::glob_pattern::pattern::needle::Needle;
 use crate::proved::glob_pattern::token::bracket::Bracket;
 use crate::proved::glob_pattern::token::Token;
@@ -95,26 +93,6 @@ impl Compiled {
         let (answer, count) = self.automaton.matches(rest, between, part.text, part.opening, options);
         (answer, asked + count)
     }
-
-    /// Whether the tokens match the text, and how many questions it takes to ask all of them about all of it.
-    #[inline(never)]
-    pub fn matches_counted(&self, text: &str, options: MatchOptions) -> (bool, u128) {
-        let tokens = self.tokens.as_slice();
-        if tokens.len() <= WORD {
-            ask_all(tokens, &[ShapeWord::new(tokens, tokens.len(), 0)], text, options)
-        } else {
-            let words = shape_words(tokens, tokens.len());
-            ask_all(tokens, words.as_slice(), text, options)
-        }
-    }
-}
-
-/// Whether the tokens match the text, and how many questions it takes, by their shapes as bits.
-#[inline(always)]
-fn ask_all(tokens: &[Token<Bracket>], words: &[ShapeWord], text: &str, options: MatchOptions) -> (bool, u128) {
-    let mut judge = TextJudge::new(tokens, text, true, options);
-    let answer = decide(words, Span::all(tokens.len()), &mut judge);
-    (answer, judge.asked())
 }
 
 impl Clone for Compiled {

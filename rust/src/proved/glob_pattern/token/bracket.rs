@@ -27,6 +27,7 @@ impl Entry {
     /// ```
     ///
     /// </details>
+    #[must_use]
     pub fn ends(self) -> (char, char) {
         match self {
             Entry::Single(x) => (x, x),
