@@ -6,7 +6,7 @@ from textwrap import wrap
 from .edits import Edits
 from .erasing import Eraser
 from .facts import last
-from .syntax import Node, Parser
+from .syntax import Parser
 
 # What is said of memory, of asks that contracts count, and of what Rust's users do not have.
 SAID = re.compile(r"\b(alloc|[Aa]llocat\w*|AllocError|Memory|OutOfMemory|[Ff]ails only|succeeds)\b"
@@ -89,35 +89,20 @@ def fenced(code, public):
 
 
 def example(lines, facts):
-    """The lines of an example, erased as a file is or one by one. A drawing stays."""
+    """The lines of an example, erased as a block. A drawing stays."""
+    code = "\n".join(lines)
     try:
-        parser = Parser("\n".join(lines))
-        parser.tree = parser.file()
-        return re.sub(r"\n{2,}(?=\s*(fn|\}))", "\n", erased(parser, facts)).strip("\n")
+        parser = Parser(code)
+        made = erased(parser, parser.statements(), facts)
     except SyntaxError:
-        pass
-    try:
-        return "\n".join(example_line(line, facts) for line in lines)
-    except SyntaxError:
-        return "\n".join(lines)
+        return code
+    return re.sub(r"\n{2,}(?=\s*(fn|\}))", "\n", made).strip("\n")
 
 
-def example_line(line, facts):
-    code, mark, words = line.partition("//")
-    parser = Parser(code)
-    parser.tree = Node("file", 0, inner=[], items=[])
-    block = Node("block", 0, label=None, statements=[], tail=None)
-    while parser.at < len(parser.tokens):
-        parser.statement(block)
+def erased(parser, tree, facts):
     eraser = Eraser(parser, facts)
     eraser.memory_names = [{"alloc"}]
-    eraser.visit(block)
-    return eraser.edits.result() + mark + words
-
-
-def erased(parser, facts):
-    eraser = Eraser(parser, facts)
-    eraser.visit(parser.tree)
+    eraser.visit(tree)
     return eraser.edits.result()
 
 

@@ -358,7 +358,9 @@ class Parser:
 
     def item_macro(self):
         node = Node("item_macro", self.here())
-        self.expression()
+        if self.peek(1) != "!":
+            self.want("an item")
+        node.value = self.expression()
         self.take(";")
         return node
 
@@ -573,6 +575,13 @@ class Parser:
             self.statement(node)
         return self.done(node)
 
+    def statements(self):
+        """What a file is whose lines are those of a block."""
+        node = Node("block", 0, label=None, statements=[], tail=None)
+        while self.at < len(self.tokens):
+            self.statement(node)
+        return node
+
     def statement(self, block):
         start = self.here()
         if self.take(";"):
@@ -582,7 +591,8 @@ class Parser:
             attributes.append(self.attribute())
         if self.peek() == "let":
             node = self.let()
-        elif self.kind() == "ghost" or self.peek() in ("fn", "use", "const", "struct", "enum", "impl", "static"):
+        elif self.kind() == "ghost" or self.peek() in ("fn", "use", "const", "struct", "enum", "trait",
+                "impl", "static"):
             node = self.item()
         else:
             value = self.expression(statement=True)

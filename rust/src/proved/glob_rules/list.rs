@@ -11,11 +11,11 @@ use crate::proved::glob_set::PatternSet;
 /// The rules of one ignore file, as gitignore(5) has them, for the paths below its directory.
 ///
 /// ```text
-/// let list = IgnoreList::new(alloc, "*.o\ntarget/\n!keep.o\n")?;
-/// list.is_ignored("src/a.o", false)?         // true
-/// list.is_ignored("src/keep.o", false)?      // false
-/// list.is_ignored("target", false)?          // false
-/// list.is_ignored("target/keep.o", false)?   // true
+/// let list = IgnoreList::new("*.o\ntarget/\n!keep.o\n")?;
+/// list.is_ignored("src/a.o", false)         // true
+/// list.is_ignored("src/keep.o", false)      // false
+/// list.is_ignored("target", false)          // false
+/// list.is_ignored("target/keep.o", false)   // true
 /// ```
 ///
 /// A path is the names from the list's directory on, with `/` between them and none at its start or its end.

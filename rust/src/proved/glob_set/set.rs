@@ -23,9 +23,9 @@ use asking::{bits_for, earlier, later};
 /// those of the text.
 ///
 /// ```text
-/// let ignored = PatternSet::from_texts(alloc, &["**/*.o", "**/target/**"], options)?;
-/// ignored.first_match("src/a.o")?    // Some(0)
-/// ignored.is_match("src/a.rs")?      // false
+/// let ignored = PatternSet::from_texts(&["**/*.o", "**/target/**"], options)?;
+/// ignored.first_match("src/a.o")    // Some(0)
+/// ignored.is_match("src/a.rs")      // false
 /// ```
 #[derive(Clone)]
 pub struct PatternSet {

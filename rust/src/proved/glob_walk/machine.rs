@@ -44,9 +44,9 @@ pub enum Answer {
 /// archive or a network, at once or later.
 ///
 /// ```text
-/// let mut machine = WalkMachine::new(alloc, "*", MatchOptions::new(), 100)?;
+/// let mut machine = WalkMachine::new("*", MatchOptions::new(), 100)?;
 /// machine.next()                  // Step::Look, where machine.path() is "."
-/// machine.looked(Ok(Look::Dir))   // Step::ListNames, where machine.path() is "."
+/// machine.looked(Look::Dir)   // Step::ListNames, where machine.path() is "."
 /// machine.listed(Ok(entries))     // of files `y` and `x`: Step::Item(Ok("x"))
 /// machine.next()                  // Step::Item(Ok("y"))
 /// machine.next()                  // Step::Done; machine.spent() is 4
