@@ -34,11 +34,6 @@ class Edits:
                 at = last
         return "".join(out) + self.text[at:end]
 
-    def settle(self, node, wrap="{}"):
-        """The result of a node's place is what it is replaced with, within `wrap`."""
-        new = wrap.format(self.result(node.start, node.end))
-        self.put(node.start, node.end, new)
-
     def without(self, nodes, gone, brackets=None):
         """Without some nodes of a list that commas part, and without its brackets if all go."""
         kept = [node for node in nodes if not gone(node)]

@@ -1,9 +1,13 @@
 """What is erased: contracts and ghost lines, allocators, and failed allocations."""
+import re
+
 from .edits import Edits
 from .facts import is_allocator, last, memory_result
 
 # Functions of std that have another name where nothing fails.
 RENAMED = {("Vec", "from_slice"): "from", ("String", "from_str"): "from"}
+# Clauses that say when an allocation fails.
+ABOUT_MEMORY = re.compile(r"\bIsOk result\b|\bNoMemory\b|\bOnErr result\b")
 # Functions that Rust has in a trait.
 OF_TRAITS = {"clone", "default", "from_str"}
 # Left to hands: traits that have more methods in Rust.
@@ -19,8 +23,10 @@ class Eraser:
         self.edits, self.facts = Edits(parser.source), facts
         self.memory_types = [set()]  # allocator types in scope
         self.memory_names = [set()]  # variables that are allocators
+        self.copies = [set()]  # parameters that are borrowed or copied
         self.answers = [set()]  # parameters that are answers of calls that fail for lack of memory alone
-        self.owner, self.in_trait = None, False
+        self.owner, self.in_trait, self.of = None, False, None
+        self.heard = set()  # calls that fail for lack of memory alone, whose answers are taken as such
         self.reasons = set()  # of what else is changed
 
     def visit(self, node):
@@ -71,6 +77,10 @@ class Eraser:
             from_failure = source and last(source.types[0]) in ("AllocError", "AllocFailed")
             return of == "Model" or bool(from_failure) or last(item.type) in self.facts.wrappers \
                 or (of, last(item.type)) in BY_HAND
+            if of == "Display" and last(item.type) in self.facts.wrappers and ".fmt(f)" not in self.text[item.start:item.end]:
+                raise SystemExit(f"{last(item.type)}: it is not printed as what it holds")
+        if kind == "fn" and self.of:
+            return False
         if kind == "fn":
             return self.makes_memory(item) or any(self.is_std_path(param.type) for param in item.params if param.type)
         return False
@@ -88,9 +98,9 @@ class Eraser:
         return last(node) == "Path" and bool(node.segments[-1].arguments)
 
     def visit_impl(self, node):
-        self.owner = last(node.type)
+        self.owner, self.of = last(node.type), node.of
         self.scope(node, lambda: (self.heads(node), self.items(node.items)))
-        self.owner = None
+        self.owner, self.of = None, None
 
     def visit_trait(self, node):
         self.owner, self.in_trait = node.name, True
@@ -122,8 +132,7 @@ class Eraser:
         if node.name == "tactic":
             self.cut(node)
         elif node.name in ("derive", "derive_where"):
-            names = [name.strip() for name in self.text[node.start:node.end].split("(")[1].rstrip(")]").split(",")]
-            names = [name for name in names if name != "Drop"]
+            names = [name for name in node.names if name != "Drop"]
             if names:
                 self.edits.put(node.start, node.end, f"#[derive({', '.join(names)})]")
             else:
@@ -166,8 +175,11 @@ class Eraser:
     def visit_fn(self, node):
         self.memory_names.append({param.name for param in node.params if param.type and self.in_scope(node, param.type)})
         self.answers.append({param.name for param in node.params if param.type and memory_result(param.type)})
+        self.copies.append({param.name for param in node.params if param.type
+            and (param.type.kind == "ref" or last(param.type) in self.facts.copies)})
         self.scope(node, lambda: self.in_function(node))
         self.memory_names.pop()
+        self.copies.pop()
         self.answers.pop()
 
     def in_scope(self, node, kind):
@@ -178,11 +190,12 @@ class Eraser:
         if node.contracts:
             end = node.body.start if node.body else node.end - 1
             self.edits.put(node.head_end, end, " " if node.body else "")
-            if self.is_exported(node):
+            if self.is_exported(node) and node.name not in OF_TRAITS:
                 self.state(node)
-        if self.is_exported(node) and node.answer and last(node.answer) != "Result" and node.name not in OF_TRAITS \
-                and not any(self.text[param.start:param.end].startswith("&mut self") or param.type is not None
-                and param.type.kind == "ref" and param.type.mut for param in node.params):
+        if self.is_exported(node) and not self.in_trait and node.answer and (last(node.answer) != "Result"
+                or memory_result(node.answer) is not None) and node.name not in OF_TRAITS \
+                and not any(param.is_mut or param.type is not None and param.type.kind == "ref" and param.type.mut
+                for param in node.params):
             self.edits.put(node.plain_start, node.plain_start, "#[must_use]\n")
         for part in (*node.attributes, node.generics, node.where):
             if part:
@@ -197,7 +210,7 @@ class Eraser:
             self.visit(node.answer)
         if node.body:
             if answer is not None:
-                mark_answers(node.body)
+                self.heard |= {id(one) for one in mark_answers(node.body)}
             self.visit(node.body)
 
     def is_exported(self, node):
@@ -214,6 +227,8 @@ class Eraser:
         indent = self.text[self.text.rfind("\n", 0, start) + 1:start]
         lines = ["", "<details><summary>Contract</summary>", "", "```text"]
         for clause in node.contracts:
+            if memory_result(node.answer) is not None and ABOUT_MEMORY.search(self.text, clause.start, clause.end):
+                continue
             said = self.text[clause.start:clause.end].split("\n")
             lines += [said[0], *("    " + line.strip() for line in said[1:])]
         lines += ["```", "", "</details>"]
@@ -293,14 +308,27 @@ class Eraser:
         return self.text[macro.arguments[0].start:macro.arguments[0].end] == "f"
 
     def visit_try(self, node):
+        self.hear(node.value)
         self.visit(node.value)
         if self.fails(node.value):
             self.edits.put(node.value.end, node.end)
+
+    def hear(self, node):
+        """What becomes of the failure of a call is known."""
+        self.heard.add(id(node))
+
+    def check(self, node):
+        """Stops where the failure of a call is taken in another way."""
+        name = node.name if node.kind == "method" else last(node.callee)
+        if self.fails(node) and id(node) not in self.heard and name not in self.facts.certain:
+            raise SystemExit(f"a failed allocation is heard in another way: {self.text[node.start:node.end]}")
 
     def arguments(self, node, opened):
         """Visits arguments, without allocators."""
         self.edits.without(node.arguments, self.is_memory_value)
         for argument in node.arguments:
+            if opened in self.facts.hearers or opened in ("Some", "Look", "List"):
+                self.hear(argument)
             if not self.is_memory_value(argument):
                 self.visit(argument)
             if argument.kind == "call" and last(argument.callee) == "Ok" and opened in self.facts.hearers:
@@ -312,6 +340,7 @@ class Eraser:
         self.edits.put(call.arguments[-1].end, call.end)
 
     def visit_call(self, node):
+        self.check(node)
         names = [segment.name for segment in node.callee.segments] if node.callee.kind == "path" else []
         name = names[-1] if names else None
         self.visit(node.callee)
@@ -325,6 +354,7 @@ class Eraser:
             self.edits.put(segment.start, segment.end, RENAMED[tuple(names[-2:])])
 
     def visit_method(self, node):
+        self.check(node)
         self.visit(node.value)
         self.arguments(node, node.name)
 
@@ -375,9 +405,11 @@ class Eraser:
             self.cut(node)
             return
         unread = node.pattern.kind == "any" or node.pattern.kind == "bind" and node.pattern.name.startswith("_")
-        if unread and node.value.kind == "path":  # for a proof
+        if unread and node.value.kind == "path" and node.value.segments[0].name in self.copies[-1]:  # for a proof
             self.cut(node)
             return
+        if node.other:
+            self.hear(node.value)
         self.visit_parts(node)
         self.fill(node)
         if node.other and self.fails(node.value) and node.pattern.kind == "call_pattern":
@@ -393,6 +425,8 @@ class Eraser:
         """Memory that is filled after it was asked for, in place of memory that is asked for as filled."""
         value = node.value.value if node.value and node.value.kind == "try" else node.value
         if value and value.kind == "macro" and value.name == "vec" and value.count:
+            if not (self.facts.is_pure(value.count) and self.facts.is_pure(value.arguments[0])):
+                raise SystemExit(f"{node.pattern.name}: the length or the element is evaluated twice")
             count = self.edits.result(value.count.start, value.count.end)
             filling = self.edits.result(value.arguments[0].start, value.arguments[0].end)
             self.edits.put(node.value.start, node.end,
@@ -429,6 +463,7 @@ class Eraser:
             self.edits.put(node.patterns[-1].end, node.end)
 
     def visit_match(self, node):
+        self.hear(node.value)
         self.visit_parts(node)
         arms = [arm for arm in node.arms if not self.is_memory_pattern(arm.pattern)]
         if self.fails(node.value):
@@ -475,7 +510,9 @@ class Eraser:
 
     def visit_statement(self, node):
         self.visit(node.value)
-        self.splice(node.value)
+        if not any(part.kind == "let" for part in node.value.walk()) and node.value.kind == "match" \
+                and all(part.kind != "bind" for arm in node.value.arms for part in arm.pattern.walk()):
+            self.splice(node.value)
 
     def splice(self, value):
         """A `match` of one arm that is a statement needs no braces."""
@@ -497,25 +534,20 @@ def is_unit_ok(node):
 
 
 def mark_answers(body):
-    """Marks what a function answers, so that `Ok(x)` becomes `x`."""
-    for node in returns(body):
-        if node.value:
-            mark_answer(node.value)
-    mark_answer(body)
+    """Marks what a function answers, so that `Ok(x)` becomes `x`. Returns the answers."""
+    return [answer for node in returns(body) if node.value for answer in mark_answer(node.value)] + mark_answer(body)
 
 
 def mark_answer(node, in_arm=False):
-    if node.kind == "block" and node.tail:
-        mark_answer(node.tail)
-    elif node.kind == "if":
-        mark_answer(node.body)
-        if node.other:
-            mark_answer(node.other)
-    elif node.kind == "match":
-        for arm in node.arms:
-            mark_answer(arm.body, in_arm=True)
-    elif node.kind == "call" and last(node.callee) == "Ok":
+    if node.kind == "block":
+        return mark_answer(node.tail) if node.tail else []
+    if node.kind == "if":
+        return mark_answer(node.body) + (mark_answer(node.other) if node.other else [])
+    if node.kind == "match":
+        return [answer for arm in node.arms for answer in mark_answer(arm.body, in_arm=True)]
+    if node.kind == "call" and last(node.callee) == "Ok":
         node.plain = "{}" if in_arm else "()"
+    return [node]
 
 
 def is_writer(param):

@@ -5,6 +5,10 @@ from .syntax import Node
 ALLOCATES = {"append", "clone", "extend", "extend_from_slice", "from_slice", "from_str", "push", "push_str", "to_lowercase",
     "with_capacity"}
 
+# Expressions that change nothing, and calls that do not.
+PURE = {"path", "segment", "get", "literal", "borrow", "unary", "binary", "cast", "paren", "index"}
+PURE_CALLS = {"as_bytes", "as_slice", "as_str", "checked_add", "checked_mul", "div_ceil", "is_empty", "len", "saturating_mul"}
+
 
 def last(node):
     """The last name of a type or path."""
@@ -24,19 +28,21 @@ class Facts:
     """What is known of all sources."""
 
     def __init__(self, files):
-        self.fails = {(kind, name): True for kind in ("Vec", "String", None) for name in ALLOCATES}
+        self.fails = {(kind, name): True for kind in ("Vec", "String") for name in ALLOCATES}
         self.fails["Box", "new"] = True
         self.memory_fields = set()  # fields that are allocators
         self.wrappers = {}  # of errors that are another error or a failed allocation: its variant, and that one's type
         self.hearers = set()  # functions whose arguments are such answers
-        self.traits = {"Hash"}
+        self.copies = set()  # types that are copied
+        self.changing = set()  # methods of which some change what they are called on, or an argument
+        self.methods = set()
+        self.certain = set()  # functions of which some return what cannot fail
         for tree in files:
             self.read(tree, None)
 
     def read(self, node, owner):
         if node.kind in ("impl", "trait"):
             owner = node.name if node.kind == "trait" else last(node.type)
-            self.traits |= {node.name} if node.kind == "trait" else set()
         elif node.kind == "fn":
             self.function(node, owner)
         elif node.kind == "struct":
@@ -47,17 +53,28 @@ class Facts:
             if len(others) == 1 < len(node.variants) and len(others[0].fields) == 1 \
                     and others[0].fields[0].type.kind == "path_type":
                 self.wrappers[node.name] = others[0].name, others[0].fields[0].type
+        if node.kind in ("struct", "enum") and any("Copy" in one.names for one in node.attributes):
+            self.copies.add(node.name)
         for child in node.children():
             self.read(child, owner)
 
     def function(self, node, owner):
-        node.owner = owner
-        node.fails = memory_result(node.answer) is not None
+        fails = memory_result(node.answer) is not None
+        self.methods.add(node.name)
+        if any(param.is_mut or param.type is not None and param.type.kind == "ref" and param.type.mut for param in node.params):
+            self.changing.add(node.name)
         if any(param.type and memory_result(param.type) for param in node.params):
             self.hearers.add(node.name)
-        if last(node.answer) in ("Result", "Option"):
-            if self.fails.setdefault((owner, node.name), node.fails) != node.fails:
+        if last(node.answer) not in ("Result", "Option"):
+            self.certain.add(node.name)
+        else:
+            if self.fails.setdefault((owner, node.name), fails) != fails:
                 raise SystemExit(f"{node.name}: functions of this name fail in several ways")
+
+    def is_pure(self, node):
+        """Whether an expression changes nothing, so that it may go, or be evaluated twice."""
+        return all(part.kind in PURE or part.kind == "method" and (part.name in PURE_CALLS
+            or part.name in self.methods - self.changing) for part in node.walk())
 
     def call_fails(self, kind, name, is_method):
         """Whether a call fails for lack of memory alone."""

@@ -106,15 +106,15 @@ def with_traits(text):
 class Crate:
     """The files by crate and name. `hand`: the files that are by hand."""
 
-    def __init__(self, texts, crates, hand, wrappers):
-        self.texts, self.crates = texts, crates
+    def __init__(self, texts, crates, hand, facts):
+        self.texts, self.crates, self.facts = texts, crates, facts
         self.by_hand = {token.text for parser in hand for token in parser.tokens if token.kind == "name"}
         # the paths in this crate that they import
         self.from_hand = {tuple(path[path.index("proved") + 1:]) for parser in hand for item in parser.tree.walk()
             for path in ([path for path, _ in flat(item.tree, [])] if item.kind == "use" else
                 [[part.name for part in item.segments]] if item.kind == "path" else []) if "proved" in path}
         # errors that are gone, and the names of those in their places
-        self.wrappers = {name: [part.name for part in kind.segments] for name, (_, kind) in wrappers.items()}
+        self.wrappers = {name: [part.name for part in kind.segments] for name, (_, kind) in facts.wrappers.items()}
 
     def without_dead(self):
         """Without parameters, fields and items that nothing reads, until there are none."""
@@ -141,6 +141,7 @@ class Crate:
                         gone[owner, node.name] = unread_places(parser, node), takes_self(node)
         gone = {(owner, name): places for (owner, name), (places, is_method) in gone.items()
             if heads[owner, name] == 1 and (not is_method or heads[name] == 1)}
+        by_self = {(owner, name) for (owner, name) in gone if owner and heads[name] == 1}
         methods = {name: places for (owner, name), places in gone.items() if owner and heads[name] == 1}
         for key, parser in files.items():
             for node, owner in owned(parser.tree):
@@ -150,7 +151,9 @@ class Crate:
                 for part in node.walk():
                     if part.kind in ("method", "call"):
                         places = methods.get(part.name, []) if part.kind == "method" else gone.get(called(part, owner), [])
-                        edits[key].without(part.arguments, lambda argument: part.arguments.index(argument) in places)
+                        if part.kind == "call" and called(part, owner) in by_self:
+                            places = [place + 1 for place in places]
+                        self.without_pure(edits[key], part.arguments, lambda argument: part.arguments.index(argument) in places)
                     elif part.kind == "closure":
                         named = names_in(parser, part.body)
                         for param in part.params:
@@ -158,6 +161,14 @@ class Crate:
                                 edits[key].put(param.pattern.start, param.pattern.end, "_")
                     elif part.kind == "block":
                         self.variables(parser, part, edits[key])
+
+    def without_pure(self, edits, nodes, gone):
+        """Without some expressions, which have to change nothing."""
+        for node in nodes:
+            value = getattr(node, "value", None) if node.kind == "field_value" else node
+            if gone(node) and value and not self.facts.is_pure(value):
+                raise SystemExit(f"what is not needed may change something: {edits.text[node.start:node.end]}")
+        edits.without(nodes, gone)
 
     def head(self, parser, node, edits, gone):
         params = [param for param in node.params if not param.is_self]
@@ -172,7 +183,7 @@ class Crate:
         named = names_in(parser, block)
         for statement in block.statements:
             if statement.kind == "let" and statement.pattern.kind == "bind" and named[statement.pattern.name] == 1 \
-                    and all(node.kind in ("path", "get", "segment", "method") for node in statement.value.walk()):
+                    and statement.value and self.facts.is_pure(statement.value):
                 edits.drop(statement.start, statement.end)
             elif statement.kind == "let" and statement.pattern.kind == "tuple_pattern":
                 for part in statement.pattern.patterns:
@@ -187,6 +198,7 @@ class Crate:
                 if node.kind == "struct":
                     gone |= {(node.name, field.name) for field in node.fields if field.kind == "field"
                         and not (field.visible and node.name in self.by_hand)
+                        and not any({"PartialEq", "Hash", "PartialOrd"} & set(one.names) for one in node.attributes)
                         and not any(reads(other.tree, node.name, field.name) for other in self.seeing(key, field, files))}
                 elif node.kind == "enum" and node.name not in self.by_hand:
                     made = {part.segments[-1].name for other in files.values() for part in other.tree.walk()
@@ -198,7 +210,7 @@ class Crate:
                 for part in node.walk() if node.kind == "fn" else ():
                     if part.kind == "struct_value":
                         kind = owner if last_of(part) == "Self" else last_of(part)
-                        edits[key].without(part.fields, lambda field: (kind, field.name) in gone)
+                        self.without_pure(edits[key], part.fields, lambda field: (kind, field.name) in gone)
                     elif part.kind == "arm":
                         self.arm(parser, part, edits[key], gone)
                 for part in getattr(node, "fields", []) + getattr(node, "variants", []):

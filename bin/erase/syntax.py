@@ -31,9 +31,6 @@ class Node:
         for child in self.children():
             yield from child.walk()
 
-    def __repr__(self):
-        return f"{self.kind}@{self.start}"
-
 
 class Parser:
     """Reads one source. `items` are those of the file."""
@@ -114,8 +111,9 @@ class Parser:
         self.want("#")
         self.take("!")
         self.want("[")
-        node.name = self.peek()
+        node.name, first = self.peek(), self.at
         self.skip_to("]")
+        node.names = [token.text for token in self.tokens[first + 1:self.at] if token.kind == "name"]
         return self.done(node)
 
     def skip_to(self, close):
@@ -313,7 +311,7 @@ class Parser:
         while self.take("const", "unsafe"):
             pass
         self.want("fn")
-        node.name = self.take()
+        node.name_at, node.name = self.here(), self.take()
         node.generics = self.generics()
         self.want("(")
         node.params = self.listed(self.param, ")")
@@ -338,14 +336,14 @@ class Parser:
         return found
 
     def param(self):
-        node = Node("param", self.here(), type=None, name=None, is_self=False)
+        node = Node("param", self.here(), type=None, name=None, is_self=False, is_mut=False)
         at = self.at
-        self.take("&")
+        is_borrowed = bool(self.take("&"))
         if self.kind() == "life":
             self.take()
-        self.take("mut")
+        is_mut = bool(self.take("mut"))
         if self.take("self"):
-            node.is_self, node.name = True, "self"
+            node.is_self, node.name, node.is_mut = True, "self", is_borrowed and is_mut
             if self.take(":"):
                 node.type = self.type()
             return self.done(node)
@@ -756,7 +754,7 @@ class Parser:
         return self.done(node)
 
     def closure_param(self):
-        node = Node("param", self.here(), type=None, is_self=False)
+        node = Node("param", self.here(), type=None, is_self=False, is_mut=False)
         node.pattern = self.one_pattern()
         node.name = node.pattern.name if node.pattern.kind == "bind" else None
         if self.take(":"):

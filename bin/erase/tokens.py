@@ -49,8 +49,13 @@ def closed(source, at):
     raise SyntaxError("a brace is not closed")
 
 
+GHOST = re.compile(r"ghost\s+(use\s[^;]*;|\w+\s*[=:]\s*\{)")
+
+
 def ghost_end(source, at):
     """The place after the `;` or `,` that ends a ghost line."""
+    if not GHOST.match(source, at):
+        raise SyntaxError(f"a ghost of another form: {source[at:at + 40]!r}")
     while source[at] not in ";,":
         at = closed(source, at) if source[at] == "{" else at + 1
     return at + 1

@@ -52,7 +52,9 @@ impl IgnoreList {
     pub fn lenient(text: &str) -> (Self, Vec<RuleRefusal>) {
         let (mut kept, mut refused) = (String::new(), Vec::new());
         for (number, line) in text.split_inclusive('\n').enumerate() {
-            match IgnoreList::new(line) {
+            // A byte order mark is passed over only at the start of the text.
+            let alone = if number > 0 { format!("\n{line}") } else { line.to_owned() };
+            match IgnoreList::new(&alone) {
                 Ok(_) => kept.push_str(line),
                 Err(RuleRefusal::Line(_, reason)) => {
                     refused.push(RuleRefusal::Line(number + 1, reason));

@@ -356,3 +356,16 @@ fn refusals_names_and_entries_are_copied_and_compared() {
     assert_eq!((&set).into_iter().map(AsRef::as_ref).collect::<Vec<&str>>(), ["*.o", "*.a"]);
     assert_eq!((set.options(), set.matches_path("a.o")), (MatchOptions::new(), vec![0]));
 }
+
+#[test]
+fn refused_lines_are_passed_over() {
+    // a mark of the byte order counts in no line but the first
+    for (text, refused) in
+        [("a\n\u{feff}**/b\nc", vec![2]), ("\u{feff}[é]\nc", vec![1]), ("[é]\r\n[[:x:]]\nc", vec![1, 2])]
+    {
+        let (list, refusals) = IgnoreList::lenient(text);
+        let lines: Vec<usize> = refusals.iter().map(|RuleRefusal::Line(line, _)| *line).collect();
+        assert_eq!(lines, refused, "{text:?}");
+        assert!(list.is_ignored("c", false), "{text:?}");
+    }
+}

@@ -32,6 +32,7 @@ pub struct Written {
 /// ```
 ///
 /// </details>
+#[must_use]
 pub fn tokens(pattern: &Pattern) -> Vec<Written> {
     let characters = characters_of(pattern.as_str());
     let text = characters.as_slice();

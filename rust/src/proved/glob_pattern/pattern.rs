@@ -79,11 +79,11 @@ impl Pattern {
     /// ```text
     /// ensures answer { IfOk result
     ///     (λ yes. IsTrue yes ↔ Matches new_options (chars self.now) (chars str.now)) }
-    /// ensures short { IsShort (chars self.now) → IsOk result }
     /// ```
     ///
     /// </details>
     #[inline(always)]
+    #[must_use]
     pub fn matches(&self, str: &str) -> bool {
         self.matches_with(str, MatchOptions::new())
     }
@@ -96,11 +96,11 @@ impl Pattern {
     /// ```text
     /// ensures answer { IfOk result
     ///     (λ yes. IsTrue yes ↔ Matches options (chars self.now) (chars str.now)) }
-    /// ensures short { IsShort (chars self.now) → IsOk result }
     /// ```
     ///
     /// </details>
     #[inline(always)]
+    #[must_use]
     pub fn matches_with(&self, str: &str, options: MatchOptions) -> bool {
         self.compiled.matches(self.text.as_str(), str, options)
     }
@@ -117,16 +117,6 @@ impl std::str::FromStr for Pattern {
 
     /// [`new`](Self::new), under the name of the trait `FromStr`, with its errors. So `from_str("*.rs")` is the pattern of
     /// `new("*.rs")`.
-    ///
-    /// <details><summary>Contract</summary>
-    ///
-    /// ```text
-    /// ensures accepted { IfOk result (λ _. IsAccepted (chars s.now)) }
-    /// ensures text { IfOk result (λ p. p ≡ s.now) }
-    /// ensures refused { IfErr result (Refuses (chars s.now)) }
-    /// ```
-    ///
-    /// </details>
     fn from_str(s: &str) -> Result<Self, PatternError> {
         Self::new(s)
     }
@@ -134,27 +124,12 @@ impl std::str::FromStr for Pattern {
 
 impl Default for Pattern {
     /// The empty pattern, which matches the empty text alone: `""` and not `"a"`.
-    ///
-    /// <details><summary>Contract</summary>
-    ///
-    /// ```text
-    /// ensures { result ≡ [] }
-    /// ```
-    ///
-    /// </details>
     fn default() -> Self {
         Pattern { text: String::new(), compiled: Compiled::empty() }
     }
 }
 
 impl Clone for Pattern {
-    /// <details><summary>Contract</summary>
-    ///
-    /// ```text
-    /// ensures { IfOk result (λ p. p ≡ self.now) }
-    /// ```
-    ///
-    /// </details>
     fn clone(&self) -> Self {
         Pattern { text: self.text.clone(), compiled: self.compiled.clone() }
     }

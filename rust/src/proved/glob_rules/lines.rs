@@ -83,6 +83,7 @@ impl Line {
     /// ```
     ///
     /// </details>
+    #[must_use]
     pub fn read(text: &[u8]) -> Self {
         if has(text, 0, b'#') {
             return Self::nothing();

@@ -54,10 +54,10 @@ impl IgnoreList {
     ///
     /// ```text
     /// ensures answer { IfOk result (λ yes. yes ≡ is_ignored self.now path.now is_directory) }
-    /// ensures short { AreShort self.now.patterns → IsOk result }
     /// ```
     ///
     /// </details>
+    #[must_use]
     pub fn is_ignored(&self, path: &str, is_directory: bool) -> bool {
         let decides = self.deciding(path, is_directory);
         self.ignores(decides)
@@ -71,10 +71,10 @@ impl IgnoreList {
     /// ```text
     /// ensures rule { IfOk result
     ///     (λ rule. rule ≡ deciding_rule self.now path.now is_directory) }
-    /// ensures short { AreShort self.now.patterns → IsOk result }
     /// ```
     ///
     /// </details>
+    #[must_use]
     pub fn deciding_rule(&self, path: &str, is_directory: bool) -> Option<Rule> {
         match self.deciding(path, is_directory) {
             Some(number) => Some(self.rules[number]),

@@ -108,6 +108,7 @@ impl PatternSet {
     /// ```
     ///
     /// </details>
+    #[must_use]
     pub fn new(patterns: Vec<Pattern>, options: MatchOptions) -> Self {
         let needs = needs_of(patterns.as_slice());
         let keys = keys_of(patterns.as_slice());
@@ -144,10 +145,10 @@ impl PatternSet {
     /// ```text
     /// ensures answer { IfOk result
     ///     (λ yes. IsTrue yes ↔ AnyMatch self.now.options self.now.patterns text.now) }
-    /// ensures short { AreShort self.now.patterns → IsOk result }
     /// ```
     ///
     /// </details>
+    #[must_use]
     pub fn is_match(&self, text: &str) -> bool {
         self.first_match(text).is_some()
     }
@@ -159,10 +160,10 @@ impl PatternSet {
     /// ```text
     /// ensures answer { IfOk result
     ///     (FirstMatch self.now.options self.now.patterns text.now) }
-    /// ensures short { AreShort self.now.patterns → IsOk result }
     /// ```
     ///
     /// </details>
+    #[must_use]
     pub fn first_match(&self, text: &str) -> Option<usize> {
         let mut found = Found::new();
         let listed = self.listed_for(text, &mut found);
@@ -179,10 +180,10 @@ impl PatternSet {
     /// ```text
     /// ensures answer { IfOk result
     ///     (LastMatch self.now.options self.now.patterns text.now) }
-    /// ensures short { AreShort self.now.patterns → IsOk result }
     /// ```
     ///
     /// </details>
+    #[must_use]
     pub fn last_match(&self, text: &str) -> Option<usize> {
         let mut found = Found::new();
         let listed = self.listed_for(text, &mut found);
@@ -200,7 +201,6 @@ impl PatternSet {
     /// ```text
     /// ensures all { OnOk result
     ///     (numbers.new.items ≡ all_matches self.now.options self.now.patterns text.now) }
-    /// ensures none { OnErr result (numbers.new.items ≡ []) }
     /// ```
     ///
     /// </details>

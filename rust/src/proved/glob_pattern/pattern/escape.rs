@@ -16,6 +16,7 @@ impl Pattern {
     /// ```
     ///
     /// </details>
+    #[must_use]
     pub fn escape(s: &str) -> String {
         let specials = count_special(s);
         if specials == 0 {
