@@ -4,7 +4,7 @@ use std::error::Error;
 use std::fmt;
 use std::path::Path;
 
-use crate::{MatchOptions, Pattern, PatternError};
+use crate::{MatchOptions, Pattern, PatternError, PatternErrorKind};
 
 impl Pattern {
     /// [`matches`](Self::matches) on the path's text: `src/*` matches the path `src/a.rs`. A path that is not UTF-8 is
@@ -37,5 +37,19 @@ impl fmt::Display for Pattern {
 impl fmt::Debug for Pattern {
     fn fmt(&self, f: &mut fmt::Formatter<'_>) -> fmt::Result {
         f.debug_struct("Pattern").field("original", &self.as_str()).finish_non_exhaustive()
+    }
+}
+
+impl PatternErrorKind {
+    /// What is wrong where a text is no pattern.
+    ///
+    /// ```
+    /// use cadmiumdove::{Pattern, PatternErrorKind};
+    ///
+    /// let error = Pattern::new("src/**.rs").unwrap_err();
+    /// assert_eq!(PatternErrorKind::of(&error), PatternErrorKind::Recursive);
+    /// ```
+    pub fn of(error: &PatternError) -> Self {
+        error.kind()
     }
 }

@@ -9,7 +9,9 @@ use std::panic::{RefUnwindSafe, UnwindSafe};
 use std::path::{Path, PathBuf};
 use std::str::FromStr;
 
-use cadmiumdove::{glob, glob_with, GlobError, GlobResult, MatchOptions, Paths, Pattern, PatternError, PatternErrorKind};
+use cadmiumdove::{
+    glob, glob_with, GlobError, GlobResult, MatchOptions, Paths, Pattern, PatternError, PatternErrorKind,
+};
 
 fn is_value<
     T: Clone + Debug + Default + Eq + Ord + Hash + Send + Sync + UnwindSafe + RefUnwindSafe + Unpin + 'static,
@@ -112,10 +114,11 @@ fn errors() {
     assert_eq!((error.pos, error.msg), (0, "recursive wildcards must form a single path component"));
     assert_eq!(error.to_string(), format!("Pattern syntax error near position 0: {}", error.msg));
     assert_eq!(error.description(), error.msg);
-    let kinds = [("a/***", PatternErrorKind::Wildcards), ("a**", PatternErrorKind::Recursive), ("[a", PatternErrorKind::Range)];
-    for (number, (text, kind)) in kinds.into_iter().enumerate() {
+    let kinds =
+        [("a/***", PatternErrorKind::Wildcards), ("a**", PatternErrorKind::Recursive), ("[a", PatternErrorKind::Range)];
+    for (text, kind) in kinds {
         let error = Pattern::new(text).unwrap_err();
-        assert_eq!((error.kind(), kind.message(), kind.number() as usize), (kind, error.msg, number));
+        assert_eq!((PatternErrorKind::of(&error), kind.message()), (kind, error.msg));
     }
     assert!(error.source().is_none());
     assert!(format!("{error:?}").starts_with("PatternError { pos: 0"));

@@ -109,7 +109,7 @@ impl<T: Tree> Iterator for Paths<T> {
     /// `None`.
     ///
     /// An error's cause is `Read` where a directory could not be listed, and the walk goes on; `Limit` where the next
-    /// unit of work does not fit the limit; and `Memory` at an allocation failure. After the last two only `None`
+    /// unit of work does not fit the limit; and `Memory` at an allocation failure. After any but `Read` only `None`
     /// follows.
     fn next(&mut self) -> Option<GlobResult<T::Alloc>> {
         loop {

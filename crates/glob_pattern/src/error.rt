@@ -32,7 +32,7 @@ impl PatternErrorKind {
         }
     }
 
-    /// The number by which C and the page know this kind: that of `Range` is 2.
+    /// A number that stays that of the kind: `Wildcards` has 0, `Recursive` 1, and `Range` 2.
     pub fn number(self) -> u32
         ensures { result ≡ number_of self }
     {
@@ -55,7 +55,7 @@ pub struct PatternError {
 }
 
 impl PatternError {
-    /// What is wrong: `Recursive` for `a**`. An error that somebody else made is of the kind that has its message, or
+    /// What is wrong: `Recursive` for `a**`. For an error made by hand it is the kind with that message, or else
     /// `Range`.
     #[tactic(auto, using(crate::proofs::GrammarLemmas::FaultKinds::message_of_kind))]
     pub fn kind(&self) -> PatternErrorKind

@@ -1,4 +1,4 @@
-//! The options of a match, and their letters and bits.
+//! The options of a match.
 ghost use Rattle.std.specs.Prelude.{◌≡◌};
 ghost use Rattle.glob_pattern.specs.Matching.Options.{new_options, default_options, options_of_bits, with_letter, with_letters};
 
@@ -18,6 +18,11 @@ pub struct MatchOptions {
 
 impl MatchOptions {
     /// Case-sensitive, and without the separator rule and the dot rule: so `A*` does not match `a/b`, and `*` does.
+    ///
+    /// ```text
+    /// assert!(MatchOptions::new().case_sensitive);
+    /// assert!(!MatchOptions::new().require_literal_separator);
+    /// ```
     pub const fn new() -> Self
         ensures { result ≡ new_options }
     {

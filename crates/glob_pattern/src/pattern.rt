@@ -58,6 +58,10 @@ impl<A: Allocator> Model for Pattern<A> {
 
 impl<A: Allocator> Pattern<A> {
     /// The text that the pattern was parsed from, as `a/*.rs`. It is accepted: parsed again it gives an equal pattern.
+    ///
+    /// ```text
+    /// assert_eq!(Pattern::new(alloc, "a/*.rs")?.as_str(), "a/*.rs");
+    /// ```
     #[tactic(auto, unfolding(crate::specs::Grammar::Units::IsAccepted))]
     pub fn as_str(&self) -> &str
         ensures text { result.now ≡ self.now }
@@ -72,6 +76,11 @@ impl<A: Allocator + Copy> Pattern<A> {
     ///
     /// The error is [`Syntax`](PatternRefusal::Syntax) if the text is not accepted, with its first fault from the left,
     /// whose place counts characters; or [`Memory`](PatternRefusal::Memory) if an allocation fails.
+    ///
+    /// ```text
+    /// let pattern = Pattern::new(alloc, "src/**/*.rs")?;
+    /// assert!(pattern.matches("src/walk/main.rs")?);
+    /// ```
     #[tactic(auto, unfolding(crate::specs::Grammar::Units::IsAccepted))]
     pub fn new(alloc: A, pattern: &str) -> Result<Self, PatternRefusal>
         ensures accepted { IfOk result (λ _. IsAccepted (chars pattern.now)) }
@@ -119,6 +128,12 @@ impl<A: Allocator + Copy> Pattern<A> {
     /// [`matches_with`](Self::matches_with) under `MatchOptions::new()`. So `*.rs` matches `main.rs` and `src/main.rs`.
     ///
     /// The error is a failed allocation. With at most 63 tokens (characters, wildcards and brackets) the call succeeds.
+    ///
+    /// ```text
+    /// let pattern = Pattern::new(alloc, "*.rs")?;
+    /// assert!(pattern.matches("src/main.rs")?);
+    /// assert!(!pattern.matches("src/main.c")?);
+    /// ```
     #[inline(always)]
     pub fn matches(&self, str: &str) -> Result<bool, AllocError>
         ensures answer { IfOk result
@@ -132,6 +147,14 @@ impl<A: Allocator + Copy> Pattern<A> {
     /// `*.rs` matches `src/main.rs`, and with the separator rule it does not.
     ///
     /// The error is a failed allocation. With at most 63 tokens (characters, wildcards and brackets) the call succeeds.
+    ///
+    /// ```text
+    /// let options = MatchOptions {
+    ///     require_literal_separator: true,
+    ///     ..MatchOptions::new()
+    /// };
+    /// assert!(!Pattern::new(alloc, "*.rs")?.matches_with("src/main.rs", options)?);
+    /// ```
     #[inline(always)]
     pub fn matches_with(&self, str: &str, options: MatchOptions) -> Result<bool, AllocError>
         ensures answer { IfOk result

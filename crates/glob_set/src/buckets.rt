@@ -35,8 +35,8 @@ impl<A: Allocator> Bucket<A> {
     }
 }
 
-/// For each class the numbers of the patterns without a key that may match a text of it, or none if no such pattern is of
-/// the class: then they are those of the patterns of no class, which come last.
+/// For each class the numbers of the patterns without a key that may match a text of it. Where no such pattern is of the
+/// class, its bucket is empty, and the last one serves: that of the patterns of no class.
 pub fn buckets_of<A: Allocator + Copy>(
     alloc: A,
     needs: &[Need],

@@ -35,9 +35,9 @@ impl Key {
 pub struct Kinds {
     /// Whether there are any of components or of their beginnings.
     pub components: bool,
-    /// A bit for each number of bytes that a beginning has.
+    /// The lengths of the beginnings, in bytes, a bit each.
     pub beginnings: u64,
-    /// The same of endings.
+    /// The lengths of the endings, in bytes, a bit each.
     pub endings: u64,
     /// How many bytes the longest ending or extension has.
     pub longest: u8,
@@ -82,7 +82,7 @@ pub fn kinds_of(keys: &[Option<Key>]) -> Kinds
     kinds
 }
 
-/// The bit of a number of bytes. From 64 on a number has that of a lower one, so that texts are looked up by both.
+/// The bit of a length in bytes. Lengths from 64 on share the bits of shorter ones, and texts are looked up by both.
 #[inline(always)]
 fn length_bit(len: u8) -> u64
     ensures { result ≡ length_bit len }

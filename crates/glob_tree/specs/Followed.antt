@@ -54,11 +54,11 @@ abbrev pub has_strays : List (Key × Text) → Bool
 has_strays [] = false
 has_strays (s ∷ ss) = true
 
--- What such a tree has of a file system. A name that is not UTF-8 has no place in a content either.
+-- What such a tree has of a file system. In a content there is no place for a name that is not UTF-8.
 abbrev pub followed : FileSystem → Option Content
 followed f = if has_strays f.strays then None else content_with_links Followed f
 
--- Paths were received, among them that of a symbolic link to a directory, which was taken for one on the way to it.
+-- Paths were received, among them that of a symbolic link to a directory.
 abbrev pub IsLinkReceived : FileSystem → (old new : Option (List Text)) → Type 0
 IsLinkReceived f old new =
     (before after : List Text) × (link : Text) × (lstat_found f link ≡ Some Symlink) × (is_found_directory (stat_found f link) ≡ true)

@@ -1,4 +1,4 @@
-//! The file system, where a symbolic link is no directory.
+//! The file system, where a symbolic link is no directory unless links are followed.
 ghost use Rattle.std.specs.Prelude.{◌≡◌, ◌+◌, ◌⊎◌, true, IfOk, IfErr, OnOk, option_and_then};
 ghost use Rattle.glob_tree.specs.Answers.{IsListAnswer, IsListError, IsNameAnswer, IsTold, entries_of, entry_count, names_of};
 ghost use Rattle.glob_tree.specs.Content.{Content, list_result, look_result};
@@ -29,8 +29,9 @@ pub enum Links {
 
 /// The file system that a [`System`] reaches, as a tree where a symbolic link is no directory unless links are
 /// [`Followed`](Links::Followed): nothing is below it, so `link/a` is missing. Where the system holds a known file
-/// system, that is its content; where links are followed, only if none points to a directory, and else it answers what
-/// `stat` says, or the strays receive a link to a directory. Relative paths begin at the current directory of the process.
+/// system, that is its content. Where links are followed, it is so only if none points to a directory; else a look at a
+/// path that is there says what `stat` says, or the strays receive a link to a directory. Relative paths begin at the
+/// current directory of the process.
 ///
 /// A walk over it is complete, or the [`Strays`] receive what is missing: each name that is not UTF-8, which costs only
 /// itself, and each path where the system does not say what is there, as below a directory that may be listed and not

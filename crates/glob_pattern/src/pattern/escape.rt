@@ -8,6 +8,12 @@ use std::alloc::{AllocError, Allocator};
 impl<A: Allocator> Pattern<A> {
     /// The text as a pattern that matches it: each `?`, `*`, `[` and `]` is put in a bracket of its own, and every
     /// other character as it is. So `a[1].rs` becomes `a[[]1[]].rs`. Fails only if allocation fails.
+    ///
+    /// ```text
+    /// let escaped = Pattern::escape(alloc, "a[1].rs")?;
+    /// assert_eq!(escaped, "a[[]1[]].rs");
+    /// assert!(Pattern::new(alloc, escaped.as_str())?.matches("a[1].rs")?);
+    /// ```
     pub fn escape(alloc: A, s: &str) -> Result<String<A>, AllocError>
         ensures { IfOk result
             (λ t. chars (string_bytes t) ≡ escaped_text (chars s.now)) }

@@ -1,4 +1,4 @@
-//! Made by `bin/rust_crate` from `crates/glob/src/paths.rt`, where its contracts are: sha256 c9066ac1e6748767.
+//! Made by `bin/rust_crate` from `crates/glob/src/paths.rt`, where its contracts are: sha256 10032489a14f01ec.
 //!
 //! A walk over a tree, item by item.
 
@@ -48,7 +48,7 @@ impl<T: Tree> Iterator for Paths<T> {
     /// `None`.
     ///
     /// An error's cause is `Read` where a directory could not be listed, and the walk goes on; `Limit` where the next
-    /// unit of work does not fit the limit. After the last two only `None` follows.
+    /// unit of work does not fit the limit. After any but `Read` only `None` follows.
     fn next(&mut self) -> Option<GlobResult> {
         loop {
             match self.machine.advance(&mut self.tree) {

@@ -1,4 +1,4 @@
-//! Made by `bin/rust_crate` from `crates/glob_pattern/src/error.rt`, where its contracts are: sha256 077c0a9c4f44ed95.
+//! Made by `bin/rust_crate` from `crates/glob_pattern/src/error.rt`, where its contracts are: sha256 86aed70ca7f78876.
 //!
 //! Why a text is no pattern.
 
@@ -17,6 +17,16 @@ pub enum PatternErrorKind {
 
 impl PatternErrorKind {
     /// The message of errors of this kind: of `Range` it is `invalid range pattern`.
+    ///
+    /// <details><summary>Contract</summary>
+    ///
+    /// ```text
+    /// ensures text { result.now ≡ message_of self }
+    /// ensures kind { kind_of result.now ≡ self }
+    /// ```
+    ///
+    /// </details>
+    #[must_use]
     pub fn message(self) -> &'static str {
         match self {
             PatternErrorKind::Wildcards => "wildcards are either regular `*` or recursive `**`",
@@ -25,7 +35,16 @@ impl PatternErrorKind {
         }
     }
 
-    /// The number by which C and the page know this kind: that of `Range` is 2.
+    /// A number that stays that of the kind: `Wildcards` has 0, `Recursive` 1, and `Range` 2.
+    ///
+    /// <details><summary>Contract</summary>
+    ///
+    /// ```text
+    /// ensures { result ≡ number_of self }
+    /// ```
+    ///
+    /// </details>
+    #[must_use]
     pub fn number(self) -> u32 {
         match self {
             PatternErrorKind::Wildcards => 0,
@@ -46,9 +65,9 @@ pub struct PatternError {
 }
 
 impl PatternError {
-    /// What is wrong: `Recursive` for `a**`. An error that somebody else made is of the kind that has its message, or
+    /// What is wrong: `Recursive` for `a**`. For an error made by hand it is the kind with that message, or else
     /// `Range`.
-    pub fn kind(&self) -> PatternErrorKind {
+    pub(crate) fn kind(&self) -> PatternErrorKind {
         if self.msg == PatternErrorKind::Wildcards.message() {
             PatternErrorKind::Wildcards
         } else if self.msg == PatternErrorKind::Recursive.message() {

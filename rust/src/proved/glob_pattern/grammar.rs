@@ -1,10 +1,10 @@
-//! Made by `bin/rust_crate` from `crates/glob_pattern/src/grammar.rt`, where its contracts are: sha256 c3348dce2c4d0fa5.
+//! Made by `bin/rust_crate` from `crates/glob_pattern/src/grammar.rt`, where its contracts are: sha256 a01dbc4937e80859.
 //! `Vec::with_capacity` and `resize` are there `vec![x; n]`: memory that is asked for as zeros is never what was freed
 //! last, and costs more.
 //!
 //! Reads a pattern's units, or its first fault.
 
-use crate::proved::glob_pattern::error::PatternError;
+use crate::proved::glob_pattern::error::{PatternError, PatternErrorKind};
 use crate::proved::glob_pattern::token::bracket::Bracket;
 use crate::proved::glob_pattern::token::Token;
 
@@ -90,15 +90,15 @@ fn stars_at(text: &[char], place: usize) -> Result<(Token<Bracket>, usize), Patt
     if !has(text, place + 1, '*') {
         Ok((Token::AnySequence, place + 1))
     } else if has(text, place + 2, '*') {
-        Err(fault(place + 2, WILDCARDS))
+        Err(fault(place + 2, PatternErrorKind::Wildcards))
     } else if !opens(text, place) {
-        Err(fault(place - 1, RECURSIVE))
+        Err(fault(place - 1, PatternErrorKind::Recursive))
     } else if has(text, place + 2, '/') {
         Ok((Token::Recursive, place + 3))
     } else if place + 2 == text.len() {
         Ok((Token::Recursive, place + 2))
     } else {
-        Err(fault(place + 2, RECURSIVE))
+        Err(fault(place + 2, PatternErrorKind::Recursive))
     }
 }
 
@@ -106,7 +106,7 @@ fn stars_at(text: &[char], place: usize) -> Result<(Token<Bracket>, usize), Patt
 fn bracket_at(text: &[char], place: usize) -> Result<(Token<Bracket>, usize), PatternError> {
     let is_inverted = has(text, place + 1, '!');
     let start = if is_inverted { place + 2 } else { place + 1 };
-    let close = close_from(text, start + 1).ok_or(fault(place, RANGE))?;
+    let close = close_from(text, start + 1).ok_or(fault(place, PatternErrorKind::Range))?;
     let bracket = Bracket::read(&text[start..close]);
     let token = if is_inverted { Token::NoneOf(bracket) } else { Token::OneOf(bracket) };
     Ok((token, close + 1))
@@ -123,15 +123,9 @@ pub fn close_from(text: &[char], start: usize) -> Option<usize> {
 }
 
 /// A fault: where it is, in characters, and what it is.
-fn fault(pos: usize, msg: &'static str) -> PatternError {
-    PatternError { pos, msg }
+fn fault(pos: usize, kind: PatternErrorKind) -> PatternError {
+    PatternError { pos, msg: kind.message() }
 }
-
-const WILDCARDS: &'static str = "wildcards are either regular `*` or recursive `**`";
-
-const RECURSIVE: &'static str = "recursive wildcards must form a single path component";
-
-const RANGE: &'static str = "invalid range pattern";
 
 /// Whether the character at a place is `c`.
 fn has(text: &[char], place: usize, c: char) -> bool {

@@ -1,4 +1,4 @@
-//! Made by `bin/rust_crate` from `crates/glob_pattern/src/matcher.rt`, where its contracts are: sha256 7f02e9dc47ac0cc1.
+//! Made by `bin/rust_crate` from `crates/glob_pattern/src/matcher.rt`, where its contracts are: sha256 2053324628518c22.
 //!
 //! Judges, and whether by their answers characters split into pieces.
 
@@ -6,7 +6,7 @@ mod positions;
 mod shape_word;
 
 pub use positions::{decide, Span};
-pub use shape_word::{shape_words, ShapeWord};
+pub use shape_word::{shape_words, with_bit, ShapeWord};
 
 /// How many tokens a word of 64 bits has. Its last bit is the position after them, as the first bit of the next word
 /// is.

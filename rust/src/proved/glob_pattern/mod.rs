@@ -1,4 +1,4 @@
-//! Made by `bin/rust_crate` from `crates/glob_pattern/src/lib.rt`, where its contracts are: sha256 9e865e34a3826856.
+//! Made by `bin/rust_crate` from `crates/glob_pattern/src/lib.rt`, where its contracts are: sha256 206e95e51dae81e8.
 //!
 //! Patterns in the syntax of Unix shells: parsing them, and matching texts and paths with them. `src/**/[!t]*.rs`
 //! matches each source below `src` whose name does not begin with `t`.

@@ -1,6 +1,6 @@
-//! Made by `bin/rust_crate` from `crates/glob_pattern/src/options.rt`, where its contracts are: sha256 7db9960d18273b7e.
+//! Made by `bin/rust_crate` from `crates/glob_pattern/src/options.rt`, where its contracts are: sha256 c4edbafc49b97c7d.
 //!
-//! The options of a match, and their letters and bits.
+//! The options of a match.
 
 /// How a pattern is compared with a text. With `MatchOptions::new()`, `*.rs` matches `src/.x.rs`; with
 /// `require_literal_separator` it does not.
@@ -18,6 +18,12 @@ pub struct MatchOptions {
 
 impl MatchOptions {
     /// Case-sensitive, and without the separator rule and the dot rule: so `A*` does not match `a/b`, and `*` does.
+    ///
+    /// ```
+    /// # use cadmiumdove::MatchOptions;
+    /// assert!(MatchOptions::new().case_sensitive);
+    /// assert!(!MatchOptions::new().require_literal_separator);
+    /// ```
     ///
     /// <details><summary>Contract</summary>
     ///

@@ -1,4 +1,4 @@
-//! Made by `bin/rust_crate` from `crates/glob_pattern/src/pattern.rt`, where its contracts are: sha256 487342e1bf12436a.
+//! Made by `bin/rust_crate` from `crates/glob_pattern/src/pattern.rt`, where its contracts are: sha256 e1166e221dfc84ca.
 //!
 //! Patterns: parsing, and matching texts.
 
@@ -37,6 +37,12 @@ pub struct Pattern {
 impl Pattern {
     /// The text that the pattern was parsed from, as `a/*.rs`. It is accepted: parsed again it gives an equal pattern.
     ///
+    /// ```
+    /// # use cadmiumdove::Pattern;
+    /// assert_eq!(Pattern::new("a/*.rs")?.as_str(), "a/*.rs");
+    /// # Ok::<(), Box<dyn std::error::Error>>(())
+    /// ```
+    ///
     /// <details><summary>Contract</summary>
     ///
     /// ```text
@@ -54,6 +60,13 @@ impl Pattern {
     ///
     /// The error is [`PatternError`] if the text is not accepted, with its first fault from the left, whose place
     /// counts characters.
+    ///
+    /// ```
+    /// # use cadmiumdove::Pattern;
+    /// let pattern = Pattern::new("src/**/*.rs")?;
+    /// assert!(pattern.matches("src/walk/main.rs"));
+    /// # Ok::<(), Box<dyn std::error::Error>>(())
+    /// ```
     ///
     /// <details><summary>Contract</summary>
     ///
@@ -74,6 +87,14 @@ impl Pattern {
     /// Whether the pattern matches the whole text, case-sensitive, without the separator rule and the dot rule:
     /// [`matches_with`](Self::matches_with) under `MatchOptions::new()`. So `*.rs` matches `main.rs` and `src/main.rs`.
     ///
+    /// ```
+    /// # use cadmiumdove::Pattern;
+    /// let pattern = Pattern::new("*.rs")?;
+    /// assert!(pattern.matches("src/main.rs"));
+    /// assert!(!pattern.matches("src/main.c"));
+    /// # Ok::<(), Box<dyn std::error::Error>>(())
+    /// ```
+    ///
     /// <details><summary>Contract</summary>
     ///
     /// ```text
@@ -90,6 +111,17 @@ impl Pattern {
 
     /// Whether the pattern matches the whole text: whether the text splits into one allowed piece for each token. So
     /// `*.rs` matches `src/main.rs`, and with the separator rule it does not.
+    ///
+    /// ```
+    /// # use cadmiumdove::MatchOptions;
+    /// # use cadmiumdove::Pattern;
+    /// let options = MatchOptions {
+    ///     require_literal_separator: true,
+    ///     ..MatchOptions::new()
+    /// };
+    /// assert!(!Pattern::new("*.rs")?.matches_with("src/main.rs", options));
+    /// # Ok::<(), Box<dyn std::error::Error>>(())
+    /// ```
     ///
     /// <details><summary>Contract</summary>
     ///

@@ -1,4 +1,4 @@
-//! Made by `bin/rust_crate` from `crates/glob_set/src/pattern_keys.rt`, where its contracts are: sha256 754ca6e776073c31.
+//! Made by `bin/rust_crate` from `crates/glob_set/src/pattern_keys.rt`, where its contracts are: sha256 a44d1cbfaacd85a2.
 //! `Vec::with_capacity` and `resize` are there `vec![x; n]`: memory that is asked for as zeros is never what was freed
 //! last, and costs more.
 //!

@@ -1,4 +1,4 @@
-//! Made by `bin/rust_crate` from `crates/glob_walk/src/machine.rt`, where its contracts are: sha256 ebe9078b97476dc7.
+//! Made by `bin/rust_crate` from `crates/glob_walk/src/machine.rt`, where its contracts are: sha256 ebf808c61604702e.
 //!
 //! A walk that asks its caller, and reads nothing itself.
 
@@ -76,12 +76,8 @@ impl WalkMachine {
     /// ensures accepted { IfOk result (λ _. walk_fault pattern.now ≡ None) }
     /// ensures refused { IfErr result (RefusesWith (walk_fault pattern.now)) }
     /// ensures fresh { IfOk result (IsFreshMachine limit) }
-    /// ensures listing { IfOk result
-    ///     (λ walk. (c : Content) → left_of c walk ≡ listing c options pattern.now) }
     /// ensures aim { IfOk result
     ///     (λ walk. (c : Content) → listing_of c walk.aim ≡ listing c options pattern.now) }
-    /// ensures begun { IfOk result
-    ///     (λ walk. (c : Content) → HasGiven (listing c options pattern.now) c [] walk) }
     /// ```
     ///
     /// </details>
@@ -108,8 +104,6 @@ impl WalkMachine {
     /// ```text
     /// requires free { self.old.asked ≡ None }
     /// ensures steps { StepGoes IsSomeContent 0 self.old (saying result) self.new }
-    /// ensures driven { (c : Content) → (all : List Mark) → (given : List Item) → IsSomeContent c
-    ///     → HasGiven all c given self.old → GivesNext all c given (saying result) self.new }
     /// ```
     ///
     /// </details>
@@ -130,9 +124,6 @@ impl WalkMachine {
     /// ensures steps { (n : ℕ)
     ///     × (T.asks tree.new ≡ T.asks tree.old + question_units self.old.asked + n)
     ///     × StepGoes (IsTold (T.tells tree.old)) n self.old (saying result) self.new }
-    /// ensures driven { (c : Content) → (all : List Mark) → (given : List Item)
-    ///     → IsTold (T.tells tree.old) c
-    ///     → HasGiven all c given self.old → GivesNext all c given (saying result) self.new }
     /// ```
     ///
     /// </details>
@@ -179,9 +170,6 @@ impl WalkMachine {
     /// ensures failed { IfErr seen (λ _. saying result ≡ Says NoMemory) }
     /// ensures steps { StepGoes (IsSeenIn self.old.asked seen) 0
     ///     self.old (saying result) self.new }
-    /// ensures driven { (c : Content) → (all : List Mark) → (given : List Item)
-    ///     → IsSeenIn self.old.asked seen c
-    ///     → HasGiven all c given self.old → GivesNext all c given (saying result) self.new }
     /// ```
     ///
     /// </details>
@@ -202,9 +190,6 @@ impl WalkMachine {
     ///     (λ e. saying result ≡ Says (list_error_outcome (question_path self.old.asked) e)) }
     /// ensures steps { StepGoes (IsListedIn self.old.asked listed) (entry_count listed)
     ///     self.old (saying result) self.new }
-    /// ensures driven { (c : Content) → (all : List Mark) → (given : List Item)
-    ///     → IsListedIn self.old.asked listed c
-    ///     → HasGiven all c given self.old → GivesNext all c given (saying result) self.new }
     /// ```
     ///
     /// </details>
@@ -214,7 +199,8 @@ impl WalkMachine {
 
     /// Takes the answer to the question that is open, or `Nothing` where none is, and returns the next step, as
     /// [`looked`](WalkMachine::looked), [`listed`](WalkMachine::listed) and [`next`](WalkMachine::next) do: with
-    /// `Answer::Look(seen)` it is `looked(seen)`.
+    /// `Answer::Look(seen)` it is `looked(seen)`. What is no answer to the open question leaves it open: it is asked
+    /// again, for no unit.
     ///
     /// <details><summary>Contract</summary>
     ///
@@ -224,9 +210,6 @@ impl WalkMachine {
     ///     (λ o. saying result ≡ Says o) }
     /// ensures steps { StepGoes (IsAnswered self.old.asked answer) (answer_count answer)
     ///     self.old (saying result) self.new }
-    /// ensures driven { (c : Content) → (all : List Mark) → (given : List Item)
-    ///     → IsAnswered self.old.asked answer c
-    ///     → HasGiven all c given self.old → GivesNext all c given (saying result) self.new }
     /// ```
     ///
     /// </details>

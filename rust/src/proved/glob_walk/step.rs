@@ -1,4 +1,4 @@
-//! Made by `bin/rust_crate` from `crates/glob_walk/src/step.rt`, where its contracts are: sha256 05f295bb2936be60.
+//! Made by `bin/rust_crate` from `crates/glob_walk/src/step.rt`, where its contracts are: sha256 79f1cf2a8ef299a1.
 //!
 //! What a step of a walk says.
 

@@ -1,4 +1,4 @@
-//! Made by `bin/rust_crate` from `crates/glob_walk/src/walker.rt`, where its contracts are: sha256 933256f8472cb2a6.
+//! Made by `bin/rust_crate` from `crates/glob_walk/src/walker.rt`, where its contracts are: sha256 6e6516c2e6c49a2d.
 //!
 //! The turns of a walk.
 //!
@@ -49,9 +49,7 @@ impl Walker {
         if !self.meter.charge() {
             return Step::limit(path);
         }
-        let kind = QueryKind::Look(accepted);
-        self.query = Some(Query { path, component, kind });
-        Step::Look
+        self.ask(Query { path, component, kind: QueryKind::Look(accepted) })
     }
 
     /// Asks for the listing of a directory for a component, which is `**` or has wildcards, for one unit. Where no
@@ -61,9 +59,7 @@ impl Walker {
             return Step::limit(path);
         }
         let kinds = self.stack.plan.needs_kinds(component, recursive);
-        let kind = QueryKind::List { recursive, kinds };
-        self.query = Some(Query { path, component, kind });
-        Step::list(kinds)
+        self.ask(Query { path, component, kind: QueryKind::List { recursive, kinds } })
     }
 
     /// Charges the entries of a directory that was listed, and puts it on the stack with its first cursor. Where names
@@ -135,20 +131,31 @@ impl Walker {
         }
     }
 
-    /// Takes the answer to the question that is open, if one is: what comes of it at once.
+    /// Takes the answer to the question that is open, if one is: what comes of it at once. After what is no answer to
+    /// the question it stays open, and is asked again, for no further unit.
     fn take_answer(&mut self, answer: Answer) -> Option<Step> {
-        let Some(query) = self.query.take() else {
-            let Answer::Nothing = answer else { unreachable!() };
-            return None;
-        };
-        let Query { path, component, kind } = query;
-        match (kind, answer) {
-            (QueryKind::Look(accepted), Answer::Look(seen)) => self.take_look(path, component, accepted, seen),
-            (QueryKind::List { recursive, kinds: _ }, Answer::List(listed)) => {
-                self.take_listing(path, component, recursive, listed)
+        let query = self.query.take()?;
+        match query.kind {
+            QueryKind::Look(accepted) => {
+                let Answer::Look(seen) = answer else {
+                    return Some(self.ask(query));
+                };
+                self.take_look(query.path, query.component, accepted, seen)
             }
-            _ => unreachable!(),
+            QueryKind::List { recursive, kinds: _ } => {
+                let Answer::List(listed) = answer else {
+                    return Some(self.ask(query));
+                };
+                self.take_listing(query.path, query.component, recursive, listed)
+            }
         }
+    }
+
+    /// Asks a question whose unit was charged.
+    fn ask(&mut self, query: Query) -> Step {
+        let step = Step::ask(query.kind);
+        self.query = Some(query);
+        step
     }
 
     /// Takes the answer to a look, and leaves the task that follows, if any.

@@ -1,4 +1,4 @@
-//! Made by `bin/rust_crate` from `crates/glob_pattern/src/matcher/shape_word.rt`, where its contracts are: sha256 7fbc79102819cf70.
+//! Made by `bin/rust_crate` from `crates/glob_pattern/src/matcher/shape_word.rt`, where its contracts are: sha256 9074b3a6829d0ebe.
 //!
 //! The shapes of neighbouring tokens as bits, and one step of a position set over them.
 

@@ -1,4 +1,4 @@
-//! Made by `bin/rust_crate` from `crates/glob_pattern/src/pattern/compiled.rt`, where its contracts are: sha256 2a05525a43c4f138.
+//! Made by `bin/rust_crate` from `crates/glob_pattern/src/pattern/compiled.rt`, where its contracts are: sha256 657ea33323b2b1ef.
 //!
 //! What a match reads of a pattern, and how a match goes: the ends of the text are compared, a needle is searched for,
 //! and what is between goes through the automaton.
@@ -71,8 +71,8 @@ impl Compiled {
     }
 
     /// The answer of [`matches`](Self::matches), and how many questions it took: how often a token was asked whether it
-    /// takes a character. Each token at an end counts, though the text may be rejected before it is asked, and the first
-    /// counts twice: [`Ends::reject`] asks it, too.
+    /// takes a character. Each token at an end counts, though the text may be rejected before it is asked. If one is at
+    /// the start, and the text is not empty, one more counts: [`Ends::reject`] may compare the first byte beforehand.
     #[inline(always)]
     fn matches_asking(&self, pattern: &str, text: &str, options: MatchOptions) -> (bool, u128) {
         let tokens = self.tokens.as_slice();

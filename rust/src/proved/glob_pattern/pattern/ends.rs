@@ -1,4 +1,4 @@
-//! Made by `bin/rust_crate` from `crates/glob_pattern/src/pattern/ends.rt`, where its contracts are: sha256 2b9e54fda3ecae7c.
+//! Made by `bin/rust_crate` from `crates/glob_pattern/src/pattern/ends.rt`, where its contracts are: sha256 adf2aaa2056c5cbd.
 //!
 //! What a text has to have at its ends: the literals with which a pattern begins and ends, compared as bytes, and the
 //! characters that other tokens of one character take there.

@@ -1,4 +1,4 @@
-//! Made by `bin/rust_crate` from `crates/glob_pattern/src/pattern/escape.rt`, where its contracts are: sha256 eae733eb1f78dd8b.
+//! Made by `bin/rust_crate` from `crates/glob_pattern/src/pattern/escape.rt`, where its contracts are: sha256 6df2577e311c5ad5.
 //!
 //! Texts escaped, as patterns that match themselves.
 
@@ -7,6 +7,14 @@ use crate::proved::glob_pattern::pattern::Pattern;
 impl Pattern {
     /// The text as a pattern that matches it: each `?`, `*`, `[` and `]` is put in a bracket of its own, and every
     /// other character as it is. So `a[1].rs` becomes `a[[]1[]].rs`.
+    ///
+    /// ```
+    /// # use cadmiumdove::Pattern;
+    /// let escaped = Pattern::escape("a[1].rs");
+    /// assert_eq!(escaped, "a[[]1[]].rs");
+    /// assert!(Pattern::new(escaped.as_str())?.matches("a[1].rs"));
+    /// # Ok::<(), Box<dyn std::error::Error>>(())
+    /// ```
     ///
     /// <details><summary>Contract</summary>
     ///

@@ -1,4 +1,4 @@
-//! Made by `bin/rust_crate` from `crates/glob_pattern/src/token/taking.rt`, where its contracts are: sha256 eb3de1ecba3b4931.
+//! Made by `bin/rust_crate` from `crates/glob_pattern/src/token/taking.rt`, where its contracts are: sha256 e0f7677998fc9ee8.
 //!
 //! Which characters a token takes under the options.
 

@@ -1,4 +1,4 @@
-//! Made by `bin/rust_crate` from `crates/glob_set/src/set/asking.rt`, where its contracts are: sha256 b167efa649b03ca4.
+//! Made by `bin/rust_crate` from `crates/glob_set/src/set/asking.rt`, where its contracts are: sha256 1e7af800228cd9e5.
 //!
 //! Asking the patterns of a set that may match a text.
 

@@ -28,7 +28,7 @@ pub returns-then-not-branch-clause-followed : goal.returns-then-not-branch-claus
 returns-then-not-branch-clause-followed g c = λ f held direct links.
     let none : c.in_ok-leads.field-0 ≡ false = search rules in
     let above = direct_above f held.1 c.in-Some.above.now c.in-Some.field-0-1.now
-        (subst (λ p. is_direct f p ≡ true) c.in-Some.ensures.0 direct) in
+    (subst (λ p. is_direct f p ≡ true) c.in-Some.ensures.0 direct) in
     reasoned f _ _ _ refl (LeadsOn f c.in-Some.above.now false) (HasWay f c.args.path.now false)
     (way_below f held.1 c.args.path.now c.in-Some.above.now c.in-Some.field-0-1.now c.in-Some.ensures.0 c.in-Some.ensures.1 false)
     c.in_ok-leads.field-0 none (c.in_ok-leads.ensures.followed f held above links)
@@ -37,6 +37,6 @@ pub returns-clause-followed : goal.returns-clause-followed
 returns-clause-followed g c = λ f held direct links.
     let yes : c.in_ok-leads.field-0 ≡ true = search rules in
     let above = direct_above f held.1 c.in-Some.above.now c.in-Some.field-0-1.now
-        (subst (λ p. is_direct f p ≡ true) c.in-Some.ensures.0 direct) in
+    (subst (λ p. is_direct f p ≡ true) c.in-Some.ensures.0 direct) in
     ap (λ (d : LookupsModel _). g.S.Strays.paths d.strays) c.self.view_is
     ∙ subst (IsReasoned f _ _ (LeadsOn f c.in-Some.above.now false)) yes (c.in_ok-leads.ensures.followed f held above links)

@@ -32,8 +32,14 @@ returns-in_ok-leads_on-in-Some-clause-followed g c = λ f held direct links.
     let link = link_found f c.args.path.now c.in-Some.found here both.1 in
     ⊎_elim
     (λ is. inl (c.look_for.ensures ∙ followed_link f c.args.path.now c.in_ok-leads_on-in-Some.field-0 link is))
-    (λ r. inr ([], [], c.args.path.now, link, r.1,
-    r.2 ∙ ap (λ known. and_then known (c.args.path.now ∷ [])) (c.in_ok-found.ensures.known (ap is_some c.in-Some.is))))
+    (λ r. inr (
+      [],
+      [],
+      c.args.path.now,
+      link,
+      r.1,
+      r.2 ∙ ap (λ known. and_then known (c.args.path.now ∷ [])) (c.in_ok-found.ensures.known (ap is_some c.in-Some.is)),
+    ))
     (c.in_ok-leads_on-in-Some.ensures.leads f (subst (λ o. IsHeld o f) (sym c.found.ensures.files) held) direct)
 
 pub returns-in-Some-2-clause-seen : goal.returns-in-Some-2-clause-seen

@@ -1,4 +1,4 @@
-//! Made by `bin/rust_crate` from `crates/glob_pattern/src/pattern/char_masks/row.rt`, where its contracts are: sha256 4649933c91cc8281.
+//! Made by `bin/rust_crate` from `crates/glob_pattern/src/pattern/char_masks/row.rt`, where its contracts are: sha256 e8d836627ba75f33.
 //!
 //! A row of masks: for each class of characters, which of 63 neighbouring tokens take its characters.
 
