@@ -57,7 +57,7 @@ fi
 
 check_with rustfmt 'made anew it is the same' made_anew
 if has cargo; then
-    cp -rL "$root/rust" "$crate" && chmod -R a+rX "$crate"
+    "$root/bin/rust_package" "$crate" && chmod -R a+rX "$crate"
     check 'the layout' env -C "$crate" cargo fmt -q --check
     check 'the tests' env -C "$crate" cargo test -q
     [ "${#as[@]}" = 0 ] || check 'the tests as another user' \

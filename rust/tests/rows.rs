@@ -1,4 +1,4 @@
-//! Answers from outside, as the tables of `tests/tables` have them.
+//! Answers from outside, as the tables of the repository have them, which are packed with the crate.
 
 use std::fs;
 use std::path::{Path, PathBuf};
@@ -9,9 +9,16 @@ use cadmiumdove::set::braces::expand;
 use cadmiumdove::walk::is_plain;
 use cadmiumdove::{MatchOptions, Pattern};
 
-/// A table or a folder of tables.
-fn tables(path: &str) -> PathBuf {
-    Path::new(env!("CARGO_MANIFEST_DIR")).join("tests/tables").join(path)
+/// A folder of tables: in the package in `tests/tables`, and in the repository where they are.
+fn tables(name: &str) -> PathBuf {
+    let crate_folder = Path::new(env!("CARGO_MANIFEST_DIR"));
+    let packed = crate_folder.join("tests/tables").join(name);
+    let here = if name == "vectors" { "../crates/glob_vectors/data" } else { "../tests/rows" };
+    if packed.exists() {
+        packed
+    } else {
+        crate_folder.join(here)
+    }
 }
 
 /// Options by letters after a dash: `i` for either case, `s` for the separator rule, `d` for the dot rule.
@@ -112,7 +119,7 @@ fn rows() {
 /// Rows `FIELD|OPTIONS|PATTERN|TEXT|WANTED`, as the table says.
 #[test]
 fn pieces() {
-    let table = fs::read_to_string(tables("rows/captures.txt")).unwrap();
+    let table = fs::read_to_string(tables("rows").join("captures.txt")).unwrap();
     for row in table.lines().filter(|line| !line.starts_with('#')) {
         let [field, letters, pattern, text, wanted] = row.split('|').collect::<Vec<_>>()[..] else { panic!("{row}") };
         let text = text.replace("LONGEST", &"\u{10fffe}".repeat(4_194_304));
@@ -148,8 +155,8 @@ fn kind(kind: TokenKind) -> &'static str {
 /// An answer is the line that decides, or 0, and of a list that is refused `R` and why.
 #[test]
 fn ignore_lists() {
-    let questions = fs::read_to_string(tables("rows/git.questions")).unwrap();
-    let answers = fs::read_to_string(tables("rows/git.answers")).unwrap();
+    let questions = fs::read_to_string(tables("rows").join("git.questions")).unwrap();
+    let answers = fs::read_to_string(tables("rows").join("git.answers")).unwrap();
     let (mut list, mut found) = (IgnoreList::new(""), Vec::new());
     for question in questions.split_terminator('\0') {
         match (question.split_at(1), &list) {

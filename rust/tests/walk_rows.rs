@@ -1,4 +1,4 @@
-//! Walks from outside, as the table `tests/tables/vectors/walks.txt` has them, over trees in memory.
+//! Walks from outside, as the table `walks.txt` has them, which is packed with the crate, over trees in memory.
 
 use std::collections::BTreeMap;
 use std::fs;
@@ -178,8 +178,10 @@ fn options(setting: &str) -> MatchOptions {
 
 #[test]
 fn walk_rows() {
-    let table = Path::new(env!("CARGO_MANIFEST_DIR")).join("tests/tables/vectors/walks.txt");
-    let text = fs::read_to_string(table).unwrap();
+    let crate_folder = Path::new(env!("CARGO_MANIFEST_DIR"));
+    let packed = crate_folder.join("tests/tables/vectors/walks.txt");
+    let here = crate_folder.join("../crates/glob_vectors/data/walks.txt");
+    let text = fs::read_to_string(if packed.exists() { packed } else { here }).unwrap();
     let (mut state, mut count) = (State::default(), 0);
     for line in text.replace("\n ", " ").lines().filter(|line| !line.starts_with(['#', '='])) {
         if let Some((patterns, items)) = line.split_once(" =>") {
