@@ -47,6 +47,9 @@ def renamed(text, facts):
     for name, (variant, kind) in facts.wrappers.items():
         other = "::".join(part.name for part in kind.segments)
         text = re.sub(rf"\[`\w+`\]\({name}::{variant}\)|\[`{name}(::\w+)?`\]", f"[`{other}`]", text)
+        text = re.sub(rf"\b{name}::{variant}\((\w+)\)", r"\1", text)
+    for name in facts.hearers:
+        text = re.sub(rf"\b{name}\(Ok\(([\w:]+)\)\)", rf"{name}(\1)", text)
     return text.replace("is refused with `Syntax`: ", "is refused: ")
 
 

@@ -1,4 +1,5 @@
 //! Made by `bin/rust_crate` from `crates/glob/src/paths.rt`, where its contracts are: sha256 10032489a14f01ec.
+//! Public there: `spent`, `given`. A trait of a user may have a function of such a name.
 //!
 //! A walk over a tree, item by item.
 

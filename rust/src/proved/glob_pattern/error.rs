@@ -1,4 +1,6 @@
 //! Made by `bin/rust_crate` from `crates/glob_pattern/src/error.rt`, where its contracts are: sha256 86aed70ca7f78876.
+//! Public there: `kind`. A trait of a user may have a function of such a name.
+//! Not derived there: `PatternError`.
 //!
 //! Why a text is no pattern.
 

@@ -1,4 +1,5 @@
 //! Made by `bin/rust_crate` from `crates/glob_pattern/src/options.rt`, where its contracts are: sha256 c4edbafc49b97c7d.
+//! Public there: `with_letter`, `from_letters`, `from_bits`. A trait of a user may have a function of such a name.
 //!
 //! The options of a match.
 

@@ -1,4 +1,5 @@
 //! Made by `bin/rust_crate` from `crates/glob_pattern/src/pattern.rt`, where its contracts are: sha256 e1166e221dfc84ca.
+//! Public there: `matches_counted`. A trait of a user may have a function of such a name.
 //!
 //! Patterns: parsing, and matching texts.
 

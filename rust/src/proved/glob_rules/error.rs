@@ -1,4 +1,5 @@
 //! Made by `bin/rust_crate` from `crates/glob_rules/src/error.rt`, where its contracts are: sha256 62b0791887feaa67.
+//! Not derived there: `RuleRefusal`.
 //!
 //! Why a text is no ignore list.
 

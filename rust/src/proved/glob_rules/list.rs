@@ -1,4 +1,5 @@
 //! Made by `bin/rust_crate` from `crates/glob_rules/src/list.rt`, where its contracts are: sha256 2aab854f254df3ec.
+//! Not derived there: `IgnoreList`.
 //!
 //! Ignore lists: which paths they ignore, and by which rule.
 

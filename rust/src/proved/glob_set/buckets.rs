@@ -1,4 +1,5 @@
 //! Made by `bin/rust_crate` from `crates/glob_set/src/buckets.rt`, where its contracts are: sha256 4ef0cbcb71a026c9.
+//! Not derived there: `Bucket`.
 //!
 //! Lists of the patterns without a key that may match a text, by the class of its last two bytes.
 

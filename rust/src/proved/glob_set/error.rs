@@ -1,4 +1,5 @@
 //! Made by `bin/rust_crate` from `crates/glob_set/src/error.rt`, where its contracts are: sha256 b9fc2f6319d07838.
+//! Not derived there: `SetRefusal`, `BraceSetRefusal`.
 //!
 //! Why texts make no set.
 

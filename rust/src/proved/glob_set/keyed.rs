@@ -1,4 +1,5 @@
 //! Made by `bin/rust_crate` from `crates/glob_set/src/keyed.rt`, where its contracts are: sha256 50a80d879a99caf6.
+//! Not derived there: `Keyed`.
 //! `Vec::with_capacity` and `resize` are there `vec![x; n]`: memory that is asked for as zeros is never what was freed
 //! last, and costs more.
 //!

@@ -1,4 +1,5 @@
 //! Made by `bin/rust_crate` from `crates/glob_set/src/set.rt`, where its contracts are: sha256 9070166c840eab64.
+//! Not derived there: `PatternSet`.
 //! `of_texts` is there `from_texts`: by hand it takes all kinds of lists.
 //! `of_braces` is there `from_braces`: by hand it takes all kinds of lists.
 //!

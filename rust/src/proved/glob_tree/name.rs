@@ -1,4 +1,5 @@
 //! Made by `bin/rust_crate` from `crates/glob_tree/src/name.rt`, where its contracts are: sha256 3d3dc4a4fb5c6db5.
+//! Not derived there: `Name`.
 //!
 //! Names of entries.
 

@@ -1,4 +1,5 @@
 //! Made by `bin/rust_crate` from `crates/glob_tree/src/tree.rt`, where its contracts are: sha256 8b77f0ee2f44babb.
+//! Not derived there: `Entry`.
 //!
 //! Trees: what a walk can ask, and how it is answered.
 

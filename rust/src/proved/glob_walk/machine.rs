@@ -160,8 +160,8 @@ impl WalkMachine {
         }
     }
 
-    /// Answers the look that is asked for, and returns the next step. Where `*` looks at `.`, `looked(Ok(Look::Dir))`
-    /// is `Step::ListNames`, and `looked(Ok(Look::Missing))` is `Step::Done`.
+    /// Answers the look that is asked for, and returns the next step. Where `*` looks at `.`, `looked(Look::Dir)` is
+    /// `Step::ListNames`, and `looked(Look::Missing)` is `Step::Done`.
     ///
     /// <details><summary>Contract</summary>
     ///
@@ -179,8 +179,8 @@ impl WalkMachine {
 
     /// Answers the listing that is asked for, of entries or of names alone, with its entries in any order, and returns
     /// the next step, for one unit of work an entry. Where `*` lists `.`, `listed` of the files `y` and `x` gives the
-    /// item `x`. After `Err(ListError::Read(e))` that is an error with the path, the kind of `e` and the cause `Read`,
-    /// and the walk goes on.
+    /// item `x`. After `Err(e)` that is an error with the path, the kind of `e` and the cause `Read`, and the walk goes
+    /// on.
     ///
     /// <details><summary>Contract</summary>
     ///
