@@ -1,0 +1,73 @@
+//! A directory on the way.
+ghost use Rattle.std.specs.Prelude.{◌≡◌, OnSome, vec_len};
+
+use glob_tree::Entry;
+use std::alloc::Allocator;
+
+/// A directory that is to be entered.
+#[derive(Drop)]
+pub struct Opening<A: Allocator> {
+    pub path: String<A>,
+    /// The beginnings that are alive in it.
+    pub alive: Vec<usize, A>,
+}
+
+/// What is known of the entries of a directory.
+#[derive(Clone, Copy, PartialEq, Eq)]
+pub enum Source {
+    /// Some names were looked up, and these are there. Others may be, too.
+    LookedUp,
+    /// All of them, with their kinds.
+    Listed,
+    /// All names, and no kinds.
+    Named,
+}
+
+/// A directory that was entered.
+#[derive(Drop)]
+pub struct Frame<A: Allocator> {
+    pub path: String<A>,
+    /// The beginnings that are alive in it.
+    pub alive: Vec<usize, A>,
+    pub source: Source,
+    /// Its entries that are still to be met, each name once, in descending order: the last is met first.
+    pub entries: Vec<Entry<A>, A>,
+    /// How many of the names of files with rules were read, or are not there.
+    pub files: usize,
+    /// How many files with rules are heard from the directories above it.
+    pub heard: usize,
+}
+
+impl<A: Allocator> Frame<A> {
+    /// The number of the next of these names that may be in it, which is passed by this.
+    pub fn next_file(&mut self, names: &[String<A>]) -> Option<usize>
+        ensures { self.new.entries ≡ self.old.entries }
+    {
+        while self.files < names.len() {
+            let number = self.files;
+            self.files += 1;
+            if self.may_have(names[number].as_str()) {
+                return Some(number);
+            }
+        }
+        None
+    }
+
+    /// Whether an entry of it is a directory, if that is known.
+    pub fn kind_of(&self, entry: &Entry<A>) -> Option<bool> {
+        match self.source {
+            Source::LookedUp | Source::Listed => Some(entry.is_dir),
+            Source::Named => None,
+        }
+    }
+
+    /// Whether a name may be in it: not where its names are known, and this is none of them.
+    fn may_have(&self, name: &str) -> bool {
+        self.source == Source::LookedUp
+            || self
+                .entries
+                .as_slice()
+                .binary_search_by(|entry| name.cmp(entry.name.as_str()))
+                .is_ok()
+    }
+}

@@ -1,0 +1,34 @@
+//! Where the texts of ignore files come from.
+ghost use Rattle.std.specs.Prelude.{◌≡◌, ℕ, List, Option, None, Some, IfOk, option_map, string_bytes};
+
+use glob_tree::ListError;
+use std::alloc::{Allocator, Global};
+
+/// The texts of files with rules. Contracts see them as `texts`, by path, where they are known.
+pub trait RuleTexts: Drop {
+    /// The allocator of the texts.
+    type Alloc: Allocator + Copy;
+
+    ghost texts: { Self → Option (List ℕ → Option (List ℕ)) };
+
+    /// The text of the file at a path, as `src/.gitignore`, or `None` where there is no file. The error says why it
+    /// cannot be read.
+    fn text(&mut self, path: &str) -> Result<Option<String<Self::Alloc>>, ListError>
+        ensures kept { texts self.new ≡ texts self.old }
+        ensures text { (known : List ℕ → Option (List ℕ)) → texts self.old ≡ Some known
+            → IfOk result (λ text. option_map (λ t. string_bytes t) text ≡ known path.now) };
+}
+
+/// No files with rules.
+#[derive(Drop)]
+pub struct NoRuleTexts;
+
+impl RuleTexts for NoRuleTexts {
+    type Alloc = Global;
+
+    ghost texts = { λ _. Some (λ path. None) };
+
+    fn text(&mut self, _path: &str) -> Result<Option<String>, ListError> {
+        Ok(None)
+    }
+}

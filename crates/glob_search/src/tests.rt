@@ -1,0 +1,221 @@
+//! Replays rows over a tree in memory, and counts what is asked of it.
+ghost use Rattle.std.specs.Prelude.{None};
+
+mod rows;
+
+use crate::{RuleTexts, Search, SearchFault, Settings, Wanted};
+use glob_pattern::MatchOptions;
+use glob_rules::IgnoreList;
+use glob_tree::{Entry, ListError, Look, MemTree, Tree};
+use rows::{ROWS, SOURCE};
+use std::alloc::{AllocError, Global};
+use std::io;
+use std::io::ErrorKind;
+
+/// A search over a tree.
+#[derive(Drop)]
+struct Row<'a> {
+    /// Its keys, with spaces between.
+    keys: &'a str,
+    patterns: &'a str,
+    /// Options, kinds and the depth.
+    letters: &'a str,
+    /// The rules that come before those of files.
+    rules: &'a str,
+    /// The names of files with rules.
+    rule_files: &'a str,
+    /// The texts of these files, with `;` between.
+    texts: &'a str,
+    found: &'a str,
+    /// How often directories are listed, and paths looked up.
+    lists: usize,
+    looks: usize,
+}
+
+/// The fields of a row, which stand between `|`.
+fn row_of(text: &str) -> Option<Row<'_>> {
+    let mut fields = text.split('|');
+    let keys = fields.next()?;
+    let keys = if keys == "SOURCE" { SOURCE } else { keys };
+    Some(Row {
+        keys,
+        patterns: fields.next()?,
+        letters: fields.next()?,
+        rules: fields.next()?,
+        rule_files: fields.next()?,
+        texts: fields.next()?,
+        found: fields.next()?,
+        lists: fields.next()?.parse().ok()?,
+        looks: fields.next()?.parse().ok()?,
+    })
+}
+
+/// A tree in memory that counts what is asked of it.
+#[derive(Drop)]
+struct Counted {
+    tree: MemTree,
+    looks: usize,
+    lists: usize,
+}
+
+impl Tree for Counted {
+    type Alloc = Global;
+
+    ghost tells = { λ _. None };
+
+    ghost asks = { λ counted. counted.tree.asks };
+
+    fn look(&mut self, path: &str) -> Result<Look, AllocError> {
+        self.looks = self.looks.saturating_add(1);
+        self.tree.look(path)
+    }
+
+    fn list(&mut self, path: &str) -> Result<Vec<Entry>, ListError> {
+        self.lists = self.lists.saturating_add(1);
+        self.tree.list(path)
+    }
+}
+
+/// The texts of a row, each after its path and `:`, with ` ` for each end of a line.
+#[derive(Drop)]
+struct RowTexts<'a> {
+    files: &'a str,
+    alloc: Global,
+}
+
+impl RuleTexts for RowTexts<'_> {
+    type Alloc = Global;
+
+    ghost texts = { λ _. None };
+
+    fn text(&mut self, path: &str) -> Result<Option<String>, ListError> {
+        for file in self.files.split(';') {
+            let Some((name, text)) = file.split_once(':') else {
+                continue;
+            };
+            if name == path {
+                if text == "!!" {
+                    return Err(ListError::Read(io::Error::from(ErrorKind::PermissionDenied)));
+                }
+                return Ok(Some(lines_of(self.alloc, text)?));
+            }
+        }
+        Ok(None)
+    }
+}
+
+/// The text with an end of a line for each space.
+fn lines_of(alloc: Global, text: &str) -> Result<String, AllocError> {
+    let mut lines = String::new(alloc);
+    for c in text.chars() {
+        lines.push(if c == ' ' { '\n' } else { c })?;
+    }
+    Ok(lines)
+}
+
+/// The tree of the keys of a row: directories end in `/`, and those that cannot be listed in `/!`.
+fn tree_of(alloc: Global, keys: &str) -> Result<MemTree, AllocError> {
+    let mut tree = MemTree::new(alloc)?;
+    for key in keys.split_whitespace() {
+        let mut path = String::from_str(alloc, "/")?;
+        let added = if let Some(key) = key.strip_suffix("/!") {
+            path.push_str(key)?;
+            tree.add_shut(path.as_str(), ErrorKind::PermissionDenied)
+        } else if let Some(key) = key.strip_suffix('/') {
+            path.push_str(key)?;
+            tree.add_dir(path.as_str())
+        } else {
+            path.push_str(key)?;
+            tree.add_other(path.as_str())
+        };
+        if added.is_err() {
+            return Err(AllocError);
+        }
+    }
+    Ok(tree)
+}
+
+/// The settings of a row: letters `i` and `d` of options, `D` and `F` for directories and others alone, and a digit
+/// for the depth.
+fn settings_of(alloc: Global, row: &Row) -> Result<Settings, AllocError> {
+    let mut settings = Settings::new(alloc);
+    for c in row.letters.chars() {
+        match c {
+            'D' => settings.wanted = Wanted::Directories,
+            'F' => settings.wanted = Wanted::Others,
+            _ => match c.to_digit(10) {
+                Some(depth) => settings.depth = depth as usize,
+                None => settings.options = settings
+                    .options
+                    .with_letter(c)
+                    .unwrap_or(MatchOptions::new()),
+            },
+        }
+    }
+    if !row.rules.is_empty() {
+        let text = lines_of(alloc, row.rules)?;
+        settings.rules = IgnoreList::new(alloc, text.as_str()).ok();
+    }
+    for name in row.rule_files.split_whitespace() {
+        let name = String::from_str(alloc, name)?;
+        settings.rule_files.push(name)?;
+    }
+    Ok(settings)
+}
+
+/// What a search finds, with spaces between. A fault begins with `!`.
+fn found_by(alloc: Global, row: &Row, tree: &mut Counted) -> Result<String, AllocError> {
+    let mut patterns = Vec::new(alloc);
+    for pattern in row.patterns.split_whitespace() {
+        patterns.push(pattern)?;
+    }
+    let mut found = String::new(alloc);
+    let Ok(mut search) = Search::new(alloc, patterns.as_slice(), settings_of(alloc, row)?) else {
+        found.push_str("refused")?;
+        return Ok(found);
+    };
+    let mut texts = RowTexts {
+        files: row.texts,
+        alloc,
+    };
+    for _ in 0..1000 {
+        let Some(item) = search.next(tree, &mut texts) else {
+            break;
+        };
+        if !found.is_empty() {
+            found.push(' ')?;
+        }
+        match item {
+            Ok(path) => found.push_str(path.as_str())?,
+            Err(SearchFault::Unread(path, _))
+            | Err(SearchFault::UnreadRules(path, _))
+            | Err(SearchFault::RefusedRules(path, _, _)) => {
+                found.push('!')?;
+                found.push_str(path.as_str())?;
+            }
+            Err(SearchFault::Limit) => found.push_str("!limit")?,
+            Err(SearchFault::Memory) => found.push_str("!memory")?,
+        }
+    }
+    Ok(found)
+}
+
+#[test]
+fn finds_what_rows_say(rt: HostRuntime) -> Result<(), AllocError> {
+    for text in ROWS {
+        let Some(row) = row_of(text) else {
+            assert!(rt; false, "{text}");
+            continue;
+        };
+        let mut tree = Counted {
+            tree: tree_of(rt.alloc(), row.keys)?,
+            looks: 0,
+            lists: 0,
+        };
+        let found = found_by(rt.alloc(), &row, &mut tree)?;
+        assert_eq!(rt; found.as_str(), row.found, "{text}");
+        assert_eq!(rt; tree.lists, row.lists, "listings: {text}");
+        assert_eq!(rt; tree.looks, row.looks, "looks: {text}");
+    }
+    Ok(())
+}

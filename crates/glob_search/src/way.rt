@@ -1,0 +1,67 @@
+//! The way down to where a search is, and what it does next.
+ghost use Rattle.std.specs.Prelude.{◌≡◌, ◌+◌, ◌≤◌, MatchOption, ⊤};
+
+use crate::frame::{Frame, Opening};
+use glob_tree::Entry;
+use std::alloc::{AllocError, Allocator};
+
+/// What a search does next.
+#[derive(Drop)]
+pub enum Work<A: Allocator> {
+    /// It enters a directory.
+    Enter(Opening<A>),
+    /// It reads the file with rules that has the name with a number, in the last directory.
+    Read(usize),
+    /// It meets an entry of the last directory.
+    Meet(Entry<A>),
+    /// It has left a directory, above which this many files with rules are heard.
+    Leave(usize),
+}
+
+/// The directories on the way down, and the one that is entered next.
+#[derive(Drop)]
+pub struct Way<A: Allocator> {
+    pub entering: Option<Opening<A>>,
+    pub frames: Vec<Frame<A>, A>,
+}
+
+impl<A: Allocator> Way<A> {
+    ghost use Rattle.glob_search.specs.Private.Weights.{way_weight, work_weight};
+
+    /// What is done next, where the files with rules have these names; `None` where nothing is left.
+    pub fn next(&mut self, names: &[String<A>]) -> Option<Work<A>>
+        ensures { MatchOption result ⊤
+            (λ work. way_weight self.new + work_weight work ≡ way_weight self.old) }
+    {
+        if let Some(opening) = self.entering.take() {
+            return Some(Work::Enter(opening));
+        }
+        let frame = self.frames.last_mut()?;
+        if let Some(number) = frame.next_file(names) {
+            return Some(Work::Read(number));
+        }
+        if let Some(entry) = frame.entries.pop() {
+            return Some(Work::Meet(entry));
+        }
+        let frame = self.frames.pop()?;
+        Some(Work::Leave(frame.heard))
+    }
+
+    /// Enters a directory next, if `enters` says so.
+    pub fn enter_if(
+        &mut self,
+        enters: bool,
+        path: &String<A>,
+        alive: Vec<usize, A>,
+    ) -> Result<(), AllocError>
+    where
+        A: Copy,
+        ensures { way_weight self.new ≤ way_weight self.old + 1 }
+    {
+        if enters {
+            let path = path.clone()?;
+            self.entering = Some(Opening { path, alive });
+        }
+        Ok(())
+    }
+}
