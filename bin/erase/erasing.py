@@ -74,11 +74,12 @@ class Eraser:
         if kind == "impl":
             of = last(item.of)
             source = item.of.segments[-1].arguments if of == "From" else None
+            if of == "Display" and last(item.type) in self.facts.wrappers \
+                    and not re.search(r"\bfmt\((f|&?\w+, f)\)", self.text[item.start:item.end]):
+                raise SystemExit(f"{last(item.type)}: it is not printed as what it holds")
             from_failure = source and last(source.types[0]) in ("AllocError", "AllocFailed")
             return of == "Model" or bool(from_failure) or last(item.type) in self.facts.wrappers \
                 or (of, last(item.type)) in BY_HAND
-            if of == "Display" and last(item.type) in self.facts.wrappers and ".fmt(f)" not in self.text[item.start:item.end]:
-                raise SystemExit(f"{last(item.type)}: it is not printed as what it holds")
         if kind == "fn" and self.of:
             return False
         if kind == "fn":

@@ -137,7 +137,8 @@ class Crate:
             for node, owner in owned(parser.tree):
                 if node.kind == "fn":
                     heads.update([(owner, node.name), node.name] if takes_self(node) else [(owner, node.name)])
-                    if not node.in_trait and node.body and unread_places(parser, node):
+                    if not node.in_trait and node.body and unread_places(parser, node) \
+                            and not self.is_exported(parser, node, owner):
                         gone[owner, node.name] = unread_places(parser, node), takes_self(node)
         gone = {(owner, name): places for (owner, name), (places, is_method) in gone.items()
             if heads[owner, name] == 1 and (not is_method or heads[name] == 1)}
@@ -272,7 +273,9 @@ class Crate:
 
     def is_exported(self, parser, node, owner):
         is_public = node.visible and parser.source[node.visible.start:node.visible.end] == "pub"
-        return node.name in self.by_hand and not owner or owner in self.by_hand and (is_public or node.name in self.by_hand)
+        if not owner:
+            return any(path[-1] == node.name for path in self.from_hand)
+        return owner in self.by_hand and (is_public or node.name in self.by_hand)
 
     def own(self, node, files):
         """How often a type is named by itself and its `impl`s."""

@@ -1,0 +1,126 @@
+#!/usr/bin/env python3
+"""Forms of sources, and what bin/erase makes of each: Rust, or a stop. The last line is 'N passed, M failed'."""
+
+import sys
+from pathlib import Path
+
+sys.dont_write_bytecode = True
+sys.path.insert(0, str(Path(__file__).resolve().parent.parent / "bin"))
+from erase.erasing import Eraser
+from erase.facts import Facts
+from erase.finishing import Crate, parsed, with_traits
+from erase.tokens import tokens
+from lib.count import Count
+
+# A name, a source, and what is left of it; without that it has to stop.
+ERASED = [
+    ("a contract", "fn f(x: u8) -> u8\n    requires some { 0 < x }\n    ensures { result ≡ x }\n{ x }", "fn f(x: u8) -> u8 { x }"),
+    ("a contract of a closure", "fn f(v: &[u8]) { v.iter().all(|x: &u8| -> bool ensures { result ≡ true } { *x > 0 }); }",
+        "fn f(v: &[u8]) { v.iter().all(|x: &u8| -> bool { *x > 0 }); }"),
+    ("ghost lines", "ghost use a.b.{◌≡◌, c};\nstruct S { n: u8, ghost few: { n ≤ 3 }, }\nimpl T for S { ghost m = { λ s. s.n }; type I = u8; }",
+        "struct S { n: u8, }\nimpl T for S { type I = u8; }"),
+    ("a ghost of another form", "fn f(n: &mut u8) { ghost { x } *n += 1; }", None),
+    ("tactics and derives", "#[tactic(auto)]\n#[derive(Clone, Drop)]\n#[derive_where(Debug)]\nstruct S;", "#[derive(Clone)]\n#[derive(Debug)]\nstruct S;"),
+    ("an allocator", "struct S<A: Allocator = Global> { v: Vec<u8, A>, alloc: A }\nimpl<A: Allocator + Copy> S<A> {\n"
+        "fn of(alloc: A) -> Self { S { v: Vec::new(alloc), alloc } } }",
+        "struct S { v: Vec<u8> } impl S { fn of() -> Self { S { v: Vec::new() } } }"),
+    ("an allocator of a tree", "fn f<T: Tree<Alloc = A>, A: Allocator>(t: &T, e: Entry<T::Alloc>) {}", "fn f<T: Tree>(t: &T, e: Entry) {}"),
+    ("an allocator by a name", "fn f<A: Allocator + Copy>(v: &Vec<u8, A>) { let heap = *v.allocator(); g(heap, 1); }",
+        "fn f(v: &Vec<u8>) { g(1); }"),
+    ("a failing call", "fn g<A: Allocator>(v: &mut Vec<u8, A>) -> Result<(), AllocError> { v.push(1)?; Ok(()) }",
+        "fn g(v: &mut Vec<u8>) { v.push(1); }"),
+    ("another error", "fn g(t: &str) -> Result<u8, ParseError> { let n = t.parse()?; Ok(n) }",
+        "fn g(t: &str) -> Result<u8, ParseError> { let n = t.parse()?; Ok(n) }"),
+    ("answers in branches", "fn g(n: u8) -> Result<u8, AllocError> { if n > 1 { return Ok(2); } match n { 0 => Ok(0), _ => { h(n)?; Ok(n) } } }\n"
+        "fn h(n: u8) -> Result<(), AllocError> { Ok(()) }",
+        "fn g(n: u8) -> u8 { if n > 1 { return 2; } match n { 0 => 0, _ => { h(n); n } } } fn h(n: u8) { }"),
+    ("an answer that is a pattern", "fn g(r: Result<u8, E>) -> Result<u8, AllocError> { Ok(match r { Ok(n) => n, Err(_) => 0 }) }",
+        "fn g(r: Result<u8, E>) -> u8 { match r { Ok(n) => n, Err(_) => 0 } }"),
+    ("a return without a value", "fn g(n: u8) -> Result<(), AllocError> { if n > 1 { return Ok(()); } Ok(()) }", "fn g(n: u8) { if n > 1 { return; } }"),
+    ("let with else", "fn g() -> Result<u8, AllocError> { Ok(1) } fn f() -> u8 { let Ok(n) = g() else { return 0; }; n }",
+        "fn g() -> u8 { 1 } fn f() -> u8 { let n = g(); n }"),
+    ("a match of a failing call", "fn g() -> Result<u8, AllocError> { Ok(1) } fn f() -> u8 { match g() { Ok(n) => n + 1, Err(_) => 0 } }",
+        "fn g() -> u8 { 1 } fn f() -> u8 { let n = g(); n + 1 }"),
+    ("a match that binds before other statements", "fn g() -> Result<u8, AllocError> { Ok(1) }\n"
+        "fn f(x: u8) -> u8 { match g() { Ok(x) => { h(x); } Err(_) => return 0 } x }",
+        "fn g() -> u8 { 1 } fn f(x: u8) -> u8 { { let x = g(); h(x); } x }"),
+    ("a failure heard in another way", "fn g() -> Result<u8, AllocError> { Ok(1) } fn f() -> bool { g().is_ok() }", None),
+    ("an error that is another or memory", "enum R { Syntax(E), Memory }\nimpl From<AllocError> for R { fn from(_e: AllocError) -> R { R::Memory } }\n"
+        "fn f(r: R) -> u8 { match r { R::Syntax(e) => e.n, R::Memory => 0 } } fn g(e: E) -> Result<u8, R> { Err(R::Syntax(e)) }",
+        "fn f(r: E) -> u8 { let e = r; e.n } fn g(e: E) -> Result<u8, E> { Err(e) }"),
+    ("an error with two others", "enum R { A(E), B(F), Memory } fn f(r: R) -> u8 { match r { R::A(e) => 1, R::B(_) | R::Memory => 0 } }",
+        "enum R { A(E), B(F), } fn f(r: R) -> u8 { match r { R::A(e) => 1, R::B(_) => 0 } }"),
+    ("an error that is printed in words of its own", "enum R { Syntax(E), Memory }\nimpl fmt::Display for R { fn fmt<W: fmt::Write>(&self, f: &mut "
+        'fmt::Formatter<W>) -> fmt::Result { match self { R::Syntax(e) => write!(f, "no: {e}"), R::Memory => f.write_str("m") } } }', None),
+    ("a formatter", "impl fmt::Display for S { fn fmt<W: fmt::Write>(&self, f: &mut fmt::Formatter<W>) -> fmt::Result { write!(f, \"a\") } }",
+        "impl fmt::Display for S { fn fmt(&self, f: &mut fmt::Formatter<'_>) -> fmt::Result { write!(f, \"a\") } }"),
+    ("a text that is written to", 'fn f<A: Allocator>(t: &mut String<A>) -> Result<(), AllocError> { writeln!(t, "{x}")?; Ok(()) }',
+        'fn f(t: &mut String) { t.push_str(&format!("{x}\\n")); }'),
+    ("memory that is filled", "fn f<A: Allocator>(alloc: A, n: usize) -> Result<Vec<u8, A>, AllocError> { let v = vec![in alloc; 0; n]?; Ok(v) }",
+        "fn f(n: usize) -> Vec<u8> { let v = Vec::with_capacity(n); v.resize(n, 0); v }"),
+    ("memory of a length that changes something", "fn f(alloc: A, m: &mut M) { let v = vec![in alloc; 0; m.next()]?; }", None),
+    ("a variable for a proof", "fn f(t: &str) { let _ = t; let _text = t; g(t); }", "fn f(t: &str) { g(t); }"),
+    ("a value that is dropped", "fn f(t: Text) { let _t = t; g(); }", "fn f(t: Text) { let _t = t; g(); }"),
+    ("a function that makes the error of memory", "impl E { fn memory() -> E { E { cause: Cause::Memory } } fn other() -> E { E { cause: Cause::Other } } }",
+        "impl E { fn other() -> E { E { cause: Cause::Other } } }"),
+    ("a function of a trait that takes a path", "impl T for S { fn at(&self, p: Path<'_>) -> u8 { 1 } }", "impl T for S { fn at(&self, p: &Path) -> u8 { 1 } }"),
+]
+# The same of what is finished: a function `main` is called by hand.
+FINISHED = [
+    ("a parameter that nothing reads", "pub fn main(n: u8) -> u8 { f(n, 1) } fn f(n: u8, most: u8) -> u8 { n }",
+        "pub fn main(n: u8) -> u8 { f(n) } fn f(n: u8) -> u8 { n }"),
+    ("an argument that changes something", "pub fn main(m: &mut M) -> u8 { f(1, m.next()) } fn f(n: u8, most: u8) -> u8 { n }", None),
+    ("a parameter that a text names", 'pub fn main(n: u8) -> String { f(n) } fn f(n: u8) -> String { format!("{n}") }',
+        'pub fn main(n: u8) -> String { f(n) } fn f(n: u8) -> String { format!("{n}") }'),
+    ("a parameter of a trait", "pub fn main() -> u8 { S.at(1) } struct S; impl T for S { fn at(&self, n: u8) -> u8 { 1 } }",
+        "pub fn main() -> u8 { S.at(1) } struct S; impl T for S { fn at(&self, n: u8) -> u8 { 1 } }"),
+    ("a method called by its path", "pub fn main(s: &S) -> u8 { S::f(s, 1, 2) } pub struct S; impl S { fn f(&self, n: u8, m: u8) -> u8 { m } }",
+        "pub fn main(s: &S) -> u8 { S::f(s, 2) } pub struct S; impl S { fn f(&self, m: u8) -> u8 { m } }"),
+    ("a function that nothing calls", "pub fn main() -> u8 { 1 } fn f() -> u8 { g() } fn g() -> u8 { 2 }", "pub fn main() -> u8 { 1 }"),
+    ("a variable that nothing reads", "pub fn main(s: &str) -> u8 { let bytes = s.as_bytes(); 1 }", "pub fn main(s: &str) -> u8 { 1 }"),
+    ("a call for its effect", "pub fn main(v: &mut Vec<u8>) -> u8 { let top = v.pop(); 1 }", "pub fn main(v: &mut Vec<u8>) -> u8 { let top = v.pop(); 1 }"),
+    ("a field that is compared", "pub fn main(a: S, b: S) -> bool { a == b } #[derive(PartialEq)] struct S { n: u8 }",
+        "pub fn main(a: S, b: S) -> bool { a == b } #[derive(PartialEq)] struct S { n: u8 }"),
+    ("a field that nothing reads", "pub fn main(n: u8) -> S { S { n, m: 1 } } struct S { n: u8, m: u8 } impl S { fn n(&self) -> u8 { self.n } } "
+        "impl T for S { fn t(&self) -> u8 { self.n } }", "pub fn main(n: u8) -> S { S { n } } struct S { n: u8, } impl T for S { fn t(&self) -> u8 { self.n } }"),
+    ("a function of a trait of Rust", "pub fn main(s: &S) -> S { s.clone() } struct S; impl S { pub fn clone(&self) -> Self { S } }",
+        "pub fn main(s: &S) -> S { s.clone() } struct S; impl Clone for S { fn clone(&self) -> Self { S } }"),
+]
+
+
+def erased(source):
+    parser = parsed(source)
+    facts = Facts([parser.tree])
+    eraser = Eraser(parser, facts)
+    eraser.visit(parser.tree)
+    return with_traits(eraser.edits.result()), facts
+
+
+def finished(source):
+    text, facts = erased(source)
+    crate = Crate({("glob", "lib.rt"): text}, {"glob"}, [parsed("use crate::proved::glob::main;")], facts)
+    crate.without_dead()
+    crate.collect()
+    return crate.finished(("glob", "lib.rt"))
+
+
+def words(text):
+    """The tokens of a text, without commas before brackets."""
+    found = [token.text for token in tokens(text) if token.kind != "comment"]
+    return [word for word, after in zip(found, found[1:] + [""]) if not (word == "," and after in "})]>")]
+
+
+def main():
+    count = Count()
+    rows = [(row, lambda source: erased(source)[0]) for row in ERASED] + [(row, finished) for row in FINISHED]
+    for (name, source, wanted), made in rows:
+        try:
+            found = words(made(source))
+        except (SyntaxError, SystemExit):
+            found = None
+        count.same(name, found, words(wanted) if wanted is not None else None)
+    count.end()
+
+
+if __name__ == "__main__":
+    main()
