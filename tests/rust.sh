@@ -63,6 +63,7 @@ if has cargo; then
     [ "${#as[@]}" = 0 ] || check 'the tests as another user' \
         env -C "$crate" cargo test -q --tests --config "target.'cfg(unix)'.runner = '${as[*]}'"
     check 'the package alone' packed
+    check 'the documentation' env -C "$crate" RUSTDOCFLAGS='-D warnings' cargo doc -q
     check_with cargo-clippy 'clippy' env -C "$crate" cargo clippy -q --all-targets -- -D warnings
     if [ -n "$original" ]; then
         beside_the_original

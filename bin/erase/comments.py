@@ -33,7 +33,7 @@ def without_memory(sentence, fails):
 
 def prose(lines, fails, facts, width, paths):
     """The lines of one paragraph without what they say of memory."""
-    text = renamed(" ".join(line.strip() for line in lines), facts)
+    text = with_errors(" ".join(line.strip() for line in lines), facts)
     if text.startswith(("Contracts see ", "- `tells` ", "- `asks` ")):
         return []
     sentences = re.split(r"(?<=[.:]) (?=[A-Z`\[])(?!Then )", text)
@@ -42,7 +42,7 @@ def prose(lines, fails, facts, width, paths):
         break_long_words=False, break_on_hyphens=False)
 
 
-def renamed(text, facts):
+def with_errors(text, facts):
     """With the names of the errors that are in the places of others."""
     for name, (variant, kind) in facts.wrappers.items():
         other = "::".join(part.name for part in kind.segments)
@@ -109,7 +109,7 @@ def erased(parser, tree, facts):
     return eraser.edits.result()
 
 
-def with_comments(parser, facts, paths):
+def rewritten(parser, facts, paths):
     """The text of a file, whose comments say nothing of memory, and name items by their paths in the one crate."""
     edits = Edits(parser.source)
     fallible = {node.start: last(node.answer) == "Result" for node in parser.tree.walk() if node.kind == "fn"}

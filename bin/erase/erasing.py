@@ -19,7 +19,7 @@ class Eraser:
     """Erases in one source."""
 
     def __init__(self, parser, facts, exported=frozenset()):
-        self.text, self.all, self.exported = parser.source, parser.all, exported
+        self.parser, self.text, self.exported = parser, parser.source, exported
         self.edits, self.facts = Edits(parser.source), facts
         self.memory_types = [set()]  # allocator types in scope
         self.memory_names = [set()]  # variables that are allocators
@@ -50,18 +50,9 @@ class Eraser:
     def items(self, items):
         for item in items:
             if self.is_gone(item):
-                self.cut_item(item)
+                self.edits.drop(*self.parser.with_comments(item))
             else:
                 self.visit(item)
-
-    def cut_item(self, item):
-        """Cuts an item with its comments."""
-        start = item.start
-        for token in reversed([token for token in self.all if token.end <= item.start]):
-            if token.kind != "comment" or token.text.startswith("//!") or self.text[token.end:start].count("\n") > 1:
-                break
-            start = token.start
-        self.edits.drop(start, item.end)
 
     def is_gone(self, item):
         kind = item.kind
@@ -151,10 +142,8 @@ class Eraser:
 
     def cut_field(self, field):
         """Cuts a field or a variant with its comments and its comma."""
-        item = type("Field", (), {"start": field.start, "end": field.end})
-        if self.text[item.end:item.end + 1] == ",":
-            item.end += 1
-        self.cut_item(item)
+        start, end = self.parser.with_comments(field)
+        self.edits.drop(start, end + (self.text[end:end + 1] == ","))
 
     def visit_enum(self, node):
         def inside():
@@ -468,7 +457,7 @@ class Eraser:
         self.visit_parts(node)
         arms = [arm for arm in node.arms if not self.is_memory_pattern(arm.pattern)]
         if self.fails(node.value):
-            arms = [arm for arm in arms if last_name(arm.pattern) != "Err"]
+            arms = [arm for arm in arms if last(arm.pattern) != "Err"]
             for arm in arms:
                 self.unwrap_pattern(arm.pattern)
         if len(arms) == 1 and not arms[0].guard and self.is_plain(arms[0].pattern):
@@ -479,7 +468,7 @@ class Eraser:
                 self.cut(arm)
 
     def unwrap_pattern(self, pattern):
-        if last_name(pattern) == "Ok":
+        if last(pattern) == "Ok":
             self.edits.put(pattern.start, pattern.patterns[0].start)
             self.edits.put(pattern.patterns[-1].end, pattern.end)
 
@@ -554,10 +543,6 @@ def mark_answer(node, in_arm=False):
 def is_writer(param):
     """Whether a generic parameter is what a formatter writes to, which is none of a formatter in Rust."""
     return any(bound.kind == "path_type" and [part.name for part in bound.segments] == ["fmt", "Write"] for bound in param.bounds)
-
-
-def last_name(pattern):
-    return pattern.segments[-1].name if pattern.kind in ("call_pattern", "path_pattern") else None
 
 
 def returns(node):

@@ -11,8 +11,8 @@ PURE_CALLS = {"as_bytes", "as_slice", "as_str", "checked_add", "checked_mul", "d
 
 
 def last(node):
-    """The last name of a type or path."""
-    return node.segments[-1].name if node is not None and node.kind in ("path_type", "path") else None
+    """The last name of a type or path, and of what begins with one."""
+    return node.segments[-1].name if getattr(node, "segments", None) else None
 
 
 def memory_result(node):

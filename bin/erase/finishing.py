@@ -26,16 +26,6 @@ def owned(tree, owner=None, in_trait=False):
             yield from owned(item, name, item.kind == "trait" or item.of is not None)
 
 
-def with_comments(parser, node):
-    """The place of an item with its comments."""
-    start = node.start
-    for token in reversed([token for token in parser.all if token.end <= node.start]):
-        if token.kind != "comment" or token.text.startswith("//!") or parser.source[token.end:start].count("\n") > 1:
-            break
-        start = token.start
-    return start, node.end
-
-
 def names_in(parser, node):
     """How often each name is in the code of a node, also in texts as those of `format!`, and not as that of a field."""
     found, before = Counter(), ""
@@ -84,7 +74,7 @@ def with_traits(text):
             continue
         moved = [item for item in block.items if item.kind == "fn" and (item.name, len(item.params)) in TRAITS]
         for item in moved:
-            start, end = with_comments(parser, item)
+            start, end = parser.with_comments(item)
             edits.drop(start, end)
             said = text[start:item.plain_start] + text[item.visible.end if item.visible else item.plain_start:end]
             error = ""
@@ -210,13 +200,13 @@ class Crate:
             for node, owner in owned(parser.tree):
                 for part in node.walk() if node.kind == "fn" else ():
                     if part.kind == "struct_value":
-                        kind = owner if last_of(part) == "Self" else last_of(part)
+                        kind = owner if last(part) == "Self" else last(part)
                         self.without_pure(edits[key], part.fields, lambda field: (kind, field.name) in gone)
                     elif part.kind == "arm":
                         self.arm(parser, part, edits[key], gone)
                 for part in getattr(node, "fields", []) + getattr(node, "variants", []):
                     if part.kind in ("field", "variant") and (node.name, part.name) in gone:
-                        start, end = with_comments(parser, part)
+                        start, end = parser.with_comments(part)
                         edits[key].drop(start, end + (parser.source[end:end + 1] == ","))
 
     def seeing(self, key, field, files):
@@ -259,7 +249,7 @@ class Crate:
                         or node.kind == "fn" and not node.in_trait and key_of(node, owner) not in live \
                         or node.kind in ("enum", "struct", "const", "type") and not owner and node.name not in self.by_hand \
                         and count[node.name] <= self.own(node, files):
-                    edits[key].drop(*with_comments(parser, node))
+                    edits[key].drop(*parser.with_comments(node))
 
     def exports(self, files):
         """The names that modules export which files by hand export whole."""
@@ -292,7 +282,7 @@ class Crate:
                 lines = self.imports(item, key, used, seen)
                 edits.put(item.start, item.end, lines) if lines else edits.drop(item.start, item.end)
             elif item.kind == "mod" and not self.has_module(key, item.name):
-                edits.drop(*with_comments(parser, item))
+                edits.drop(*parser.with_comments(item))
             elif item.kind in ("path", "path_type", "struct_value", "call_pattern", "path_pattern", "struct_pattern"):
                 first = item.segments[0]
                 if len(item.segments) > 1 and (first.name == "crate" or first.name in self.crates):
@@ -404,10 +394,6 @@ def unread_places(parser, function):
     params = [param for param in function.params if not param.is_self]
     return [place for place, param in enumerate(params)
         if param.name and not named[param.name] and not param.name.startswith("_")]
-
-
-def last_of(value):
-    return value.segments[-1].name
 
 
 def flat(tree, front):

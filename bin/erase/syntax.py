@@ -5,7 +5,7 @@ BINARY = {"||": 1, "&&": 2, "==": 3, "!=": 3, "<": 3, ">": 3, "<=": 3, ">=": 3, 
     "+": 8, "-": 8, "*": 9, "/": 9, "%": 9}
 ASSIGN = {"=", "+=", "-=", "*=", "/=", "%=", "^=", "&=", "|=", "<<=", ">>="}
 # Expressions that end a statement without a semicolon.
-BLOCKS = {"{", "if", "match", "while", "loop", "for", "unsafe"}
+BLOCKS = {"{", "if", "match", "while", "loop", "for"}
 # Macros, of which all arguments are expressions but for a pattern.
 PATTERN_MACROS = {"matches"}
 
@@ -40,6 +40,15 @@ class Parser:
         self.all = tokens(source)
         self.tokens = [token for token in self.all if token.kind != "comment"]
         self.at = 0
+
+    def with_comments(self, node):
+        """The place of an item with the comments before it."""
+        start = node.start
+        for token in reversed([token for token in self.all if token.end <= node.start]):
+            if token.kind != "comment" or token.text.startswith("//!") or self.source[token.end:start].count("\n") > 1:
+                break
+            start = token.start
+        return start, node.end
 
     # Tokens
 
@@ -134,7 +143,7 @@ class Parser:
         if self.kind() == "ghost":
             node = Node("ghost", start, text=self.take())
         else:
-            words = ["fn", "use", "mod", "const", "static", "type", "struct", "enum", "trait", "impl", "unsafe"]
+            words = ["fn", "use", "mod", "const", "type", "struct", "enum", "trait", "impl", "unsafe"]
             word = self.peek() if self.peek() in words else "macro"
             if word == "const" and self.peek(1) in ("fn", "unsafe"):
                 word = "fn"
@@ -197,7 +206,6 @@ class Parser:
         self.want(";")
         return node
 
-    item_static = item_const
 
     def item_type(self):
         node = Node("type", self.here(), type=None, bounds=[])
@@ -263,14 +271,14 @@ class Parser:
         return node
 
     def variant(self):
-        node = Node("variant", self.here(), attributes=[], fields=[], form="unit")
+        node = Node("variant", self.here(), attributes=[], fields=[])
         while self.peek() == "#":
             node.attributes.append(self.attribute())
         node.name = self.take()
         if self.take("("):
-            node.form, node.fields = "tuple", self.listed(self.place, ")")
+            node.fields = self.listed(self.place, ")")
         elif self.take("{"):
-            node.form, node.fields = "struct", self.listed(self.field, "}")
+            node.fields = self.listed(self.field, "}")
         if self.take("="):
             node.value = self.expression()
         return self.done(node)
@@ -388,14 +396,10 @@ class Parser:
                 found.append(self.lifetime())
             else:
                 start = self.here()
-                opened = self.take("(")
-                maybe = self.take("?")
+                self.take("?")
                 node = self.type(plain=True)
                 node.start = start
-                node.maybe = bool(maybe)
                 found.append(node)
-                if opened:
-                    self.want(")")
             if not self.take("+"):
                 return found
 
@@ -424,10 +428,6 @@ class Parser:
             node.kind, node.life = "ref", self.lifetime() if self.kind() == "life" else None
             node.mut = bool(self.take("mut"))
             node.type = self.type(plain=True)
-        elif self.take("*"):
-            node.kind = "pointer"
-            self.take("mut", "const")
-            node.type = self.type(plain=True)
         elif self.take("("):
             node.kind, node.types = "tuple", self.listed(self.type, ")")
         elif self.take("["):
@@ -435,15 +435,8 @@ class Parser:
             if self.take(";"):
                 node.len = self.expression()
             self.want("]")
-        elif self.take("!"):
-            node.kind = "never"
         elif self.take("impl", "dyn"):
             node.kind, node.bounds = "bound_type", self.bounds()
-        elif self.peek() == "fn":
-            self.take()
-            self.want("(")
-            node.kind, node.types = "fn_type", self.listed(self.type, ")")
-            node.answer = self.type() if self.take("->") else None
         else:
             node.segments = self.segments(in_type=True)
         return self.done(node)
@@ -451,14 +444,6 @@ class Parser:
     def segments(self, in_type):
         """The segments of a path, with their arguments."""
         found = []
-        if self.take("<"):  # <T as Trait>::name
-            one = Node("qualified", self.here(), name="", arguments=None)
-            one.type = self.type()
-            one.of = self.type() if self.take("as") else None
-            self.split(">")
-            self.want(">")
-            found.append(self.done(one))
-            self.want("::")
         self.take("::")
         while True:
             one = Node("segment", self.here(), name=self.take(), arguments=None)
@@ -565,7 +550,7 @@ class Parser:
     # Statements and expressions
 
     def block(self):
-        node = Node("block", self.here(), label=None)
+        node = Node("block", self.here())
         self.want("{")
         node.inner = self.inner_attributes()
         node.statements, node.tail = [], None
@@ -575,7 +560,7 @@ class Parser:
 
     def statements(self):
         """What a file is whose lines are those of a block."""
-        node = Node("block", 0, label=None, statements=[], tail=None)
+        node = Node("block", 0, statements=[], tail=None)
         while self.at < len(self.tokens):
             self.statement(node)
         return node
@@ -590,12 +575,12 @@ class Parser:
         if self.peek() == "let":
             node = self.let()
         elif self.kind() == "ghost" or self.peek() in ("fn", "use", "const", "struct", "enum", "trait",
-                "impl", "static"):
+                "impl"):
             node = self.item()
         else:
             value = self.expression(statement=True)
-            node = Node("statement", start, value=value, semicolon=bool(self.take(";")))
-            if not node.semicolon and self.peek() == "}":
+            node = Node("statement", start, value=value)
+            if not self.take(";") and self.peek() == "}":
                 block.tail = value
                 return
         node.start = start
@@ -706,12 +691,6 @@ class Parser:
         word = self.peek()
         if self.kind() in ("number", "char", "text"):
             return self.done(Node("literal", start, text=self.take()))
-        if self.kind() == "life":
-            label = self.take()
-            self.want(":")
-            node = self.primary(bare)
-            node.label, node.start = label, start
-            return self.done(node)
         if word == "(":
             self.take()
             parts, comma = [], False
@@ -732,9 +711,6 @@ class Parser:
             return self.done(node)
         if word == "{":
             return self.block()
-        if word in ("unsafe",):
-            self.take()
-            return self.done(Node("unsafe", start, value=self.block()))
         if word in ("|", "||", "move"):
             return self.closure()
         if word in ("if", "match", "while", "loop", "for", "return", "break", "continue", "let"):
@@ -792,25 +768,25 @@ class Parser:
                 arm.guard = self.expression()
             self.want("=>")
             arm.body = self.expression(statement=True)
-            arm.comma = bool(self.take(","))
+            self.take(",")
             node.arms.append(self.done(arm))
         return node
 
     def flow_while(self, bare):
-        node = Node("while", self.here(), label=None)
+        node = Node("while", self.here())
         self.take()
         node.test = self.expression(bare=True)
         node.body = self.block()
         return node
 
     def flow_loop(self, bare):
-        node = Node("loop", self.here(), label=None)
+        node = Node("loop", self.here())
         self.take()
         node.body = self.block()
         return node
 
     def flow_for(self, bare):
-        node = Node("for", self.here(), label=None)
+        node = Node("for", self.here())
         self.take()
         node.pattern = self.pattern()
         self.want("in")

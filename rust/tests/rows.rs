@@ -120,7 +120,9 @@ fn rows() {
 #[test]
 fn pieces() {
     let table = fs::read_to_string(tables("rows").join("captures.txt")).unwrap();
-    for row in table.lines().filter(|line| !line.starts_with('#')) {
+    let rows: Vec<&str> = table.lines().filter(|line| !line.starts_with('#')).collect();
+    assert!(rows.len() > 30, "{} rows", rows.len());
+    for row in rows {
         let [field, letters, pattern, text, wanted] = row.split('|').collect::<Vec<_>>()[..] else { panic!("{row}") };
         let text = text.replace("LONGEST", &"\u{10fffe}".repeat(4_194_304));
         let (pattern, options) = (Pattern::new(pattern).unwrap(), options(&format!("-{letters}")));
