@@ -37,8 +37,8 @@ pub fn walk_files<A: Allocator + Copy>(
 ) -> Result<Walk<Disk<MemSystem<A>, A>>, PatternRefusal>
     ensures exact { IfOk result (λ walk. FindsExactly (Some files.content)
         options pattern.now walk.end walk.items.items) }
-    ensures orderly { IfOk result (λ walk. FindsInOrder (Some files.content)
-        options pattern.now walk.items.items) }
+    ensures taken { IfOk result (λ walk. FindsTaken (Some files.content)
+        options pattern.now walk.end walk.items.items) }
 {
     walk_disk(alloc, MemSystem::new(files, piece), pattern, options, limit)
 }
