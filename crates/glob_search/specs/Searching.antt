@@ -27,7 +27,8 @@ pub record Aim : Type 0 where
   pub first : List Ignores
   pub rules_in : (directory : Key) → List Ignores
 
--- whether a list ignores a path, if a rule of it decides about the path
+-- Whether a list ignores a path, if a rule of it decides about the path or about a directory above it. For git the latter
+-- counts only where the directory is ignored in the end.
 abbrev pub said : Ignores → (path : Text) → (is_directory : Bool) → Option Bool
 said list path d = option_map (λ rule. not rule.negative) (deciding_rule list path d)
 

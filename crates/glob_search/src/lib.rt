@@ -6,6 +6,10 @@
 //! Proved is that a search is safe over any tree, one whose answers contradict each other too, that each call of
 //! [`Search::next`] comes to an end, and that no more is charged than the limit. What it finds is tested by rows, and
 //! written in `specs/Searching.antt`, which no contract cites yet.
+//!
+//! It is not yet what git does: a rule is asked about the directories above a path, too. So where `.gitignore` has
+//! `b/` and `a/.gitignore` has `!b`, nothing below `a/b` is found, and git lists it. A file with a line that is
+//! refused has no rules, and a pattern with an empty component, `.` or `..` finds nothing.
 #![tactic(auto)]
 
 mod beginnings;

@@ -82,8 +82,8 @@ impl<A: Allocator + Copy> Search<A> {
         })
     }
 
-    /// The next path that is found, or what could not be done; `None` where nothing is left, and from then on. Paths are
-    /// written from the current directory on, as `src/main.rs`.
+    /// The next path that is found, or what could not be done; `None` where nothing is left, and from then on. Paths
+    /// are written from the current directory on, as `src/main.rs`.
     pub fn next<T: Tree<Alloc = A>, R: RuleTexts<Alloc = A>>(
         &mut self,
         tree: &mut T,
