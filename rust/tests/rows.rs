@@ -1,5 +1,7 @@
 //! Answers from outside, as the tables of the repository have them, which are packed with the crate.
 
+mod common;
+
 use std::fs;
 use std::path::{Path, PathBuf};
 
@@ -7,30 +9,8 @@ use cadmiumdove::captures::{captures, reach, tokens, TokenKind};
 use cadmiumdove::ignore::IgnoreList;
 use cadmiumdove::set::braces::expand;
 use cadmiumdove::walk::is_plain;
-use cadmiumdove::{MatchOptions, Pattern};
-
-/// A folder of tables: in the package in `tests/tables`, and in the repository where they are.
-fn tables(name: &str) -> PathBuf {
-    let crate_folder = Path::new(env!("CARGO_MANIFEST_DIR"));
-    let packed = crate_folder.join("tests/tables").join(name);
-    let here = if name == "vectors" { "../crates/glob_vectors/data" } else { "../tests/rows" };
-    if packed.exists() {
-        packed
-    } else {
-        crate_folder.join(here)
-    }
-}
-
-/// Options by letters after a dash: `i` for either case, `s` for the separator rule, `d` for the dot rule.
-fn options(setting: &str) -> MatchOptions {
-    let letters = setting.strip_prefix('-').unwrap();
-    assert!(letters.chars().all(|letter| "isd".contains(letter)), "{setting}");
-    MatchOptions {
-        case_sensitive: !letters.contains('i'),
-        require_literal_separator: letters.contains('s'),
-        require_literal_leading_dot: letters.contains('d'),
-    }
-}
+use cadmiumdove::Pattern;
+use common::{options, tables};
 
 /// Whether a row of a table is what this crate says.
 fn holds(table: &str, fields: &[&str]) -> bool {

@@ -1,12 +1,15 @@
 //! Walks from outside, as the table `walks.txt` has them, which is packed with the crate, over trees in memory.
 
+mod common;
+
 use std::collections::BTreeMap;
 use std::fs;
 use std::io::{self, ErrorKind};
-use std::path::{Path, PathBuf};
+use std::path::PathBuf;
 
 use cadmiumdove::walk::{self, glob_in, Entry, GlobCause, GlobError, Look, Name, Tree};
 use cadmiumdove::MatchOptions;
+use common::{options, tables};
 
 /// A tree in memory: whether each path of names is a directory, and which directories cannot be listed.
 #[derive(Clone, Default)]
@@ -165,23 +168,9 @@ impl State {
     }
 }
 
-/// Options by letters after a dash: `i` for either case, `s` for the separator rule, `d` for the dot rule.
-fn options(setting: &str) -> MatchOptions {
-    let letters = setting.strip_prefix('-').unwrap();
-    assert!(letters.chars().all(|letter| "isd".contains(letter)), "{setting}");
-    MatchOptions {
-        case_sensitive: !letters.contains('i'),
-        require_literal_separator: letters.contains('s'),
-        require_literal_leading_dot: letters.contains('d'),
-    }
-}
-
 #[test]
 fn walk_rows() {
-    let crate_folder = Path::new(env!("CARGO_MANIFEST_DIR"));
-    let packed = crate_folder.join("tests/tables/vectors/walks.txt");
-    let here = crate_folder.join("../crates/glob_vectors/data/walks.txt");
-    let text = fs::read_to_string(if packed.exists() { packed } else { here }).unwrap();
+    let text = fs::read_to_string(tables("vectors").join("walks.txt")).unwrap();
     let (mut state, mut count) = (State::default(), 0);
     for line in text.replace("\n ", " ").lines().filter(|line| !line.starts_with(['#', '='])) {
         if let Some((patterns, items)) = line.split_once(" =>") {
