@@ -6,11 +6,13 @@ use Rattle.std.proofs.Math.Seq.{take-add}
 use Rattle.std.proofs.lemmas.Str.{encodes-append}
 
 -- of two texts, one after the other
-pub length-encodes_append : (xs ys : List ℕ) → length (encode_utf8_all (xs ++ ys)) ≡ length (encode_utf8_all xs) + length (encode_utf8_all ys)
+pub length-encodes_append : (xs ys : List ℕ) → length (encode_utf8_all (xs ++ ys)) ≡ length (encode_utf8_all xs) +
+    length (encode_utf8_all ys)
 length-encodes_append xs ys = ap length (encodes-append xs ys) ∙ length-append (encode_utf8_all xs) (encode_utf8_all ys)
 
 -- of a text and a character
-pub length-encodes_push : (xs : List ℕ) (c : ℕ) → length (encode_utf8_all (xs ++ c ∷ [])) ≡ length (encode_utf8_all xs) + length (encode_utf8 c)
+pub length-encodes_push : (xs : List ℕ) (c : ℕ) → length (encode_utf8_all (xs ++ c ∷ [])) ≡ length (encode_utf8_all xs)
+    + length (encode_utf8 c)
 length-encodes_push xs c =
     let one = length-append (encode_utf8 c) [] in
     omega (arith, length-encodes_append xs (c ∷ []), one)
@@ -26,7 +28,8 @@ length-encodes_drop cs i =
     omega (arith, length-encodes_append (take i cs) (drop i cs), ap (λ xs. length (encode_utf8_all xs)) (take-append-drop i cs))
 
 -- the place j, in bytes, from the place i before it
-pub byte_place_later : (cs : List ℕ) (i j : ℕ) → i ≤ j → length (encode_utf8_all (take j cs)) ≡ length (encode_utf8_all (take i cs)) + length (encode_utf8_all (take (j - i) (drop i cs)))
+pub byte_place_later : (cs : List ℕ) (i j : ℕ) → i ≤ j → length (encode_utf8_all (take j cs)) ≡ length (encode_utf8_all
+    (take i cs)) + length (encode_utf8_all (take (j - i) (drop i cs)))
 byte_place_later cs i j low =
     let at : j ≡ i + (j - i) = omega arith in
     ap (λ k. length (encode_utf8_all (take k cs))) at

@@ -1,5 +1,7 @@
 -- Rows of the tokens before one, and of it, from each other.
-use Rattle.std.proofs.Common.{◌≡◌, ◌≢◌, ℕ, suc, ◌+◌, ◌-◌, ◌<◌, ◌≤◌, ◌↔◌, inl, inr, ⊎_elim, Bool, false, ◌&&◌, ◌||◌, not, List, [], ◌∷◌, length, get_or, set, take, drop, map, ◌++◌, IsTrue, refl, sym, ap, subst, ◌∙◌, arith}
+use Rattle.std.proofs.Common.{◌≡◌, ◌≢◌, ℕ, suc, ◌+◌, ◌-◌, ◌<◌, ◌≤◌, ◌↔◌, inl, inr, ⊎_elim, Bool, false, ◌&&◌, ◌||◌, not}
+use Rattle.std.proofs.Common.{List, [], ◌∷◌, length, get_or, set, take, drop, map, ◌++◌, IsTrue, refl, sym, ap, subst}
+use Rattle.std.proofs.Common.{◌∙◌, arith}
 use Rattle.std.proofs.lemmas.Bool.{cases_eq, false≢true}
 use Rattle.std.proofs.lemmas.Bool.Decides.{Decides-like, Decides-and, Decides-or}
 use Rattle.std.proofs.lemmas.List.{length-map, length-drop, drop_all, take_all, append-nil, get_or-set_same, get_or-set_other}
@@ -26,7 +28,8 @@ grows-iff Run = ((λ h e. cc), (λ h. refl))
 grows-iff Deep = ((λ h e. cc), (λ h. refl))
 
 -- which pieces may end at a place
-ends-iff : (table : Table) (shapes : List Shape) (n k : ℕ) (shape : Shape) (others : List Shape) → drop (n + 1) shapes ≡ others → n < length shapes
+ends-iff : (table : Table) (shapes : List Shape) (n k : ℕ) (shape : Shape) (others : List Shape) → drop (n + 1) shapes
+    ≡ others → n < length shapes
     → IsTrue (not (closes shape others) || table.opens k) ↔ (shape ≡ Deep → MayEnd table shapes n k)
 ends-iff table shapes n k One others is below = ((λ h e. cc), (λ h. refl))
 ends-iff table shapes n k Run others is below = ((λ h e. cc), (λ h. refl))
@@ -39,7 +42,9 @@ ends-iff table shapes n k Deep (s ∷ ss) is below =
     let some : length (drop (n + 1) shapes) ≡ suc (length ss) = ap length is in
     ((λ h e. inr h), (λ h. ⊎_elim (λ e. absurd (omega arith)) (λ o. o) (h refl)))
 
-module _ (o : MatchOptions) (tokens : List Token) (text : Text) (n k : ℕ) (form : Form) (below : n < length tokens) (is : IsFormAt tokens n form) (was took : Bool) (fronts : IsTrue was ↔ TakeFront o tokens text n k) (taken : IsTrue took ↔ Took o tokens text n k) where
+module _ (o : MatchOptions) (tokens : List Token) (text : Text) (n k : ℕ) (form : Form) (below : n < length tokens)
+    (is : IsFormAt tokens n form) (was took : Bool) (fronts : IsTrue was ↔ TakeFront o tokens text n k)
+    (taken : IsTrue took ↔ Took o tokens text n k) where
   -- whether the token waits
   pub Waits-step : IsTrue (was || (took && form.grows)) ↔ Waits o tokens text n k
   unfolding TakeFront Waits Took
@@ -62,7 +67,8 @@ module _ (o : MatchOptions) (tokens : List Token) (text : Text) (n k : ℕ) (for
       let lt : n < length shapes = omega (arith, length-map tokens shape_of) in
       let step = PrefixSplits-step table shapes n lt k in
       let many : form.grows ≡ grows (shape_at tokens n) = is.many in
-      let end : (not form.closes || opens text k) ≡ (not (closes (shape_at tokens n) (shapes_from tokens (n + 1))) || opens text k) = ap (λ x. not x || opens text k) is.ends in
+      let end : (not form.closes || opens text k) ≡ (not (closes (shape_at tokens n) (shapes_from tokens (n + 1))) ||
+      opens text k) = ap (λ x. not x || opens text k) is.ends in
       let more = grows-iff (shape_at tokens n) in
       let ends = ends-iff table shapes n k (shape_at tokens n) (shapes_from tokens (n + 1)) refl lt in
       let next : suc n ≡ n + 1 = omega arith in
@@ -73,7 +79,9 @@ module _ (o : MatchOptions) (tokens : List Token) (text : Text) (n k : ℕ) (for
       (Decides-and took (not form.closes || opens text k) taken ((λ h. ends.0 (sym end ∙ h)), (λ h. end ∙ ends.1 h)))))
 
 -- whether it takes the next character
-pub Took-step : (o : MatchOptions) (tokens : List Token) (text : Text) (n k : ℕ) (waits takes : Bool) → (IsTrue waits ↔ Waits o tokens text n k) → takes ≡ (table_of o tokens text).takes n k → IsTrue (waits && takes) ↔ Took o tokens text n (k + 1)
+pub Took-step : (o : MatchOptions) (tokens : List Token) (text : Text) (n k : ℕ) (waits takes : Bool) →
+    (IsTrue waits ↔ Waits o tokens text n k) → takes ≡ (table_of o tokens text).takes n k → IsTrue (waits && takes) ↔
+    Took o tokens text n (k + 1)
 unfolding Waits Took HasTaken
 Took-step o tokens text n k waits takes alive same =
     let next : suc k ≡ k + 1 = omega arith in
@@ -91,7 +99,8 @@ unfolding TakeFront PrefixSplits
 TakeFront-none o tokens text k = ((λ h. h), (λ h. h))
 
 -- a row up to one place more, after that place was written
-pub row_more : (P : ℕ → Type 0) (xs : List Bool) (i : ℕ) (b : Bool) → i < length xs → ((k : ℕ) → k < i → IsTrue (get_or xs k false) ↔ P k) → (IsTrue b ↔ P i)
+pub row_more : (P : ℕ → Type 0) (xs : List Bool) (i : ℕ) (b : Bool) → i < length xs → ((k : ℕ) → k < i → IsTrue
+    (get_or xs k false) ↔ P k) → (IsTrue b ↔ P i)
     → (k : ℕ) → k < i + 1 → IsTrue (get_or (set xs i b) k false) ↔ P k
 row_more P xs i b room before here k below =
     ⊎_elim
@@ -111,10 +120,12 @@ written_back xs ys m same all =
     ap (λ zs. take m (ys ++ zs)) (drop_all (length ys) xs (omega arith)) ∙ ap (take m) (append-nil ys) ∙ take_all m ys (omega arith)
 
 -- the numbers that are listed so far, where one more is
-pub listed_push : (W : ℕ → Type 0) (xs : List ℕ) (n : ℕ) → ((m : ℕ) → Contains xs m ↔ ((m < n) × W m)) → W n → (m : ℕ) → Contains (xs ++ n ∷ []) m ↔ ((m < n + 1) × W m)
+pub listed_push : (W : ℕ → Type 0) (xs : List ℕ) (n : ℕ) → ((m : ℕ) → Contains xs m ↔ ((m < n) × W m)) → W n → (m : ℕ)
+    → Contains (xs ++ n ∷ []) m ↔ ((m < n + 1) × W m)
 listed_push W xs n listed here m = (
   λ h. ⊎_elim
-      (λ (old : Contains xs m). let was : (m < n) × W m = (listed m).0 old in let below : m < n + 1 = omega (arith, was.0) in (below, was.1))
+      (λ (old : Contains xs m). let was : (m < n) × W m = (listed m).0 old in let below : m < n + 1 = omega
+      (arith, was.0) in (below, was.1))
       (λ (same : n ≡ m). let below : m < n + 1 = omega arith in (below, subst W same here))
       (Contains-push_cases xs n m h),
   λ h. ⊎_elim
@@ -124,7 +135,8 @@ listed_push W xs n listed here m = (
 )
 
 -- and where it is not
-pub listed_kept : (W : ℕ → Type 0) (xs : List ℕ) (n : ℕ) → ((m : ℕ) → Contains xs m ↔ ((m < n) × W m)) → ¬ (W n) → (m : ℕ) → Contains xs m ↔ ((m < n + 1) × W m)
+pub listed_kept : (W : ℕ → Type 0) (xs : List ℕ) (n : ℕ) → ((m : ℕ) → Contains xs m ↔ ((m < n) × W m)) → ¬ (W n) →
+    (m : ℕ) → Contains xs m ↔ ((m < n + 1) × W m)
 listed_kept W xs n listed none m = (
   λ h. let was : (m < n) × W m = (listed m).0 h in let below : m < n + 1 = omega (arith, was.0) in (below, was.1),
   λ h. ⊎_elim
@@ -134,5 +146,6 @@ listed_kept W xs n listed none m = (
 )
 
 -- each of them is below the bound
-pub listed_below : (W : ℕ → Type 0) (xs : List ℕ) (n : ℕ) → ((m : ℕ) → Contains xs m ↔ ((m < n) × W m)) → (k d : ℕ) → k < length xs → get_or xs k d < n
+pub listed_below : (W : ℕ → Type 0) (xs : List ℕ) (n : ℕ) → ((m : ℕ) → Contains xs m ↔ ((m < n) × W m)) → (k d : ℕ)
+    → k < length xs → get_or xs k d < n
 listed_below W xs n listed k d below = ((listed (get_or xs k d)).0 (Contains-get_or xs k d below)).0

@@ -1,5 +1,6 @@
 -- Tokens that are written one after another.
-use Rattle.std.proofs.Common.{◌≡◌, ◌+◌, ◌-◌, ◌<◌, ◌≤◌, ℕ, Bool, true, false, ◌&&◌, List, [], ◌∷◌, ◌++◌, length, inl, inr, ◌⊎◌, refl, sym, ap, ◌∙◌, subst, arith}
+use Rattle.std.proofs.Common.{◌≡◌, ◌+◌, ◌-◌, ◌<◌, ◌≤◌, ℕ, Bool, true, false, ◌&&◌, List, [], ◌∷◌, ◌++◌, length, inl}
+use Rattle.std.proofs.Common.{inr, ◌⊎◌, refl, sym, ap, ◌∙◌, subst, arith}
 use Rattle.std.proofs.lemmas.Bool.{cases_lt, cond_both, and_parts, and_cases, and_right, false≢true, both_ways}
 use Rattle.glob_text.specs.Text.{Text, Has}
 use Rattle.glob_pattern.specs.Grammar.Characters.{star, close_bracket}
@@ -17,16 +18,20 @@ use Rattle.glob_captures.specs.Writing.{AreAdjacent, AreWritten, TokenBetween, b
 use Rattle.glob_captures.specs.Private.Written.{IsAfterStars, IsRead, IsTokenEnd, OthersFrom, TokensFrom}
 
 -- with one more token, which is written from their end on
-pub AreAdjacent-push : (tokens : List Written) (start end : ℕ) (token : Written) → AreAdjacent start tokens end → token.piece.start ≡ end → end ≤ token.piece.end
+pub AreAdjacent-push : (tokens : List Written) (start end : ℕ) (token : Written) → AreAdjacent start tokens end
+    → token.piece.start ≡ end → end ≤ token.piece.end
     → AreAdjacent start (tokens ++ token ∷ []) token.piece.end
 AreAdjacent-push [] start end token adjacent from order = (from ∙ adjacent, subst (λ n. n ≤ token.piece.end) adjacent order, refl)
 AreAdjacent-push (first ∷ tokens) start end token adjacent from order =
     (adjacent.0, adjacent.1, AreAdjacent-push tokens first.piece.end end token adjacent.2 from order)
 
 -- the same, in the pattern's text
-pub AreWritten-push : (text : Text) (f : ℕ) (tokens : List Token) (list : List Written) (m : ℕ) (token : Token) (written : Written) (e : ℕ) → AreWritten text f tokens list m → TokenBetween text m token e
-    → written.piece ≡ record { start = byte_place text m; end = byte_place text e } → AreWritten text f (tokens ++ token ∷ []) (list ++ written ∷ []) e
-AreWritten-push text f [] [] m token written e before at piece = subst (λ k. AreWritten text k (token ∷ []) (written ∷ []) e) (sym before) (e, at, piece, refl)
+pub AreWritten-push : (text : Text) (f : ℕ) (tokens : List Token) (list : List Written) (m : ℕ) (token : Token)
+    (written : Written) (e : ℕ) → AreWritten text f tokens list m → TokenBetween text m token e
+    → written.piece ≡ record { start = byte_place text m; end = byte_place text e } → AreWritten text f
+    (tokens ++ token ∷ []) (list ++ written ∷ []) e
+AreWritten-push text f [] [] m token written e before at piece = subst (λ k. AreWritten text k (token ∷ [])
+    (written ∷ []) e) (sym before) (e, at, piece, refl)
 AreWritten-push text f [] (w ∷ ws) m token written e before at piece = absurd before
 AreWritten-push text f (t ∷ ts) [] m token written e before at piece = absurd before
 AreWritten-push text f (t ∷ ts) (w ∷ ws) m token written e before at piece =
@@ -37,19 +42,23 @@ begins-same : (units : List Token) → begins_recursive (tokens_of_units units) 
 begins-same [] = refl
 begins-same (t ∷ []) = ap begins_recursive (folded_one t)
 begins-same (t ∷ u ∷ us) =
-    cond_both (is_recursive t && is_recursive u) (tokens_of_units (u ∷ us)) (t ∷ tokens_of_units (u ∷ us)) (λ xs. begins_recursive xs ≡ is_recursive t)
+    cond_both (is_recursive t && is_recursive u) (tokens_of_units (u ∷ us)) (t ∷ tokens_of_units (u ∷ us))
+    (λ xs. begins_recursive xs ≡ is_recursive t)
     (λ both. let parts = and_parts (is_recursive t) (is_recursive u) both in begins-same (u ∷ us) ∙ parts.1 ∙ sym parts.0) (λ e. refl)
 
 between_one : (text : Text) (f : ℕ) (t : Token) (e : ℕ) → UnitAt text f t e → TokenBetween text f t e
 between_one text f t e unit = (t ∷ [], (e, unit, refl), folded_one t)
 
 -- a first token that is no `**` is the first unit
-plain_first : (text : Text) (f : ℕ) (token : Token) (tokens units : List Token) → is_recursive token ≡ false → UnitsBetween text f units (length text) → tokens_of_units units ≡ token ∷ tokens
+plain_first : (text : Text) (f : ℕ) (token : Token) (tokens units : List Token) → is_recursive token ≡ false
+    → UnitsBetween text f units (length text) → tokens_of_units units ≡ token ∷ tokens
     → (m : ℕ) × UnitAt text f token m × TokensFrom text m tokens
 plain_first text f token tokens [] plain between folded = absurd cc
 plain_first text f token tokens (u ∷ us) plain between folded =
-    cond_both (is_recursive u && begins_recursive us) (tokens_of_units us) (u ∷ tokens_of_units us) (λ xs. xs ≡ token ∷ tokens → (m : ℕ) × UnitAt text f token m × TokensFrom text m tokens)
-    (λ both same. absurd (both_ways _ plain (sym (ap begins_recursive same) ∙ begins-same us ∙ (and_parts (is_recursive u) (begins_recursive us) both).1)))
+    cond_both (is_recursive u && begins_recursive us) (tokens_of_units us) (u ∷ tokens_of_units us)
+    (λ xs. xs ≡ token ∷ tokens → (m : ℕ) × UnitAt text f token m × TokensFrom text m tokens)
+    (λ both same. absurd (both_ways _ plain (sym (ap begins_recursive same) ∙ begins-same us ∙
+    (and_parts (is_recursive u) (begins_recursive us) both).1)))
     (λ other same.
     let first : u ≡ token = cc in
     let rest : tokens_of_units us ≡ tokens = cc in
@@ -57,12 +66,14 @@ plain_first text f token tokens (u ∷ us) plain between folded =
     folded
 
 -- the first unit of a first token that is `**`
-recursive_first : (text : Text) (f : ℕ) (tokens units : List Token) → UnitsBetween text f units (length text) → tokens_of_units units ≡ Recursive ∷ tokens
+recursive_first : (text : Text) (f : ℕ) (tokens units : List Token) → UnitsBetween text f units (length text)
+    → tokens_of_units units ≡ Recursive ∷ tokens
     → (m : ℕ) × UnitAt text f Recursive m × (TokensFrom text m (Recursive ∷ tokens) ⊎ OthersFrom text m tokens)
 recursive_first text f tokens [] between folded = absurd cc
 recursive_first text f tokens (u ∷ us) between folded =
     cond_both (is_recursive u && begins_recursive us) (tokens_of_units us) (u ∷ tokens_of_units us)
-    (λ xs. xs ≡ Recursive ∷ tokens → (m : ℕ) × UnitAt text f Recursive m × (TokensFrom text m (Recursive ∷ tokens) ⊎ OthersFrom text m tokens))
+    (λ xs. xs ≡ Recursive ∷ tokens → (m : ℕ) × UnitAt text f Recursive m × (TokensFrom text m (Recursive ∷ tokens) ⊎
+    OthersFrom text m tokens))
     (λ both same.
     let first = deep_is_Deep u (and_parts (is_recursive u) (begins_recursive us) both).0 in
     (between.0, subst (λ t. UnitAt text f t between.0) first between.1, inl (us, between.2, same)))
@@ -111,14 +122,18 @@ kind_same (OneOf entries) = refl
 kind_same (NoneOf entries) = refl
 
 -- a token that is no `**` ends where its unit does
-pub IsTokenEnd-plain : (text : Text) (f : ℕ) (kind : TokenKind) (e : ℕ) → is_recursive_kind kind ≡ false → ((m : ℕ) → m ≤ length text → EndsAt text f kind m → m ≡ e) → IsTokenEnd text f kind e
+pub IsTokenEnd-plain : (text : Text) (f : ℕ) (kind : TokenKind) (e : ℕ) → is_recursive_kind kind ≡ false →
+    ((m : ℕ) → m ≤ length text → EndsAt text f kind m → m ≡ e) → IsTokenEnd text f kind e
 unfolding IsTokenEnd
 IsTokenEnd-plain text f kind e plain ends token tokens same from =
     let none : is_recursive token ≡ false = sym (kind_same token) ∙ sym (ap is_recursive_kind same) ∙ plain in
     let first = plain_first text f token tokens from.0 none from.1 from.2 in
     let within = UnitAt-within text f token first.0 first.1 in
-    let at = ends first.0 within.1 (subst (λ k. EndsAt text f k first.0) (sym same) (plain_ends text f token first.0 none first.1)) in
-    (subst (λ k. TokenBetween text f token k) at (between_one text f token first.0 first.1), subst (λ k. TokensFrom text k tokens) at first.2)
+    let at = ends first.0 within.1 (subst (λ k. EndsAt text f k first.0) (sym same) (plain_ends text f token first.0 none first.1)) in (
+      subst (λ k. TokenBetween text f token k) at (between_one text f token first.0 first.1),
+      subst
+          (λ k. TokensFrom text k tokens) at first.2,
+    )
 
 -- nothing is read
 pub IsRead-start : (text : Text) (f : ℕ) → IsRead text f f
@@ -134,7 +149,8 @@ recursive_end text f m e unit after =
     ]
 
 -- a unit at two stars is `**`
-recursive_at : (text : Text) (f : ℕ) (t : Token) (m : ℕ) → Has text f star → Has text (f + 1) star → UnitAt text f t m → is_recursive t ≡ true
+recursive_at : (text : Text) (f : ℕ) (t : Token) (m : ℕ) → Has text f star → Has text (f + 1) star → UnitAt text f t m
+    → is_recursive t ≡ true
 recursive_at text f (Literal c) m at next unit = absurd (unit.2 (sym unit.0.1 ∙ at.1))
 recursive_at text f AnyChar m at next unit = let same = sym unit.0.1 ∙ at.1 in absurd (omega arith)
 recursive_at text f AnySequence m at next unit = absurd (unit.0.1 next)
@@ -142,7 +158,8 @@ recursive_at text f Recursive m at next unit = refl
 recursive_at text f (OneOf entries) m at next unit = let same = sym unit.0.1 ∙ at.1 in absurd (omega arith)
 recursive_at text f (NoneOf entries) m at next unit = let same = sym unit.0.1 ∙ at.1 in absurd (omega arith)
 
-no_others : (text : Text) (f : ℕ) (units : List Token) → Has text f star → Has text (f + 1) star → UnitsBetween text f units (length text) → begins_recursive units ≡ false → ⊥
+no_others : (text : Text) (f : ℕ) (units : List Token) → Has text f star → Has text (f + 1) star → UnitsBetween text f
+    units (length text) → begins_recursive units ≡ false → ⊥
 no_others text f [] at next between none = omega (arith, at.0, between)
 no_others text f (u ∷ us) at next between none = both_ways _ none (recursive_at text f u between.0 at next between.1)
 
@@ -155,11 +172,16 @@ after_stars text e next tokens from after =
     subst (λ k. UnitAt text e Recursive k × (TokensFrom text k (Recursive ∷ tokens) ⊎ OthersFrom text k tokens)) same (first.1, first.2)
 
 between_more : (text : Text) (f e m : ℕ) → TokenBetween text f Recursive e → UnitAt text e Recursive m → TokenBetween text f Recursive m
-between_more text f e m before unit =
-    (before.0 ++ Recursive ∷ [], UnitsBetween-push text f before.0 e Recursive m before.1 unit, sym (tokens_of_units-push_deep (Recursive ∷ []) before.0 Recursive refl refl (sym before.2)))
+between_more text f e m before unit = (
+  before.0 ++ Recursive ∷ [],
+  UnitsBetween-push text f before.0 e Recursive m before.1 unit,
+  sym
+      (tokens_of_units-push_deep (Recursive ∷ []) before.0 Recursive refl refl (sym before.2)),
+)
 
 -- one more `**` is read
-pub IsRead-more : (text : Text) (f e next : ℕ) → IsRead text f e → Has text e star → Has text (e + 1) star → IsAfterStars text e next → IsRead text f next
+pub IsRead-more : (text : Text) (f e next : ℕ) → IsRead text f e → Has text e star → Has text (e + 1) star
+    → IsAfterStars text e next → IsRead text f next
 unfolding IsRead
 IsRead-more text f e next read at second after tokens from =
     elim (read tokens from) [
@@ -175,13 +197,15 @@ IsRead-more text f e next read at second after tokens from =
           ]
     ]
 
-no_more : (text : Text) (e : ℕ) (tokens : List Token) → (Has text e star → Has text (e + 1) star → ⊥) → TokensFrom text e (Recursive ∷ tokens) → ⊥
+no_more : (text : Text) (e : ℕ) (tokens : List Token) → (Has text e star → Has text (e + 1) star → ⊥) → TokensFrom text
+    e (Recursive ∷ tokens) → ⊥
 no_more text e tokens stop from =
     let first = recursive_first text e tokens from.0 from.1 from.2 in
     stop (first.1.0.0 e (omega arith) (omega arith)) (first.1.0.0 (e + 1) (omega arith) (omega arith))
 
 -- all is read where no two stars follow
-pub IsRead-end : (text : Text) (f e : ℕ) → IsRead text f e → (Has text e star → Has text (e + 1) star → ⊥) → IsTokenEnd text f kind.Recursive e
+pub IsRead-end : (text : Text) (f e : ℕ) → IsRead text f e → (Has text e star → Has text (e + 1) star → ⊥)
+    → IsTokenEnd text f kind.Recursive e
 unfolding IsRead IsTokenEnd
 IsRead-end text f e read stop token tokens same from =
     let deep : token ≡ Recursive = deep_is_Deep token (sym (kind_same token) ∙ sym (ap is_recursive_kind same)) in
@@ -198,12 +222,14 @@ IsRead-end text f e read stop token tokens same from =
     ])
 
 -- the first of the tokens that are left ends there
-pub end_of_token : (text : Text) (f e : ℕ) (token : Token) (tokens left : List Token) (kind : TokenKind) → IsTokenEnd text f kind e → kind ≡ kind_of token → left ≡ token ∷ tokens → TokensFrom text f left
+pub end_of_token : (text : Text) (f e : ℕ) (token : Token) (tokens left : List Token) (kind : TokenKind)
+    → IsTokenEnd text f kind e → kind ≡ kind_of token → left ≡ token ∷ tokens → TokensFrom text f left
     → TokenBetween text f token e × TokensFrom text e tokens
 unfolding IsTokenEnd
 end_of_token text f e token tokens left kind ends same more from = ends token tokens same (subst (TokensFrom text f) more from)
 
-no_units : (text : Text) (f : ℕ) (units : List Token) → UnitsBetween text f units (length text) → tokens_of_units units ≡ [] → f ≡ length text
+no_units : (text : Text) (f : ℕ) (units : List Token) → UnitsBetween text f units (length text) → tokens_of_units units
+    ≡ [] → f ≡ length text
 no_units text f [] between folded = between
 no_units text f (t ∷ ts) between folded = absurd (omega (arith, folded_some t ts, ap length folded))
 

@@ -1,4 +1,4 @@
--- How far a text can be taken by the first tokens of a pattern, and which tokens wait there.
+-- How far the first tokens of a pattern take a text, and which tokens wait there.
 use Rattle.std.specs.Prelude.{◌≡◌, ℕ, ◌<◌, ◌≤◌, ◌↔◌, List, length, map, take, Contains, encode_utf8_all}
 use Rattle.glob_text.specs.Text.{Text}
 use Rattle.glob_pattern.specs.Grammar.Tokens.{Token, shape_of}
@@ -6,22 +6,22 @@ use Rattle.glob_pattern.specs.Private.Prefixes.{PrefixSplits, IsAlive}
 use Rattle.glob_pattern.specs.Private.TextTable.{table_of}
 use Rattle.glob_pattern.specs.declared.options.MatchOptions.{MatchOptions}
 
--- the first n tokens take the text up to place k, counted in characters: it splits into pieces that are allowed for them
+-- the first n tokens take the text up to place k, in characters: it splits into pieces that they allow
 unfoldable pub TakeFront : MatchOptions → List Token → Text → (n k : ℕ) → Type 0
 TakeFront o tokens text n k = PrefixSplits (table_of o tokens text) (map shape_of tokens) n k
 
--- The token of number n waits at place k: the tokens before it take the text up to there, or up to an earlier place
--- from which on it takes all characters, and its pieces may have any number of them.
+-- Token n waits at place k: the tokens before it take the text up to k; or they take it up to an earlier place, from
+-- which on token n takes every character up to k, and its pieces may have any number of characters.
 unfoldable pub Waits : MatchOptions → List Token → Text → (n k : ℕ) → Type 0
 Waits o tokens text n k = IsAlive (table_of o tokens text) (map shape_of tokens) n k
 
--- the last place up to which some first tokens take the text
+-- the last place up to which the first tokens take the text, for some number of them
 pub record IsFarthest (o : MatchOptions) (tokens : List Token) (text : Text) (place : ℕ) : Type 0 where
   pub within : place ≤ length text
   pub taken : (n : ℕ) × (n ≤ length tokens) × TakeFront o tokens text n place
   pub last : (n k : ℕ) → n ≤ length tokens → k ≤ length text → TakeFront o tokens text n k → k ≤ place
 
--- the tokens of these numbers, and no others, wait at the place
+-- the tokens with these numbers, and no others, wait at the place
 abbrev pub AreWaiting : MatchOptions → List Token → Text → (place : ℕ) → (waiting : List ℕ) → Type 0
 AreWaiting o tokens text place waiting =
     (n : ℕ) → Contains waiting n ↔ ((n < length tokens) × Waits o tokens text n place)

@@ -1,26 +1,27 @@
--- Where the tokens of a pattern are written.
+-- Where the tokens are in a pattern's text.
 use Rattle.std.specs.Prelude.{◌≡◌, ◌≤◌, ℕ, List, [], ◌∷◌, length, take, encode_utf8_all}
 use Rattle.glob_text.specs.Text.{Text}
 use Rattle.glob_pattern.specs.Grammar.Tokens.{Token, tokens_of_units}
 use Rattle.glob_pattern.specs.Grammar.Units.{UnitsBetween}
 use Rattle.glob_captures.specs.declared.written.Written.{Written}
 
--- the tokens are written one after another, the first from the place `start` on and the last up to the place `end`
+-- the first token begins at `start`, each other one where the one before it ends, and the last ends at `end`
 abbrev pub AreAdjacent : (start : ℕ) → List Written → (end : ℕ) → Type 0
 AreAdjacent start [] end = end ≡ start
 AreAdjacent start (token ∷ tokens) end =
     (token.piece.start ≡ start) × (start ≤ token.piece.end) × AreAdjacent token.piece.end tokens end
 
--- the place k, counted in characters, in bytes
+-- place k, which counts characters, as a place in bytes
 abbrev pub byte_place : Text → (k : ℕ) → ℕ
 byte_place text k = length (encode_utf8_all (take k text))
 
--- from place f up to place e, in characters, are units of this token alone: one unit, or neighbouring `**`
+-- the text from place f up to place e, in characters, is this one token: one unit, or neighbouring `**`
 abbrev pub TokenBetween : Text → ℕ → Token → ℕ → Type 0
 TokenBetween text f token e =
     (units : List Token) × UnitsBetween text f units e × (tokens_of_units units ≡ token ∷ [])
 
--- tokens are one after another from place f up to place e, in characters, each written at its piece, in bytes
+-- The text from place f up to place e, in characters, is these tokens in order, and each piece says in bytes where its
+-- token is.
 abbrev pub AreWritten : Text → ℕ → List Token → List Written → ℕ → Type 0
 AreWritten text f [] [] e = f ≡ e
 AreWritten text f [] (written ∷ more) e = ⊥

@@ -15,17 +15,15 @@ use crate::steps::{MOST_STEPS, bytes_of, form_of, is_too_large};
 use glob_pattern::{MatchOptions, Pattern, characters_of, opens, tokens_len};
 use std::alloc::{AllocError, Allocator};
 
-/// The piece of the text that each token of the pattern takes, as places in bytes, one after another; `None` exactly if
-/// the pattern does not match the text. Where the text can be split in several ways, the first piece is as short as any
-/// split allows, then the second, and so on.
+/// Splits the text into the pieces that the pattern's tokens take, and returns where they are, in bytes and in order;
+/// `None` exactly if the pattern does not match the text. If there are several splits, the first piece is as short as
+/// possible, then the second, and so on.
 ///
-/// So `*.*` takes `a.b.rs` by the pieces `a`, `.` and `b.rs`: from 0 up to 1, up to 2, and up to 6.
+/// For example, `*.*` splits `a.b.rs` into `a`, `.` and `b.rs`: from 0 up to 1, from 1 up to 2, and from 2 up to 6.
 ///
-/// A call takes time and memory at most proportional to one more than the tokens, times one more than the bytes of the
-/// text. The errors are:
+/// Time and memory are at most proportional to (tokens + 1) × (bytes of the text + 1). The errors are:
 ///
-/// - [`CapturesError::TooLarge`]: the tokens times the bytes are more than [`MOST_STEPS`](crate::MOST_STEPS). Nothing
-///   was done.
+/// - [`CapturesError::TooLarge`]: tokens × bytes is more than [`MOST_STEPS`](crate::MOST_STEPS). Nothing was done.
 /// - [`CapturesError::Memory`]: an allocation failed.
 pub fn captures<A: Allocator + Copy, B: Allocator + Copy>(
     alloc: A,
@@ -60,7 +58,7 @@ pub fn captures<A: Allocator + Copy, B: Allocator + Copy>(
     Ok(Some(pieces))
 }
 
-/// The places of the pieces, each as short as those after it allow.
+/// The places of the pieces, each as short as the tokens after it allow.
 fn shortest_pieces<A: Allocator + Copy, B: Allocator>(
     alloc: A,
     pattern: &Pattern<B>,
@@ -90,7 +88,7 @@ fn shortest_pieces<A: Allocator + Copy, B: Allocator>(
     Ok(pieces)
 }
 
-/// Where the shortest piece of a token from a place on ends. The options are those that `rests` was made with.
+/// Where the shortest piece of `token` ends that begins at `place`. `rests` was made with the same options.
 fn shortest_end<A: Allocator, B: Allocator>(
     pattern: &Pattern<B>,
     token: usize,
@@ -123,7 +121,7 @@ fn shortest_end<A: Allocator, B: Allocator>(
     }
 }
 
-/// The first place where a piece from a place on may end, or the end of the text.
+/// The first place where a piece that begins at `place` may end, or the end of the text.
 fn first_end(closes: bool, text: &[char], place: usize, next: &[bool]) -> usize
     requires within { place ≤ length text.now }
     requires many { length next.now ≡ length text.now + 1 }
@@ -136,7 +134,7 @@ fn first_end(closes: bool, text: &[char], place: usize, next: &[bool]) -> usize
     end
 }
 
-/// Whether a piece between two places may end there, where `next` says from where on the tokens after it take the rest.
+/// Whether a piece from `place` may end at `end`, where `next` says from where on the tokens after it take the rest.
 #[inline(always)]
 fn may_end(closes: bool, text: &[char], next: &[bool], place: usize, end: usize) -> bool
     requires within { end ≤ length text.now }

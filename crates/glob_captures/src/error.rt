@@ -1,4 +1,4 @@
-//! Why pieces are not computed.
+//! The errors of `captures` and `reach`.
 ghost use Rattle.std.specs.Prelude.{Some};
 ghost use Rattle.glob_captures.specs.Words.{captures_error_words};
 
@@ -6,8 +6,7 @@ use std::alloc::{AllocError, AllocFailed};
 use std::error::Error;
 use std::fmt;
 
-/// Why [`captures`](crate::captures) or [`reach`](crate::reach) has no answer. A failed allocation prints as
-/// `out of memory`.
+/// Why [`captures`](crate::captures) or [`reach`](crate::reach) failed. A failed allocation prints as `out of memory`.
 #[derive(Debug, Drop)]
 pub enum CapturesError {
     /// The pattern's tokens times the text's bytes are more than [`MOST_STEPS`](crate::MOST_STEPS). Nothing was done.

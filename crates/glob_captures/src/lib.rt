@@ -1,4 +1,4 @@
-//! Which piece of a text each token of a pattern takes, and how far a text that does not match could be taken.
+//! Which piece of a text each token of a pattern takes, and how far a pattern gets in a text that it does not match.
 #![tactic(auto)]
 
 mod capturing;

@@ -1,10 +1,10 @@
 //! Pieces of a text.
 
-/// A piece of a text, as places in bytes: from `start` up to `end`. That of `b` in `abc` is from 1 up to 2.
+/// A piece of a text, from the byte offset `start` up to the byte offset `end`. The `b` in `abc` is from 1 up to 2.
 #[derive(Clone, Copy, Debug, PartialEq, Eq)]
 pub struct Piece {
-    /// The place before its first byte.
+    /// The offset where it starts.
     pub start: usize,
-    /// The place after its last byte.
+    /// The offset where it ends, after its last byte.
     pub end: usize,
 }

@@ -1,4 +1,4 @@
-//! How far a text can be taken, and what waits there.
+//! How far a pattern gets in a text, and which tokens wait there.
 ghost use Rattle.std.specs.Prelude.{◌≡◌, ◌+◌, ◌-◌, ◌<◌, ◌≤◌, length, chars};
 ghost use Rattle.std.specs.Prelude.{ℕ, Bool, ◌&&◌, ◌||◌, not, List, false, IsTrue, slice_index_or, IfOk, ◌↔◌, ◌*◌, AllPairs};
 ghost use Rattle.glob_text.specs.Text.{opens};
@@ -14,27 +14,25 @@ use crate::steps::{Form, MOST_STEPS, bytes_of, form_of, is_too_large, takes_at};
 use glob_pattern::{MatchOptions, Pattern, characters_of, opens, tokens_len};
 use std::alloc::{AllocError, Allocator, Global};
 
-/// How far a text could be taken.
+/// How far a pattern got in a text.
 #[derive(Debug, Drop)]
 pub struct Reached<A: Allocator = Global> {
-    /// The place, in bytes, up to which some first tokens take the text.
+    /// The last place, in bytes, up to which the first tokens take the text, for some number of them.
     pub place: usize,
     /// The numbers of the tokens that wait there for a character, ascending, counted from 0.
     pub waiting: Vec<usize, A>,
 }
 
-/// How far the text can be taken: up to the last place, in bytes, up to which some first tokens of the pattern take it,
-/// and the numbers of all tokens that wait there for a character. For a text that does not match this is where it
-/// stops, and what was wanted there.
+/// How far the pattern gets in the text: the last place, in bytes, up to which its first tokens take the text (for some
+/// number of them), and the numbers of all tokens that wait for a character there. If the text does not match, this is
+/// where it fails, and what the pattern expected there.
 ///
-/// So for `*.rs` and `a.rc` it is the end: `*` took all, and it and `.` wait. For `a[0-9]b` and `a1c` it is the place
+/// For `*.rs` and `a.rc` the place is the end: `*` took all, and `*` and `.` wait. For `a[0-9]b` and `a1c` the place is
 /// 2, where token 2, the `b`, waits.
 ///
-/// A call takes time and memory at most proportional to one more than the tokens, times one more than the bytes of the
-/// text. The errors are:
+/// Time and memory are at most proportional to (tokens + 1) × (bytes of the text + 1). The errors are:
 ///
-/// - [`CapturesError::TooLarge`]: the tokens times the bytes are more than [`MOST_STEPS`](crate::MOST_STEPS). Nothing
-///   was done.
+/// - [`CapturesError::TooLarge`]: tokens × bytes is more than [`MOST_STEPS`](crate::MOST_STEPS). Nothing was done.
 /// - [`CapturesError::Memory`]: an allocation failed.
 pub fn reach<A: Allocator + Copy, B: Allocator>(
     alloc: A,
@@ -61,7 +59,7 @@ pub fn reach<A: Allocator + Copy, B: Allocator>(
     })
 }
 
-/// The last place up to which some first tokens take the text.
+/// The last place up to which the first tokens take the text, for some number of them.
 fn farthest<A: Allocator + Copy, B: Allocator>(
     alloc: A,
     pattern: &Pattern<B>,
@@ -124,7 +122,7 @@ fn waiting_at<A: Allocator + Copy, B: Allocator>(
     Ok(waiting)
 }
 
-/// For no tokens, at each place, whether they take the text up to there: at the start alone.
+/// The row for no tokens: they take the text up to its start and no further.
 fn fronts_at_start<A: Allocator>(alloc: A, text: &[char]) -> Result<Vec<bool, A>, AllocError>
     ensures { IfOk result (λ places. (o : Options) (tokens : List Token)
         → AreFronts o tokens text.now 0 places.items) }
@@ -134,8 +132,8 @@ fn fronts_at_start<A: Allocator>(alloc: A, text: &[char]) -> Result<Vec<bool, A>
     Ok(places)
 }
 
-/// From the places up to which the tokens before this one take the text, those up to which they take it with this one,
-/// and the places where this one waits.
+/// Updates `whole` from the places up to which the tokens before this one take the text to the places up to which they
+/// and this one take it, and sets `alive` to the places where this one waits.
 fn step<A: Allocator>(
     pattern: &Pattern<A>,
     token: usize,
@@ -161,7 +159,8 @@ fn step<A: Allocator>(
     }
 }
 
-/// Whether a token waits at a place, up to which those before it took the text or it took the last character.
+/// Whether a token waits at a place: `was` says that the tokens before it take the text up to there, `took` that it
+/// took the character before it.
 #[inline(always)]
 fn may_wait(form: Form, was: bool, took: bool) -> bool
     ensures { result ≡ (was || (took && form.grows)) }
@@ -178,7 +177,7 @@ fn may_end(form: Form, text: &[char], place: usize, was: bool, took: bool) -> bo
     (was && form.grows) || (took && (!form.closes || opens(text, place)))
 }
 
-/// Whether the token takes the character at a place where it waits or not.
+/// Whether the token waits at the place and takes the character there.
 #[inline(always)]
 #[tactic(auto, unfolding(glob_pattern::specs::Private::TextTable::table_of))]
 fn takes_next<A: Allocator>(
@@ -197,7 +196,7 @@ fn takes_next<A: Allocator>(
     waits && takes_at(pattern, token, options, text, place)
 }
 
-/// The last place of those, or 0.
+/// The last place that is true, or 0 if there is none.
 fn last_place(places: &[bool]) -> usize
     requires { 0 < length places.now }
     ensures within { result < length places.now }

@@ -1,4 +1,4 @@
-//! From where on the last tokens take the rest of a text.
+//! From which places the last tokens take the rest of a text.
 ghost use Rattle.std.specs.Prelude.{◌≡◌, ◌+◌, ◌-◌, ◌<◌, ◌≤◌, length, IfOk, chars, List, ◌&&◌, ◌||◌, not};
 ghost use Rattle.glob_pattern.specs.Computing.Tokens.{tokens_of};
 ghost use Rattle.glob_text.specs.Text.{opens};
@@ -12,7 +12,7 @@ use glob_pattern::{MatchOptions, Pattern, opens, tokens_len};
 use std::alloc::{AllocError, Allocator};
 use std::marker::Model;
 
-/// For each place of a text, whether some tokens take the rest from there on.
+/// For each place of a text, whether certain last tokens take the rest from there on.
 #[derive(Drop)]
 pub struct Rests<A: Allocator> {
     places: Vec<bool, A>,
@@ -27,7 +27,7 @@ impl<A: Allocator> Model for Rests<A> {
 }
 
 impl<A: Allocator> Rests<A> {
-    /// Place by place.
+    /// One answer per place.
     #[inline(always)]
     pub fn as_slice(&self) -> &[bool]
         ensures { result.now ≡ self.now }
@@ -36,8 +36,8 @@ impl<A: Allocator> Rests<A> {
     }
 }
 
-/// For the tokens after each wildcard but the last one, from where on they take the rest: the last tokens first. For
-/// the tokens after a token that is no wildcard the row is empty.
+/// Row `i` says from where on the tokens from number `span.last - i` on take the rest. It is empty if the token before
+/// them is not a wildcard.
 pub fn rests_of<A: Allocator + Copy, B: Allocator>(
     alloc: A,
     pattern: &Pattern<B>,
@@ -64,7 +64,7 @@ pub fn rests_of<A: Allocator + Copy, B: Allocator>(
     Ok(rows)
 }
 
-/// The row, if it is for the tokens after a wildcard. Otherwise none is needed, and it is empty.
+/// A copy of the row, if `token` is a wildcard. Otherwise nothing reads it, and it is empty.
 fn row_after<A: Allocator + Copy, B: Allocator>(
     alloc: A,
     pattern: &Pattern<B>,
@@ -83,7 +83,8 @@ fn row_after<A: Allocator + Copy, B: Allocator>(
     Ok(Rests { places })
 }
 
-/// For the tokens after the last wildcard, each of which takes one character: at one place alone.
+/// The row of the tokens after the last wildcard: they take one character each, so they take the rest from one place
+/// only.
 fn rests_after_span<A: Allocator + Copy, B: Allocator>(
     alloc: A,
     pattern: &Pattern<B>,
@@ -103,7 +104,7 @@ fn rests_after_span<A: Allocator + Copy, B: Allocator>(
     Ok(row)
 }
 
-/// From the row of the tokens after one to that with it.
+/// Updates the row of the tokens after `token` to include it.
 fn add_token<A: Allocator>(
     pattern: &Pattern<A>,
     token: usize,
@@ -128,8 +129,8 @@ fn add_token<A: Allocator>(
     }
 }
 
-/// Whether a token takes the character at a place, and then its piece ends, where the tokens after it take the rest
-/// from the next place on, or goes on, where more is taken from there.
+/// Whether the token takes the character at `place` and either ends its piece there, since the tokens after it take the
+/// rest from the next place on (`rest`), or goes on, since it takes more from there (`more`).
 #[inline(always)]
 #[tactic(auto, unfolding(glob_pattern::specs::Private::TextTable::table_of))]
 fn takes_more<A: Allocator>(
@@ -152,7 +153,8 @@ fn takes_more<A: Allocator>(
         && takes_at(pattern, token, options, text, place)
 }
 
-/// Whether a token and those after it take the rest from a place on: where the first takes more, or may take nothing.
+/// Whether the tokens from one on take the rest from a place: it takes a character there (`more`), or its piece may be
+/// empty.
 #[inline(always)]
 fn is_taken(form: Form, rest: bool, more: bool) -> bool
     ensures { result ≡ (more || (form.grows && rest)) }

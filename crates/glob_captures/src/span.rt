@@ -1,4 +1,4 @@
-//! The wildcards `*` and `**` of a pattern: between them pieces have to be searched.
+//! The wildcards `*` and `**` of a pattern: only the pieces between them have to be searched for.
 ghost use Rattle.std.specs.Prelude.{chars};
 ghost use Rattle.glob_pattern.specs.Computing.Tokens.{tokens_of};
 ghost use Rattle.glob_captures.specs.Private.Rests.{IsSpan};
@@ -7,12 +7,12 @@ use crate::steps::form_of;
 use glob_pattern::{Pattern, tokens_len};
 use std::alloc::Allocator;
 
-/// The numbers of the first and the last token that is `*` or `**`. With none, both are the number of all tokens.
+/// The numbers of the first and the last token that is `*` or `**`. If there is none, both are the number of tokens.
 #[derive(Clone, Copy)]
 pub struct Span {
-    /// That of the first.
+    /// The number of the first.
     pub first: usize,
-    /// That of the last.
+    /// The number of the last.
     pub last: usize,
 }
 

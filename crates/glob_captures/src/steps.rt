@@ -1,4 +1,4 @@
-//! What both directions share: the bound on the work, what a token's piece may be, and places in bytes.
+//! What captures and reach share: the bound on the work, what a token's piece may be, and places in bytes.
 ghost use Rattle.std.specs.Prelude.{◌≡◌, ◌+◌, ◌*◌, ◌<◌, ◌≤◌, ◌↔◌, length, IsTrue, chars};
 ghost use Rattle.std.specs.Prelude.{encode_utf8_all, ◌^◌};
 ghost use Rattle.glob_text.specs.Text.{opens};
@@ -9,8 +9,8 @@ ghost use Rattle.glob_captures.specs.Private.Rests.{IsFormAt};
 use glob_pattern::{MatchOptions, Pattern, TokenKind, opens, token_kind, token_takes, tokens_len};
 use std::alloc::Allocator;
 
-/// The bound on a call: the pattern's tokens times the text's bytes are at most so many. So a pattern of 8 tokens may
-/// be asked about a text of 8 MiB.
+/// The most that a call accepts of the pattern's tokens times the text's bytes. A pattern of 8 tokens may have a text
+/// of 8 MiB.
 pub const MOST_STEPS: usize = 1 << 26;
 
 /// Whether the tokens times the bytes are more than [`MOST_STEPS`].
@@ -27,13 +27,13 @@ pub fn is_too_large<A: Allocator>(pattern: &Pattern<A>, text: &str) -> bool
 /// What the pieces of a token may be.
 #[derive(Clone, Copy)]
 pub struct Form {
-    /// They may have any number of characters, not one alone.
+    /// They may have any number of characters, rather than exactly one.
     pub grows: bool,
-    /// One that is not empty ends in `/`.
+    /// A nonempty one ends in `/`.
     pub closes: bool,
 }
 
-/// What the pieces of the token of this number may be.
+/// What the pieces of token `token` may be.
 pub fn form_of<A: Allocator>(pattern: &Pattern<A>, token: usize) -> Form
     requires { token < length (tokens_of (chars pattern.now)) }
     ensures { IsFormAt (tokens_of (chars pattern.now)) token result }
@@ -54,7 +54,7 @@ pub fn form_of<A: Allocator>(pattern: &Pattern<A>, token: usize) -> Form
     }
 }
 
-/// Whether the token of this number takes the character at a place.
+/// Whether token `token` takes the character at `place`.
 #[inline(always)]
 #[tactic(auto, unfolding(glob_pattern::specs::Private::TextTable::table_of))]
 pub fn takes_at<A: Allocator>(
@@ -72,7 +72,7 @@ pub fn takes_at<A: Allocator>(
     token_takes(pattern, token, options, opens(text, place), text[place])
 }
 
-/// How many bytes the characters have.
+/// The length of the characters, in bytes.
 pub fn bytes_of(characters: &[char]) -> usize
     requires { length (encode_utf8_all characters.now) < 2 ^ 64 }
     ensures { result ≡ length (encode_utf8_all characters.now) }

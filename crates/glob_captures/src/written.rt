@@ -1,4 +1,4 @@
-//! How the tokens of a pattern are written.
+//! Where the tokens are in a pattern's text.
 ghost use Rattle.std.specs.Prelude.{◌≡◌, ◌+◌, ◌<◌, ◌≤◌, ◌↔◌, ℕ, length, map, IsTrue, IfOk, chars};
 ghost use Rattle.glob_text.specs.Text.{Has};
 ghost use Rattle.glob_pattern.specs.Grammar.Characters.{star};
@@ -12,18 +12,18 @@ use crate::steps::bytes_of;
 use glob_pattern::{Pattern, TokenKind, characters_of, token_kind, tokens_len};
 use std::alloc::{AllocError, Allocator};
 
-/// A token of a pattern: what kind it is, and where it is written, as places in bytes of the pattern's text.
+/// A token of a pattern: its kind, and where it is in the pattern's text, in bytes.
 #[derive(Clone, Copy, Debug, PartialEq, Eq)]
 pub struct Written {
-    /// What kind of token it is.
+    /// Its kind.
     pub kind: TokenKind,
-    /// Where it is written.
+    /// Where it is in the pattern's text.
     pub piece: Piece,
 }
 
-/// The tokens of a pattern, in order. Those of `a[bc]*` are a `Literal` from 0 up to 1, a `OneOf` up to 5, and an
-/// `AnySequence` up to 6: each is written from where the one before it ends. Neighbouring `**/` are one token, and are
-/// written as one. Fails only if allocation fails.
+/// The tokens of a pattern, in order. Those of `a[bc]*` are a `Literal` from 0 up to 1, a `OneOf` from 1 up to 5, and
+/// an `AnySequence` from 5 up to 6: each begins where the one before it ends. Neighbouring `**/` are one token. Fails
+/// only if an allocation fails.
 pub fn tokens<A: Allocator + Copy, B: Allocator>(
     alloc: A,
     pattern: &Pattern<B>,
@@ -55,7 +55,7 @@ pub fn tokens<A: Allocator + Copy, B: Allocator>(
     Ok(list)
 }
 
-/// The place after the token of this kind that is written from a place on.
+/// The place after the token of this kind that begins at `place`.
 fn token_end(text: &[char], place: usize, kind: TokenKind) -> usize
     requires { place ≤ length text.now }
     ensures low { place ≤ result }
@@ -72,7 +72,7 @@ fn token_end(text: &[char], place: usize, kind: TokenKind) -> usize
     }
 }
 
-/// The place after the `**` from a place on, each with the `/` after it.
+/// The place after the neighbouring `**` that begin at `place`, each with the `/` after it, if there is one.
 fn recursive_end(text: &[char], place: usize) -> usize
     requires { place ≤ length text.now }
     ensures low { place ≤ result }
@@ -86,7 +86,7 @@ fn recursive_end(text: &[char], place: usize) -> usize
     end
 }
 
-/// Whether two stars are at a place.
+/// Whether there are two stars at `place`.
 fn has_stars(text: &[char], place: usize) -> bool
     requires { place ≤ length text.now }
     ensures { IsTrue result ↔ (Has text.now place star × Has text.now (place + 1) star) }
@@ -94,7 +94,7 @@ fn has_stars(text: &[char], place: usize) -> bool
     text.len() - place >= 2 && text[place] == '*' && text[place + 1] == '*'
 }
 
-/// The place after two stars, and after a `/` that follows.
+/// The place after the two stars at `place`, and after a `/` that follows them.
 fn after_stars(text: &[char], place: usize) -> usize
     requires { Has text.now (place + 1) star }
     ensures after { IsAfterStars text.now place result }
@@ -107,7 +107,8 @@ fn after_stars(text: &[char], place: usize) -> usize
     }
 }
 
-/// The place after the `]` that ends the bracket at a place, of which the first characters end none.
+/// The place after the `]` that closes the bracket at `place`. A `]` among its first `skipped` characters does not
+/// close it.
 fn bracket_end(text: &[char], place: usize, skipped: usize) -> usize
     requires within { place ≤ length text.now }
     requires few { skipped ≤ 3 }

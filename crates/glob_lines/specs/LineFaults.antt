@@ -1,4 +1,4 @@
--- The errors of filtering lines: their words, and which is which.
+-- The errors of copying records: their messages, and which is which.
 use Rattle.std.specs.Prelude.{ℕ, List, codes, ⊤}
 use Rattle.glob_lines.specs.declared.fault.LineFault.{LineFault}
 use Rattle.glob_lines.specs.declared.fault.LineFault.TheVariants.{Read, Memory, Write}

@@ -1,4 +1,4 @@
--- The records of some bytes, and those of them that a pattern matches. Lines are the records that end before a line feed.
+-- The records in some bytes, and which of them a pattern matches. A line is a record that a line feed ends.
 use Rattle.std.specs.Prelude.{◌≡◌, ◌≢◌, ℕ, ◌-◌, ◌^◌, ◌==◌, ◌&&◌, ◌⊎◌, Bool, if◌then◌else◌, All, List, [], ◌∷◌, ◌++◌, Option, IfSome, length, min, take, true}
 use Rattle.std.specs.Str.{chars, is_utf8}
 use Rattle.std.specs.List.{flat_map}
@@ -11,12 +11,12 @@ use Rattle.glob_pattern.specs.declared.options.MatchOptions.{MatchOptions}
 abbrev pub line_feed : ℕ
 line_feed = 10
 
--- a byte put before the first record
+-- the records with one more byte at the start of the first
 abbrev pub onto_first : ℕ → List (List ℕ) → List (List ℕ)
 onto_first b [] = (b ∷ []) ∷ []
 onto_first b (first ∷ others) = (b ∷ first) ∷ others
 
--- A record ends before the byte `end`. What follows the last such byte is a record if it is not empty.
+-- The byte `end` ends a record and is not part of it. What follows the last such byte is a record if it is not empty.
 abbrev pub records_of : (end : ℕ) → List ℕ → List (List ℕ)
 records_of end [] = []
 records_of end (b ∷ bs) = if b == end then [] ∷ records_of end bs else onto_first b (records_of end bs)
@@ -25,11 +25,11 @@ records_of end (b ∷ bs) = if b == end then [] ∷ records_of end bs else onto_
 abbrev pub HasNoEnd : (end : ℕ) → List ℕ → Type 0
 HasNoEnd end bytes = All (λ b. b ≢ end) bytes
 
--- the bytes are whole records: there are none, or the last byte ends one
+-- the bytes are complete records: they are empty, or `end` is the last byte
 abbrev pub AreWhole : (end : ℕ) → List ℕ → Type 0
 AreWhole end bytes = (bytes ≡ []) ⊎ ((front : List ℕ) × (bytes ≡ front ++ end ∷ []))
 
--- the record is text, and the pattern matches it
+-- the record is UTF-8, and the pattern matches it
 abbrev pub RecordMatches : MatchOptions → (pattern : List ℕ) → List ℕ → Type 0
 RecordMatches o pattern bytes = (is_utf8 bytes ≡ true) × Matches o (chars pattern) (chars bytes)
 
@@ -37,7 +37,7 @@ RecordMatches o pattern bytes = (is_utf8 bytes ≡ true) × Matches o (chars pat
 abbrev pub record_matches : MatchOptions → (pattern : List ℕ) → List ℕ → Bool
 record_matches o pattern bytes = is_utf8 bytes && is_match o (chars pattern) (chars bytes)
 
--- `kept` are those of the records of which P holds, in order
+-- `kept` are the records that satisfy P, in order
 abbrev pub AreKept : (List ℕ → Type 0) → (records : List (List ℕ)) → (kept : List (List ℕ)) → Type 0
 AreKept P [] kept = kept ≡ []
 AreKept P (first ∷ records) kept =
@@ -52,16 +52,16 @@ ended_record end bytes = bytes ++ end ∷ []
 abbrev pub with_ends : (end : ℕ) → List (List ℕ) → List ℕ
 with_ends end records = flat_map (ended_record end) records
 
--- the bytes of a record say whether it is copied
+-- the selection selects the record
 abbrev pub Selected : (List ℕ → Bool) → List ℕ → Type 0
 Selected selects bytes = selects bytes ≡ true
 
--- of the bytes, the first n were written, for some n
+-- the first n of the bytes were written, for some n
 abbrev pub AppendsFront : (old new : Option (List ℕ)) → (bytes : List ℕ) → Type 0
 AppendsFront old new bytes = (n : ℕ) × Appends old new (take n bytes)
 
--- The records of which P holds were written, each with its end, after what the writer held before. `count` is the number of
--- them, which stops at `u64::MAX`.
+-- The records that satisfy P were written, each with its end, after what the writer held before. `count` is their
+-- number, which stops at `u64::MAX`.
 abbrev pub WritesKept : (end : ℕ) → (P : List ℕ → Type 0) → (input : List ℕ) → (old new : Option (List ℕ)) → (count : ℕ) → Type 0
 WritesKept end P input old new count =
     (kept : List (List ℕ))
@@ -69,21 +69,21 @@ WritesKept end P input old new count =
     × Appends old new (with_ends end kept)
     × (count ≡ min (length kept) (2 ^ 64 - 1))
 
--- of these records, the first n were written, for some n
+-- the first n of these records were written, for some n
 abbrev pub WritesSomeKept : (end : ℕ) → (P : List ℕ → Type 0) → (input : List ℕ) → (old new : Option (List ℕ)) → Type 0
 WritesSomeKept end P input old new =
     (kept : List (List ℕ))
     × AreKept P (records_of end input) kept
     × ((n : ℕ) × Appends old new (with_ends end (take n kept)))
 
--- of the bytes of these records, the first n were written, for some n
+-- the first n bytes of these records were written, for some n
 abbrev pub WritesKeptBytes : (end : ℕ) → (P : List ℕ → Type 0) → (input : List ℕ) → (old new : Option (List ℕ)) → Type 0
 WritesKeptBytes end P input old new =
     (kept : List (List ℕ))
     × AreKept P (records_of end input) kept
     × ((n : ℕ) × Appends old new (take n (with_ends end kept)))
 
--- the same three where P is that the pattern matches the record
+-- the same three for the records that the pattern matches
 abbrev pub WritesRecords : (end : ℕ) → MatchOptions → (pattern input : List ℕ) → (old new : Option (List ℕ)) → (count : ℕ) → Type 0
 WritesRecords end o pattern input old new count = WritesKept end (RecordMatches o pattern) input old new count
 
@@ -93,7 +93,7 @@ WritesSomeRecords end o pattern input old new = WritesSomeKept end (RecordMatche
 abbrev pub WritesSomeBytes : (end : ℕ) → MatchOptions → (pattern input : List ℕ) → (old new : Option (List ℕ)) → Type 0
 WritesSomeBytes end o pattern input old new = WritesKeptBytes end (RecordMatches o pattern) input old new
 
--- the same three of the selected records of an input that is known, and nothing of another
+-- the same three for the selected records, if the input is known; they say nothing if it is not
 unfoldable pub CopiesSelected : (end : ℕ) → (List ℕ → Bool) → (input old new : Option (List ℕ)) → (count : ℕ) → Type 0
 CopiesSelected end selects input old new count = IfSome input (λ bytes. WritesKept end (Selected selects) bytes old new count)
 
@@ -103,7 +103,8 @@ CopiesSomeSelected end selects input old new = IfSome input (λ bytes. WritesSom
 unfoldable pub CopiesSelectedBytes : (end : ℕ) → (List ℕ → Bool) → (input old new : Option (List ℕ)) → Type 0
 CopiesSelectedBytes end selects input old new = IfSome input (λ bytes. WritesKeptBytes end (Selected selects) bytes old new)
 
--- What was read of the input is whole records and then no end. Just the selected ones of these were written.
+-- What was read of the input is complete records and a part without an end. Exactly the selected ones of these records
+-- were written.
 unfoldable pub CopiesWholeSelected : (end : ℕ) → (List ℕ → Bool) → (input rest old new : Option (List ℕ)) → Type 0
 CopiesWholeSelected end selects input rest old new =
     (whole : List ℕ) × ((partial : List ℕ)
@@ -114,7 +115,7 @@ CopiesWholeSelected end selects input rest old new =
     × AreKept (Selected selects) (records_of end whole) kept
     × Appends old new (with_ends end kept)))
 
--- the same three of the records that a pattern matches
+-- the same three for the records that a pattern matches
 unfoldable pub FiltersRecords : (end : ℕ) → MatchOptions → (pattern : List ℕ) → (input old new : Option (List ℕ)) → (count : ℕ) → Type 0
 FiltersRecords end o pattern input old new count = IfSome input (λ bytes. WritesRecords end o pattern bytes old new count)
 
@@ -124,7 +125,7 @@ FiltersSomeRecords end o pattern input old new = IfSome input (λ bytes. WritesS
 unfoldable pub FiltersRecordBytes : (end : ℕ) → MatchOptions → (pattern : List ℕ) → (input old new : Option (List ℕ)) → Type 0
 FiltersRecordBytes end o pattern input old new = IfSome input (λ bytes. WritesSomeBytes end o pattern bytes old new)
 
--- the same three of lines
+-- the same three for lines
 abbrev pub FiltersLines : MatchOptions → (pattern : List ℕ) → (input old new : Option (List ℕ)) → (count : ℕ) → Type 0
 FiltersLines o pattern input old new count = FiltersRecords line_feed o pattern input old new count
 

@@ -12,22 +12,22 @@ use std::alloc::Allocator;
 use std::io::{Read, Write};
 
 /// Copies the records of `reader` that the selection selects to `writer`, in order, and returns their number, which
-/// stays at `u64::MAX` once it is there. A record ends before the byte `end`, and each is written with it. What follows
-/// the last such byte is a record if it is not empty.
+/// stops at `u64::MAX`. The byte `end` ends a record and is written after each. What follows the last such byte is a
+/// record if it is not empty.
 ///
-/// So with the selection of the records that begin with `#` and a line feed as the end the input `"#a\nb\n#c"` gives
-/// the output `"#a\n#c\n"`, and 2 is returned.
+/// For example, if the records that begin with `#` are selected and `end` is a line feed, the input `"#a\nb\n#c"` gives
+/// the output `"#a\n#c\n"`, and the call returns 2.
 ///
-/// The selected records among what a read gives are written before the next read. In memory of `alloc` are 64 KiB of
-/// the input, or the longest record, and what is gathered of them for a write. Neither the reader nor the writer may
-/// have failed before. The errors are:
+/// The selected records of each read are written before the next read. Memory from `alloc` holds about 64 KiB of the
+/// input, or its longest record, and the output gathered for a write. Neither the reader nor the writer may have failed
+/// before. The errors are:
 ///
-/// - [`LineFault::Read`]: a call of the reader failed, also with `Interrupted`. Of the records whose end was read
-///   before, the selected ones were written, all of them.
-/// - [`LineFault::Memory`]: allocation failure, for the input, the output or the selection. The first selected records
-///   were written, some or none of them, each whole.
-/// - [`LineFault::Write`]: a call of the writer failed, also with `Interrupted`. The first bytes of the output were
-///   written, some or none of them.
+/// - [`LineFault::Read`]: a read failed, `Interrupted` included. All selected records whose end was read before were
+///   written, and nothing else.
+/// - [`LineFault::Memory`]: an allocation failed, for the input, the output or the selection. The first selected
+///   records were written, perhaps none, each of them completely.
+/// - [`LineFault::Write`]: a write failed, `Interrupted` included. The first bytes of the output were written,
+///   perhaps none.
 #[tactic(auto, unfolding(crate::specs::Lines::CopiesSelected))]
 pub fn copy_selected<A: Allocator + Copy, S: Selection, R: Read, W: Write>(
     alloc: A,
@@ -54,10 +54,10 @@ pub fn copy_selected<A: Allocator + Copy, S: Selection, R: Read, W: Write>(
 {
     let mut input = Vec::new(alloc);
     let mut output = Vec::new(alloc);
-    // How many bytes of a record are at the front of `input`: its end has not come.
+    // The length of the incomplete record at the front of `input`.
     let mut partial = 0;
     let mut count = 0u64;
-    // A bound that no run reaches: nothing says that a reader has an end.
+    // Never reached; the loop needs a bound, since nothing says that a reader comes to an end.
     for _ in 0..u64::MAX {
         let len = read_piece(&mut input, partial, reader)?;
         if len == 0 {
@@ -74,7 +74,7 @@ pub fn copy_selected<A: Allocator + Copy, S: Selection, R: Read, W: Write>(
     Err(LineFault::Memory)
 }
 
-/// How many of the bytes are whole records with their ends. The first `partial` of the bytes have no end.
+/// How many of the bytes are complete records with their ends. The first `partial` bytes have no end among them.
 fn whole_len(bytes: &[u8], partial: usize, end: u8) -> usize
     requires within { partial ≤ length bytes.now }
     requires partial { HasNoEnd end (take partial bytes.now) }
@@ -92,14 +92,14 @@ fn whole_len(bytes: &[u8], partial: usize, end: u8) -> usize
     0
 }
 
-/// Moves the bytes from `start` on and before `end` to the front.
+/// Moves the bytes `start..end` to the front.
 fn move_front<A: Allocator>(bytes: &mut Vec<u8, A>, start: usize, end: usize)
     requires order { start ≤ end }
     requires within { end ≤ vec_len bytes.old }
     ensures moved { take (end - start) bytes.new.items ≡ drop start (take end bytes.old.items) }
     ensures len { vec_len bytes.new ≡ vec_len bytes.old }
 {
-    // To move bytes to where they are would make a long record, of which each read gives a part, cost its square.
+    // Skip no-op moves: they would make a long record, which takes many reads, cost quadratic time.
     if start == 0 {
         return;
     }

@@ -6,16 +6,17 @@ use std::alloc::AllocError;
 use std::error::Error;
 use std::{fmt, io};
 
-/// Why [`filter_lines`](crate::filter_lines) failed.
+/// Why [`filter_lines`](crate::filter_lines), or another copy of records, failed.
 ///
 /// It prints as `reading failed`, `out of memory` or `writing failed`. A full disk under the output is a `Write`.
 #[derive(Debug, Drop)]
 pub enum LineFault {
-    /// A read failed with this error of the reader.
+    /// Reading failed with this error.
     Read(io::Error),
-    /// Out of memory: the input, the output buffer or a match of more than 63 tokens could not be allocated.
+    /// Out of memory: an allocation failed for the input, the output buffer, a match of more than 63 tokens, or a
+    /// selection.
     Memory,
-    /// A write failed with this error of the writer.
+    /// Writing failed with this error.
     Write(io::Error),
 }
 

@@ -1,4 +1,4 @@
-//! Copies the lines of a reader that a pattern matches to a writer, or the records that another byte ends.
+//! Copies the lines that a pattern matches, or records that another byte ends, from a reader to a writer.
 #![tactic(auto)]
 
 mod copying;

@@ -1,4 +1,4 @@
-//! Copies of the records that match, in the order in which they are read.
+//! Copies matching records in the order in which they are read.
 ghost use Rattle.std.specs.Prelude.{◌≡◌, ◌↔◌, ◌<◌, ◌≤◌, ◌+◌, ◌∷◌, ◌++◌, false, length, take, drop, vec_len, IsTrue, IsErr, IsErrAnd, IfOk, OnOk, OnErr};
 ghost use Rattle.std.specs.Io.KnownBytes.{Keeps, Appends, Consumes, IsAtEnd};
 ghost use Rattle.glob_lines.specs.LineFaults.{IsRead, IsMemory, IsWrite};
@@ -15,27 +15,27 @@ use glob_pattern::{MatchOptions, Pattern};
 use std::alloc::{AllocError, Allocator};
 use std::io::{Read, Write};
 
-/// How many bytes one read may return: the room for them grows by so many.
+/// How many bytes a full input buffer grows by.
 const READ_LEN: usize = 64 * 1024;
 
 /// How many bytes of output are gathered before a write.
 const WRITE_LEN: usize = 64 * 1024;
 
 /// Copies the lines of `reader` that `pattern` matches to `writer`, in order, each with a line feed, and returns their
-/// number, which stays at `u64::MAX` once it is there.
+/// number, which stops at `u64::MAX`.
 ///
-/// A line ends before a line feed, and what follows the last line feed is a line if it is not empty. A carriage return
-/// is part of its line. A line that is not UTF-8 never matches. So with the pattern `a*` the input `"ab\nb\nac"` gives
-/// the output `"ab\nac\n"`, and 2 is returned.
+/// A line feed ends a line, and what follows the last one is a line if it is not empty. A carriage return is part of
+/// its line. A line that is not UTF-8 never matches. For example, with the pattern `a*` the input `"ab\nb\nac"` gives
+/// the output `"ab\nac\n"`, and the call returns 2.
 ///
-/// The input is read to its end before anything is written, into memory of `alloc`. Neither the reader nor the writer
-/// may have failed before. The errors are:
+/// The input is read to its end, into memory from `alloc`, before anything is written. Neither the reader nor the
+/// writer may have failed before. The errors are:
 ///
-/// - [`LineFault::Read`]: a call of the reader failed, also with `Interrupted`. Nothing was written.
-/// - [`LineFault::Memory`]: allocation failure, for the input, the output or a match. The first matching lines were
-///   written, some or none of them, each whole.
-/// - [`LineFault::Write`]: a call of the writer failed, also with `Interrupted`. The first bytes of the output were
-///   written, some or none of them.
+/// - [`LineFault::Read`]: a read failed, `Interrupted` included. Nothing was written.
+/// - [`LineFault::Memory`]: an allocation failed, for the input, the output or a match. The first matching lines were
+///   written, perhaps none, each of them completely.
+/// - [`LineFault::Write`]: a write failed, `Interrupted` included. The first bytes of the output were written,
+///   perhaps none.
 pub fn filter_lines<A: Allocator + Copy, B: Allocator + Copy, R: Read, W: Write>(
     alloc: A,
     pattern: &Pattern<B>,
@@ -61,12 +61,11 @@ pub fn filter_lines<A: Allocator + Copy, B: Allocator + Copy, R: Read, W: Write>
     filter_records(alloc, pattern, options, b'\n', reader, writer)
 }
 
-/// Copies the records of `reader` that `pattern` matches to `writer`, as [`filter_lines`] does with lines. A record
-/// ends before the byte `end`, and each is written with it. What follows the last such byte is a record if it is not
-/// empty.
+/// Copies the records of `reader` that `pattern` matches to `writer`, as [`filter_lines`] does with lines. The byte
+/// `end` ends a record and is written after each. What follows the last such byte is a record if it is not empty.
 ///
-/// So with the pattern `a*` and the byte `0` as the end the input `"a\nb\0b\0"` gives the output `"a\nb\0"`, and 1 is
-/// returned: a line feed is a character of its record. The errors are those of `filter_lines`.
+/// For example, with the pattern `a*` and the end `0` the input `"a\nb\0b\0"` gives the output `"a\nb\0"`, and the call
+/// returns 1: a line feed is an ordinary character here. The errors are those of `filter_lines`.
 pub fn filter_records<A: Allocator + Copy, B: Allocator + Copy, R: Read, W: Write>(
     alloc: A,
     pattern: &Pattern<B>,
@@ -101,7 +100,7 @@ pub fn filter_records<A: Allocator + Copy, B: Allocator + Copy, R: Read, W: Writ
     )
 }
 
-/// All bytes that are left in the reader.
+/// Reads all bytes that are left in the reader.
 fn read_all<A: Allocator + Copy, R: Read>(
     alloc: A,
     reader: &mut Watch<R>,
@@ -125,8 +124,8 @@ fn read_all<A: Allocator + Copy, R: Read>(
     }
 }
 
-/// One read into `input` from byte `filled` on, and how many bytes it read. Where `input` has no room there, it grows
-/// by `READ_LEN` zeros.
+/// Reads once into `input` from byte `filled` on, and returns how many bytes were read. If `input` is full, it first
+/// grows by `READ_LEN` zeros.
 pub(crate) fn read_piece<A: Allocator, R: Read>(
     input: &mut Vec<u8, A>,
     filled: usize,
@@ -152,7 +151,7 @@ pub(crate) fn read_piece<A: Allocator, R: Read>(
 }
 
 /// Writes the selected records of the input, each with its end, and returns their number. They are gathered in
-/// `output`, of which nothing but its memory counts before and after.
+/// `output`, a scratch buffer: its bytes before and after the call mean nothing.
 pub(crate) fn write_records<A: Allocator, S: Selection, W: Write>(
     selection: &S,
     end: u8,
@@ -199,7 +198,7 @@ fn split_record(bytes: &[u8], end: u8) -> (&[u8], &[u8])
     }
 }
 
-/// Appends the record and its end to `output`, and writes the output once it is long.
+/// Appends the record and its end to `output`, and writes and empties it once it is long.
 fn keep_record<A: Allocator, W: Write>(
     bytes: &[u8],
     end: u8,
@@ -225,7 +224,7 @@ fn keep_record<A: Allocator, W: Write>(
     Ok(())
 }
 
-/// Appends the record and its end.
+/// Appends the record and its end to `output`.
 #[inline]
 fn push_record<A: Allocator>(
     bytes: &[u8],

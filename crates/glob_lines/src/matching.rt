@@ -7,7 +7,7 @@ use glob_pattern::{MatchOptions, Pattern, may_match};
 use std::alloc::{AllocError, Allocator};
 use std::str;
 
-/// Selects the records that are text that the pattern matches.
+/// Selects the records that are UTF-8 and match the pattern.
 #[derive(Drop)]
 pub(crate) struct Matching<'p, B: Allocator> {
     pub pattern: &'p Pattern<B>,
@@ -22,7 +22,7 @@ impl<B: Allocator + Copy> Selection for Matching<'_, B> {
     }
 }
 
-/// Whether the record is text that the pattern matches.
+/// Whether the record is UTF-8 and matches the pattern.
 fn record_matches<B: Allocator + Copy>(
     pattern: &Pattern<B>,
     options: MatchOptions,
@@ -30,7 +30,7 @@ fn record_matches<B: Allocator + Copy>(
 ) -> Result<bool, AllocError>
     ensures { IfOk result (λ yes. IsTrue yes ↔ RecordMatches options pattern.now bytes.now) }
 {
-    // This says of most records that they do not match, and costs less than the test for UTF-8.
+    // A prefilter: it rejects most records, and costs less than the UTF-8 check.
     if !may_match(pattern, bytes, options) {
         return Ok(false);
     }

@@ -1,4 +1,4 @@
-//! The first end of a record among some bytes, searched for sixteen bytes at a time.
+//! Finds the first end of a record, sixteen bytes at a time.
 ghost use Rattle.std.specs.Prelude.{◌≡◌, ◌+◌, ◌≤◌, ◌==◌, length, position, take, drop};
 ghost use Rattle.std.specs.List.{position_or_len};
 
@@ -7,7 +7,7 @@ use std::simd::prelude::*;
 /// How many bytes are searched at once.
 const LANES: usize = 16;
 
-/// The place of the first byte `end`, in bytes from 0.
+/// The offset of the first byte `end`.
 pub fn first_end(bytes: &[u8], end: u8) -> Option<usize>
     ensures { result ≡ position (λ b. b == end) bytes.now }
 {
@@ -23,7 +23,7 @@ pub fn first_end(bytes: &[u8], end: u8) -> Option<usize>
     Some(start + rest)
 }
 
-/// How many of the sixteen bytes from `start` on come before the first `end` among them; all sixteen without one.
+/// How many of the sixteen bytes from `start` on come before the first `end` among them; sixteen if there is none.
 #[inline(always)]
 fn before_end(bytes: &[u8], start: usize, end: u8) -> usize
     requires { start + 16 ≤ length bytes.now }
@@ -39,7 +39,7 @@ fn before_end(bytes: &[u8], start: usize, end: u8) -> usize
     }
 }
 
-/// The same as [`first_end`], a byte at a time.
+/// As [`first_end`], but a byte at a time.
 fn first_end_by_one(bytes: &[u8], end: u8) -> Option<usize>
     ensures { result ≡ position (λ b. b == end) bytes.now }
 {

@@ -1,10 +1,9 @@
-//! What says which records are copied.
+//! Which records are copied.
 ghost use Rattle.std.specs.Prelude.{◌≡◌, List, ℕ, Bool, IfOk};
 
 use std::alloc::AllocError;
 
-/// What says which records are copied: a test of their bytes. The same selection gives the same answer for the same
-/// bytes.
+/// Decides from a record's bytes whether it is copied. The same selection gives the same answer for the same bytes.
 ///
 /// ```text
 /// struct Commented;
@@ -20,7 +19,7 @@ use std::alloc::AllocError;
 pub trait Selection {
     ghost selects: { Self → List ℕ → Bool };
 
-    /// Whether a record is copied, given without its end. The error is an allocation failure.
+    /// Whether the record `bytes`, given without its end, is copied. The error is a failed allocation.
     fn selects(&self, bytes: &[u8]) -> Result<bool, AllocError>
         ensures { IfOk result (λ yes. yes ≡ selects self.now bytes.now) };
 }

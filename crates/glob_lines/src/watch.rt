@@ -1,4 +1,4 @@
-//! A reader or writer that knows whether a call of it has failed.
+//! A reader or writer that remembers whether one of its calls has failed.
 ghost use Rattle.std.specs.Prelude.{◌≡◌, ◌↔◌, ◌⊎◌, ◌<◌, false, length, IsTrue, IsErr, IfOk, OnOk, OnErr};
 ghost use Rattle.std.specs.Io.{ReadsAtMost, WritesAtMost};
 ghost use Rattle.std.specs.Io.KnownBytes.{Appends, ReadConsumes, WriteAppends};
@@ -8,10 +8,10 @@ use crate::writing::write_some;
 use std::io::{self, Read, Write};
 use std::marker::Model;
 
-/// A reader or writer, and whether a call of it has failed.
+/// A reader or writer that remembers whether one of its calls has failed.
 ///
-/// [`failed`](Watch::failed) is false at first, and true from the first call on that returns an error, whatever later
-/// calls return.
+/// [`failed`](Watch::failed) is false until a call returns an error, and true from then on, whatever later calls
+/// return.
 ///
 /// ```text
 /// let mut reader = Watch::new(stdin);
@@ -35,7 +35,7 @@ impl<S> Model for Watch<S> {
 }
 
 impl<S> Watch<S> {
-    /// Watches `inner`, as `Watch::new(stdin)` does. No call of it has failed yet.
+    /// Watches `inner`, as in `Watch::new(stdin)`. No call has failed yet.
     pub fn new(inner: S) -> Self
         ensures inner { result.inner ≡ inner }
         ensures failed { result.failed ≡ false }
@@ -53,8 +53,8 @@ impl<S> Watch<S> {
         self.inner
     }
 
-    /// Whether some call has returned an error: so after a read that was `Interrupted`, also where the next one returns
-    /// bytes.
+    /// Whether a call has returned an error. After a read that was `Interrupted` it is true, even if the next read
+    /// succeeds.
     pub fn failed(&self) -> bool
         ensures { result ≡ self.now.failed }
     {
@@ -63,10 +63,10 @@ impl<S> Watch<S> {
 }
 
 impl<S: Read> Watch<S> {
-    /// One read of the inner reader, to the start of `buf`. It returns how many bytes were read: 0 only at the end of
-    /// the input, or where `buf` is empty. So with `abc` left and room for two bytes it may return 2, and then 1.
+    /// Reads once from the inner reader into the start of `buf`, and returns how many bytes were read: 0 only at the
+    /// end of the input, or if `buf` is empty. With `abc` left and room for two bytes it may return 2, and then 1.
     ///
-    /// The error is the inner reader's, also `Interrupted`. No byte was read then.
+    /// The error is the inner reader's, `Interrupted` included. No byte was read then.
     pub fn read(&mut self, buf: &mut [u8]) -> io::Result<usize>
         ensures bound { ReadsAtMost result buf.new }
         ensures bytes { ReadConsumes (S.remaining self.old.inner) (S.remaining self.new.inner)
@@ -80,12 +80,12 @@ impl<S: Read> Watch<S> {
 }
 
 impl<S: Write> Watch<S> {
-    /// One write to the inner writer, from the start of `buf`. It returns how many bytes were written: 0 only where
+    /// Writes once to the inner writer, from the start of `buf`, and returns how many bytes were written: 0 only if
     /// `buf` is empty.
     ///
-    /// The error is the inner writer's, also `Interrupted`, or of the kind `WriteZero` where the inner writer took none
-    /// of some bytes. No byte was written then. So where the inner writer takes two bytes a call, `write(b"abc")`
-    /// returns 2.
+    /// The error is the inner writer's, `Interrupted` included, or is of the kind `WriteZero` if the inner writer
+    /// accepted none of the bytes of a nonempty `buf`. No byte was written then. If the inner writer accepts two bytes
+    /// a call, `write(b"abc")` returns 2.
     pub fn write(&mut self, buf: &[u8]) -> io::Result<usize>
         ensures bound { WritesAtMost result buf.now }
         ensures bytes { WriteAppends (S.contents self.old.inner) (S.contents self.new.inner)
@@ -98,8 +98,8 @@ impl<S: Write> Watch<S> {
         answer
     }
 
-    /// Writes all of the bytes, in as many writes as it takes: `abc` in two, where the inner writer takes two bytes a
-    /// call. The first error is returned, also `Interrupted`. Then the first bytes were written, some or none of them.
+    /// Writes all bytes, in as many writes as needed: `abc` in two, if the inner writer accepts two bytes a call. It
+    /// returns the first error, `Interrupted` included. Then the first bytes were written, perhaps none.
     pub(crate) fn write_all(&mut self, bytes: &[u8]) -> io::Result<()>
         ensures ok { OnOk result
             (Appends (S.contents self.old.inner) (S.contents self.new.inner) bytes.now) }

@@ -1,4 +1,4 @@
-//! Writes of all bytes, in as many writes as it takes.
+//! Writes all bytes, in as many writes as needed.
 ghost use Rattle.std.specs.Prelude.{◌<◌, length, IfOk, OnOk, OnErr};
 ghost use Rattle.std.specs.Io.{WritesAtMost};
 ghost use Rattle.std.specs.Io.KnownBytes.{Appends, WriteAppends};
@@ -6,12 +6,12 @@ ghost use Rattle.glob_lines.specs.Lines.{AppendsFront};
 
 use std::io::{self, ErrorKind, Write};
 
-/// Writes all of the bytes, in as many writes as it takes: to a writer that accepts two bytes a call, `abc` is two
-/// writes. A write that fails with `Interrupted`, as one does during which a signal comes, is tried again.
+/// Writes all bytes, in as many writes as needed: `abc` in two, if the writer accepts two bytes a call. A write that
+/// fails with `Interrupted`, for example because of a signal, is retried.
 ///
-/// The error is that of the first other write that failed, or of the kind `WriteZero` where the writer took none of
-/// some bytes. Then the first bytes were written, some or none of them, of which the contract of `Write::write_all`
-/// says nothing.
+/// Any other failed write ends the call with its error. So does a writer that accepts none of the bytes that are left,
+/// with an error of the kind `WriteZero`. Then the first bytes were written, perhaps none; `Write::write_all` promises
+/// nothing about them.
 pub fn write_whole<W: Write>(writer: &mut W, bytes: &[u8]) -> io::Result<()>
     ensures all { OnOk result
         (Appends (W.contents writer.old) (W.contents writer.new) bytes.now) }
@@ -19,7 +19,7 @@ pub fn write_whole<W: Write>(writer: &mut W, bytes: &[u8]) -> io::Result<()>
         (AppendsFront (W.contents writer.old) (W.contents writer.new) bytes.now) }
 {
     let mut rest = bytes;
-    // A bound that no run reaches: each write may be interrupted, and the proof has to know that this ends.
+    // Never reached; the loop needs a bound, since every write may be interrupted.
     for _ in 0..u64::MAX {
         if rest.is_empty() {
             return Ok(());
@@ -30,7 +30,7 @@ pub fn write_whole<W: Write>(writer: &mut W, bytes: &[u8]) -> io::Result<()>
     Err(io::Error::from(ErrorKind::Interrupted))
 }
 
-/// One write, and how many of the bytes it wrote: none where it was interrupted.
+/// Writes once, and returns how many bytes were written: 0 if it was interrupted.
 #[inline(always)]
 fn write_or_retry<W: Write>(writer: &mut W, bytes: &[u8]) -> io::Result<usize>
     ensures bound { WritesAtMost result bytes.now }
@@ -42,8 +42,8 @@ fn write_or_retry<W: Write>(writer: &mut W, bytes: &[u8]) -> io::Result<usize>
     }
 }
 
-/// One write from the start of the bytes, and how many of them it wrote. A writer that takes none of some bytes is an
-/// error.
+/// Writes once from the start of the bytes, and returns how many were written. A writer that accepts nothing of a
+/// nonempty buffer is an error.
 #[inline]
 pub(crate) fn write_some<W: Write>(writer: &mut W, bytes: &[u8]) -> io::Result<usize>
     ensures bound { WritesAtMost result bytes.now }

@@ -1,3 +1,4 @@
+-- Classes of characters, and where their masks are in rows.
 pub mod Counting
 pub mod Folding
 pub mod Intervals

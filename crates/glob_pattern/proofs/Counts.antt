@@ -1,4 +1,4 @@
--- How many characters there are.
+-- Numbers of characters and of questions stay within machine integers.
 use Rattle.std.proofs.Common.{◌≡◌, ℕ, zero, suc, ◌+◌, ◌-◌, ◌*◌, ◌^◌, ◌<◌, ◌≤◌, List, [], ◌∷◌, length, arith}
 use Rattle.std.proofs.Math.Nat.{mul-suc}
 use Rattle.std.specs.Str.{chars_after, continuation_len, lead_bits}

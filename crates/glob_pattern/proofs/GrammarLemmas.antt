@@ -1,3 +1,4 @@
+-- The grammar of patterns: units, tokens and faults, and how they are computed.
 pub mod Accepted
 pub mod Accepting
 pub mod Closing

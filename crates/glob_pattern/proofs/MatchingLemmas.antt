@@ -1,3 +1,4 @@
+-- Which texts a pattern matches: pieces and splits, ends and needles, computed answers.
 pub mod Case
 pub mod Computed
 pub mod Deciding

@@ -1,5 +1,6 @@
--- Lists from a place on: what is there, and what a piece at its front leaves.
-use Rattle.std.proofs.Common.{◌≡◌, ℕ, suc, ◌+◌, ◌-◌, ◌<◌, ◌≤◌, ◌⊎◌, inl, inr, ⊎_elim, List, [], ◌∷◌, ◌++◌, length, get_or, drop, refl, sym, ap, ◌∙◌, arith}
+-- Elements and pieces of a list, by their places.
+use Rattle.std.proofs.Common.{◌≡◌, ℕ, suc, ◌+◌, ◌-◌, ◌<◌, ◌≤◌, ◌⊎◌, inl, inr, ⊎_elim, List, [], ◌∷◌, ◌++◌, length}
+use Rattle.std.proofs.Common.{get_or, drop, refl, sym, ap, ◌∙◌, arith}
 use Rattle.std.proofs.lemmas.List.{get_or-drop, drop-drop, drop_at, length-drop, length-append, get_or_append_left}
 
 -- an element of the list is one of what is dropped to
@@ -34,11 +35,13 @@ drop-after_piece xs piece rest n e =
     sym (drop-drop (length piece) n xs) ∙ ap (λ zs. drop (length piece) zs) e ∙ drop_at piece rest (length piece) refl
 
 -- an element of a piece at place n
-pub get_or-in_piece : {X : Type 0} (xs piece rest : List X) (n i : ℕ) (d : X) → drop n xs ≡ piece ++ rest → i < length piece → get_or xs (n + i) d ≡ get_or piece i d
+pub get_or-in_piece : {X : Type 0} (xs piece rest : List X) (n i : ℕ) (d : X) → drop n xs ≡ piece ++ rest
+    → i < length piece → get_or xs (n + i) d ≡ get_or piece i d
 get_or-in_piece xs piece rest n i d e h = get_or-from_drop xs (piece ++ rest) n i d e ∙ get_or_append_left piece rest d i h
 
 -- a piece at place n ends within the list
-pub length-after_piece : {X : Type 0} (xs piece rest : List X) (n : ℕ) → drop n xs ≡ piece ++ rest → n ≤ length xs → n + length piece ≤ length xs
+pub length-after_piece : {X : Type 0} (xs piece rest : List X) (n : ℕ) → drop n xs ≡ piece ++ rest → n ≤ length xs
+    → n + length piece ≤ length xs
 length-after_piece xs piece rest n e h =
     let l : length xs - n ≡ length piece + length rest = sym (length-drop n xs) ∙ ap length e ∙ length-append piece rest in
     omega arith

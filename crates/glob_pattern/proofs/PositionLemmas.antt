@@ -1,3 +1,4 @@
+-- Position sets of the automaton, as words of bits.
 pub mod Alive
 pub mod DeadPlaces
 pub mod DeadWords

@@ -8,10 +8,10 @@ use Rattle.glob_text.specs.Text.{Text}
 abbrev pub is_special : ℕ → Bool
 is_special c = c == question_mark || c == star || c == open_bracket || c == close_bracket
 
--- a special character in a bracket of its own, and every other as it is
+-- a special character in a bracket of its own, any other as it is
 abbrev pub escaped_character : ℕ → Text
 escaped_character c = if is_special c then open_bracket ∷ c ∷ close_bracket ∷ [] else c ∷ []
 
--- the escaped characters, one after another
+-- each character, escaped
 abbrev pub escaped_text : Text → Text
 escaped_text text = flat_map escaped_character text

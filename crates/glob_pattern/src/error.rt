@@ -1,4 +1,4 @@
-//! Why a text is no pattern.
+//! Why a text is refused as a pattern.
 ghost use Rattle.std.specs.Prelude.{◌≡◌, List, ℕ, Some};
 ghost use Rattle.glob_pattern.specs.Grammar.Faults.{Refuses, kind_of, message_of, number_of};
 ghost use Rattle.glob_pattern.specs.Words.{pattern_error_words, refusal_words};
@@ -8,19 +8,19 @@ use std::alloc::{AllocError, AllocFailed};
 use std::error::Error;
 use std::fmt;
 
-/// What is wrong where a text is no pattern.
+/// What is wrong with a text that is not accepted as a pattern.
 #[derive(Clone, Copy, Debug, PartialEq, Eq)]
 pub enum PatternErrorKind {
-    /// Three stars or more, as in `a/***`.
+    /// Three or more stars, as in `a/***`.
     Wildcards,
     /// Two stars that are not a whole component, as in `a**`.
     Recursive,
-    /// A `[` that begins no bracket, as in `[a`.
+    /// A `[` that no `]` closes, as in `[a` and `[]`.
     Range,
 }
 
 impl PatternErrorKind {
-    /// The message of errors of this kind: of `Range` it is `invalid range pattern`.
+    /// The message for errors of this kind: `invalid range pattern` for `Range`.
     pub fn message(self) -> &'static str
         ensures text { result.now ≡ message_of self }
         ensures kind { kind_of result.now ≡ self }
@@ -32,7 +32,7 @@ impl PatternErrorKind {
         }
     }
 
-    /// A number that stays that of the kind: `Wildcards` has 0, `Recursive` 1, and `Range` 2.
+    /// The fixed number of the kind: 0 for `Wildcards`, 1 for `Recursive`, 2 for `Range`.
     pub fn number(self) -> u32
         ensures { result ≡ number_of self }
     {
@@ -44,18 +44,18 @@ impl PatternErrorKind {
     }
 }
 
-/// Where a text is no pattern, and why. For `a**` it has the place 0 and the message `recursive wildcards must form a
-/// single path component`, and is printed as `Pattern syntax error near position 0: ` and the message.
+/// Where a pattern is wrong, and why. The error for `a**` has the place 0 and the message `recursive wildcards must
+/// form a single path component`. It prints as `Pattern syntax error near position 0: ` and the message.
 #[derive(Debug, Drop)]
 pub struct PatternError {
     /// The place, in characters from 0.
     pub pos: usize,
-    /// What is wrong there.
+    /// The message: what is wrong there.
     pub msg: &'static str,
 }
 
 impl PatternError {
-    /// What is wrong: `Recursive` for `a**`. For an error made by hand it is the kind with that message, or else
+    /// The kind of the error: `Recursive` for `a**`. An error made by hand has the kind with its message, or else
     /// `Range`.
     #[tactic(auto, using(crate::proofs::GrammarLemmas::FaultKinds::message_of_kind))]
     pub fn kind(&self) -> PatternErrorKind
@@ -85,12 +85,12 @@ impl fmt::Display for PatternError {
 
 impl Error for PatternError {}
 
-/// Why a text was refused as a pattern, by [`Pattern::new`](crate::Pattern::new) or by a walk. So `[a` is refused with
-/// `Syntax`, at the place 0, and it prints as `Pattern syntax error near position 0: invalid range pattern`.
+/// Why [`Pattern::new`](crate::Pattern::new) or a walk refused a text. `[a` is refused with `Syntax` at the place 0,
+/// which prints as `Pattern syntax error near position 0: invalid range pattern`.
 #[derive(Debug, Drop)]
 pub enum PatternRefusal {
-    /// The text is not accepted, and this is its first fault from the left. From a walk it may be that of a component,
-    /// and its place then counts from the component's start.
+    /// The text is not accepted; this is its first fault from the left. A walk may report the fault of a component,
+    /// with the place counted from the start of that component.
     Syntax(PatternError),
     /// Out of memory: an allocation failed.
     Memory,

@@ -1,4 +1,4 @@
-//! Reads a pattern's units, or its first fault.
+//! Reads the units of a pattern, or its first fault.
 ghost use Rattle.std.specs.Prelude.{◌≡◌, ◌+◌, ◌<◌, ◌≤◌, List, [], ◌∷◌, ◌++◌, length, Some, IsTrue, IfSome, IfOk, IfErr, OnOk};
 ghost use Rattle.std.specs.Str.{chars, IsAscii};
 ghost use Rattle.glob_text.specs.Text.{Has, has, opens};
@@ -13,10 +13,10 @@ use crate::token::Token;
 use crate::token::bracket::Bracket;
 use std::alloc::{AllocError, Allocator};
 
-/// So many tokens have room at once: those of most patterns, whose list then never grows.
+/// The initial capacity of a token list. Most patterns never need more.
 const FEW: usize = 128;
 
-/// The tokens of a pattern. The error is the first fault of a text that is not accepted, or a failed allocation.
+/// Reads the tokens of a pattern. The error is the first fault of a text that is not accepted, or a failed allocation.
 pub fn read_tokens<A: Allocator + Copy>(
     alloc: A,
     pattern: &str,
@@ -29,7 +29,7 @@ pub fn read_tokens<A: Allocator + Copy>(
     read_text(alloc, text.as_slice())
 }
 
-/// The characters of a text. Fails only if allocation fails.
+/// The characters of a text: `a` and `é` for `aé`. Fails only if allocation fails.
 pub fn characters_of<A: Allocator>(alloc: A, text: &str) -> Result<Vec<char, A>, AllocError>
     ensures { IfOk result (λ characters. characters.items ≡ chars text.now) }
 {
@@ -42,8 +42,8 @@ pub fn characters_of<A: Allocator>(alloc: A, text: &str) -> Result<Vec<char, A>,
     Ok(characters)
 }
 
-/// Writes each byte as a character. Returns whether all are of ASCII: only then are they the text's characters. The
-/// loop has no other way out, so that the compiler makes it one over sixteen bytes at a time.
+/// Writes each byte as a character. Returns whether all are ASCII: only then are they the characters of the text. The
+/// loop has no early exit, so that the compiler handles sixteen bytes at a time.
 fn widen(bytes: &[u8], characters: &mut [char]) -> bool
     requires { length bytes.now ≡ length characters.old }
     ensures written { characters.new ≡ bytes.now }
@@ -57,7 +57,7 @@ fn widen(bytes: &[u8], characters: &mut [char]) -> bool
     ascii
 }
 
-/// The tokens of the characters, as `read_tokens`.
+/// [`read_tokens`] for a list of characters.
 fn read_text<A: Allocator + Copy>(
     alloc: A,
     text: &[char],
@@ -92,7 +92,7 @@ fn read_text<A: Allocator + Copy>(
     Ok(tokens)
 }
 
-/// Puts the token of stars at the end. Neighbouring recursive wildcards become one.
+/// Appends the token of stars. Neighbouring recursive wildcards become one.
 fn push_stars<A: Allocator>(
     tokens: &mut Vec<Token<Bracket<A>>, A>,
     token: Token<Bracket<A>>,
@@ -118,7 +118,7 @@ fn ends_recursive<A: Allocator>(tokens: &[Token<Bracket<A>>]) -> bool
     }
 }
 
-/// The stars at a place as a unit: its token, and the place after it.
+/// The unit of the stars at `place`: its token, and the place after it.
 fn stars_at<A: Allocator>(
     text: &[char],
     place: usize,
@@ -142,7 +142,8 @@ fn stars_at<A: Allocator>(
     }
 }
 
-/// The bracket at a place as a unit: its token, and the place after it. The first character is never its `]`.
+/// The unit of the bracket at `place`: its token, and the place after it. A `]` right after `[` or `[!` does not close
+/// it.
 fn bracket_at<A: Allocator + Copy>(
     alloc: A,
     text: &[char],
@@ -164,7 +165,8 @@ fn bracket_at<A: Allocator + Copy>(
     Ok((token, close + 1))
 }
 
-/// The place of the first `]` from a place on, both in characters from 0: in `[]-]`, from 2 on, that is 3.
+/// The place of the first `]` from `start` on, or `None`. Both are in characters from 0: in `[]-]` it is 3 from 2 on.
+/// `start` may be at most two past the end.
 pub fn close_from(text: &[char], start: usize) -> Option<usize>
     requires { start ≤ length text.now + 2 }
     ensures place { result ≡ close_from text.now start }
@@ -179,7 +181,7 @@ pub fn close_from(text: &[char], start: usize) -> Option<usize>
     None
 }
 
-/// A fault: where it is, in characters, and what it is.
+/// The error for a fault at `pos`, in characters from 0.
 fn fault(pos: usize, kind: PatternErrorKind) -> PatternRefusal
     ensures { IsRefusalAt pos (message_of kind) result }
 {
@@ -189,15 +191,15 @@ fn fault(pos: usize, kind: PatternErrorKind) -> PatternRefusal
     })
 }
 
-/// Whether the character at a place is `c`.
+/// Whether the character at `place` is `c`; false past the end.
 fn has(text: &[char], place: usize, c: char) -> bool
     ensures { result ≡ has text.now place c }
 {
     place < text.len() && text[place] == c
 }
 
-/// Whether a component starts at a place, in characters from 0: it is the start, or a `/` is before it. In `a/b` one
-/// starts at 0 and at 2.
+/// Whether a component starts at `place`, in characters from 0: at the start, and right after a `/`. In `a/b`
+/// components start at 0 and 2. `place` must not be past the end.
 #[inline(always)]
 pub fn opens(text: &[char], place: usize) -> bool
     requires { place ≤ length text.now }

@@ -1,5 +1,5 @@
-//! Patterns in the syntax of Unix shells: parsing them, and matching texts and paths with them. `src/**/[!t]*.rs`
-//! matches each source below `src` whose name does not begin with `t`.
+//! Patterns in the syntax of Unix shells: parsing them, and matching texts and paths. `src/**/[!t]*.rs` matches every
+//! `.rs` file below `src` whose name does not begin with `t`.
 #![tactic(auto)]
 
 mod error;

@@ -1,4 +1,4 @@
-//! Judges, and whether by their answers characters split into pieces.
+//! Judges, and whether their answers let the characters split into pieces.
 ghost use Rattle.std.specs.Prelude.{◌≡◌, ℕ, ◌+◌, ◌-◌, ◌*◌, ◌^◌, ◌<◌, ◌≤◌, ◌↔◌, false, length, map, IsTrue, IsOk, IfOk, count_ones};
 ghost use Rattle.glob_pattern.specs.Matching.Splits.{Table, Splits};
 ghost use Rattle.std.specs.Int.{IsBitSet};
@@ -10,22 +10,21 @@ pub use positions::{Span, decide};
 pub use shape_word::{ShapeWord, shape_words, with_bit};
 use std::alloc::{AllocError, Allocator};
 
-/// How many tokens a word of 64 bits has. Its last bit is the position after them, as the first bit of the next word
-/// is.
+/// The number of tokens in a word of 64 bits. Bit 63 is the position after them, which is bit 0 of the next word.
 pub const WORD: usize = 63;
 
-/// Which pieces of a text a token may match. The shapes of `**/*a` are `Deep`, `Run` and `One`.
+/// Which pieces of a text a token can match. The shapes of `**/*a` are `Deep`, `Run` and `One`.
 #[derive(Clone, Copy, Debug, PartialEq, Eq)]
 pub enum Shape {
     /// One character.
     One,
     /// Any number of characters.
     Run,
-    /// Any number of characters. If shapes follow, either none or up to the start of a component.
+    /// Any number of characters. If shapes follow, the piece is empty or ends where a component starts.
     Deep,
 }
 
-/// What has a shape: a shape itself, or a token.
+/// Something with a shape: a shape itself, or a token.
 pub trait Shaped {
     ghost use Rattle.glob_pattern.specs.declared.matcher.Shape.{Shape};
 
@@ -44,12 +43,12 @@ impl Shaped for Shape {
     }
 }
 
-/// Answers questions about a list of characters and a list of tokens, both numbered from 0: which token takes which
-/// character. A judge is at a place: the number of characters that it has stepped over. It counts the questions.
+/// Answers which token takes which character, for a list of characters and a list of tokens, both numbered from 0. A
+/// judge has a place, which is the number of characters it has stepped over, and a count of its questions.
 ///
-/// For the text `ab` and the tokens of `a*`, a judge returns true for `step()`, then for `takes(0)` and `takes(1)`.
-/// After another `step()` it returns false for `takes(0)` and true for `takes(1)`; then `asked()` is 4, and `step()`
-/// returns false.
+/// A new judge for the text `ab` and the tokens of `a*` returns true for `step()`, `takes(0)` and `takes(1)`. After
+/// another `step()` it returns false for `takes(0)` and true for `takes(1)`. Then `asked()` is 4, and `step()` returns
+/// false.
 pub trait Judge {
     ghost table: { Self → Table };
 
@@ -68,12 +67,12 @@ pub trait Judge {
             → (place self.new ≡ place self.old)
             × ((table self.new).characters ≡ place self.old) };
 
-    /// Whether a component starts at the place of the judge: for the text `a/b` at the places 0 and 2.
+    /// Whether a component starts at the judge's place. In the text `a/b` components start at the places 0 and 2.
     fn opens(&self) -> bool
         ensures { result ≡ (table self.now).opens (place self.now) };
 
-    /// Whether a token takes the character last stepped over. Raises the count by one. `step` must have returned true
-    /// before, the token must be in the list, and the count below `u128::MAX`.
+    /// Whether the token takes the last character stepped over. Adds one to the count. There must be such a character
+    /// and such a token, and the count must be below `u128::MAX`.
     fn takes(&mut self, token: usize) -> bool
         requires stepped { 0 < place self.old }
         requires token { token < (table self.old).tokens }
@@ -83,13 +82,13 @@ pub trait Judge {
         ensures count { count self.new ≡ count self.old + 1 }
         ensures value { result ≡ (table self.old).takes token (place self.old - 1) };
 
-    /// Which of up to 63 tokens take the character last stepped over. Bit n of `asked` asks token 63 · `word` + n, and
-    /// the result has the bits of those that take the character. So `takes_each(1, 0b101)` asks tokens 63 and 65.
-    /// Raises the count by one for each bit of `asked`. `step` must have returned true before, each bit must be below
-    /// 63 and of a token in the list, and the count must have room.
+    /// Which of up to 63 tokens take the last character stepped over. Bit n of `asked` asks token 63 · `word` + n, and
+    /// bit n of the result is its answer: `takes_each(1, 0b101)` asks tokens 63 and 65. Adds one to the count for each
+    /// bit of `asked`. There must be such a character, each bit must be below 63 and have a token, and the count must
+    /// have room.
     ///
     /// This body calls [`takes`](Self::takes) for one token after another. A judge that knows many answers at once may
-    /// have its own.
+    /// have a body of its own.
     #[inline]
     fn takes_each(&mut self, word: usize, asked: u64) -> u64
         requires stepped { 0 < place self.old }
@@ -121,10 +120,12 @@ pub trait Judge {
         ensures { result ≡ count self.now };
 }
 
-/// Whether all characters of a judge split into pieces, one for each shape, where the token of the shape's number takes
-/// each character of its piece. So the shapes of `*a` split `bca` into `bc` and `a`. The questions are at most shapes
-/// times characters. The judge must not have stepped; it needs a token for each shape, and room in its count for as
-/// many questions. The error is a failed allocation; with at most 63 shapes the call succeeds.
+/// Whether the judge's characters split into one piece per shape, such that each piece has a form that its shape
+/// allows, and token n takes all characters of piece n. The shapes of `*a` split `bca` into `bc` and `a`.
+///
+/// This takes at most shapes times characters questions, and for a match at least one per character. The judge must be
+/// at the place 0, have a token for each shape, and have room in its count for that many questions. The error is a
+/// failed allocation; with at most 63 shapes the call succeeds.
 #[inline(always)]
 pub fn run_positions<A: Allocator + Copy, J: Judge>(
     alloc: A,
@@ -138,7 +139,7 @@ pub fn run_positions<A: Allocator + Copy, J: Judge>(
     ensures answer { IfOk result
         (λ yes. IsTrue yes ↔ Splits (J.table judge.old) shapes.now) }
 
-    // The questions: in all at most tokens times characters, and for a match at least one for each character.
+    // At most tokens times characters questions, and for a match at least one per character.
     ensures most { J.count judge.new
         ≤ J.count judge.old + length shapes.now * (J.table judge.old).characters }
     ensures least { IfOk result
@@ -153,7 +154,7 @@ pub fn run_positions<A: Allocator + Copy, J: Judge>(
     decide_all(alloc, shapes, judge)
 }
 
-/// [`run_positions`] over the shapes of tokens.
+/// [`run_positions`] for the shapes of tokens.
 #[inline(always)]
 pub fn decide_all<A: Allocator + Copy, T: Shaped, J: Judge>(
     alloc: A,
@@ -175,7 +176,10 @@ pub fn decide_all<A: Allocator + Copy, T: Shaped, J: Judge>(
     ensures same { J.table judge.new ≡ J.table judge.old }
     ensures small { length tokens.now < 64 → IsOk result }
 {
-    let span = Span::all(tokens.len());
+    let span = Span {
+        end: tokens.len(),
+        accepting: 0,
+    };
     if tokens.len() <= WORD {
         decide(
             alloc,

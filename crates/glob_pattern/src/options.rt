@@ -2,22 +2,21 @@
 ghost use Rattle.std.specs.Prelude.{◌≡◌};
 ghost use Rattle.glob_pattern.specs.Matching.Options.{new_options, default_options, options_of_bits, with_letter, with_letters};
 
-/// How a pattern is compared with a text. With `MatchOptions::new()`, `*.rs` matches `src/.x.rs`; with
-/// `require_literal_separator` it does not.
+/// How patterns match. Under `MatchOptions::new()`, `*.rs` matches `src/.x.rs`; with `require_literal_separator` it
+/// does not.
 #[derive(Clone, Copy, Debug, PartialEq, Eq, PartialOrd, Ord, Hash)]
 pub struct MatchOptions {
-    /// Whether uppercase and lowercase letters differ. If not, letters of ASCII are the same in either case, in
-    /// brackets too; every other character is the same only as itself.
+    /// Whether upper and lower case differ. If not, ASCII letters match in either case, also in brackets, but not by
+    /// every range: `[A-_]` matches `A` and not `a`. All other characters are compared exactly.
     pub case_sensitive: bool,
-    /// The separator rule: `/` is matched only by a `/` outside brackets, or by `**`.
+    /// The separator rule: only `/` outside brackets and `**` match a `/`.
     pub require_literal_separator: bool,
-    /// The dot rule: a leading dot at a component start, which is the start of the text or right after a `/`, is
-    /// matched only by a `.` outside brackets.
+    /// The dot rule: only `.` outside brackets matches a `.` at the start of the text or right after a `/`.
     pub require_literal_leading_dot: bool,
 }
 
 impl MatchOptions {
-    /// Case-sensitive, and without the separator rule and the dot rule: so `A*` does not match `a/b`, and `*` does.
+    /// Case-sensitive, with neither rule: `*` matches `a/b`, and `A*` does not.
     ///
     /// ```text
     /// assert!(MatchOptions::new().case_sensitive);
@@ -33,8 +32,8 @@ impl MatchOptions {
         }
     }
 
-    /// These options with the one that a letter sets, as on a command line: `i` case-insensitive, `s` the separator
-    /// rule, `d` the dot rule. `None` for another letter.
+    /// These options plus the one for a letter, as on a command line: `i` for case-insensitive, `s` for the separator
+    /// rule, `d` for the dot rule. `None` for any other letter.
     pub fn with_letter(self, letter: char) -> Option<Self>
         ensures { result ≡ with_letter letter self }
     {
@@ -48,8 +47,8 @@ impl MatchOptions {
         Some(options)
     }
 
-    /// The options of `new()` with those that the letters set, in any order: `is` is case-insensitive, with the
-    /// separator rule. `None` if one is no letter of an option.
+    /// The options of `new()` plus those for the letters, in any order: `is` is case-insensitive with the separator
+    /// rule. `None` if a letter has no option.
     pub fn from_letters(letters: &str) -> Option<Self>
         ensures { result ≡ with_letters letters.now new_options }
     {
@@ -60,7 +59,8 @@ impl MatchOptions {
         Some(options)
     }
 
-    /// The options of three bits: 1 case-insensitive, 2 the separator rule, 4 the dot rule. Other bits are ignored.
+    /// The options for three bits: 1 is case-insensitive, 2 the separator rule, 4 the dot rule. Other bits are ignored.
+    /// So 3 is case-insensitive with the separator rule.
     pub const fn from_bits(bits: u32) -> Self
         ensures { result ≡ options_of_bits bits }
     {
@@ -75,7 +75,7 @@ impl MatchOptions {
 impl Default for MatchOptions {
     ghost is_default = { λ options. options ≡ default_options };
 
-    /// Case-insensitive, without the separator rule and the dot rule: so `A*` matches `a/b`.
+    /// Case-insensitive, with neither rule: `A*` matches `a/b`.
     fn default() -> Self {
         MatchOptions {
             case_sensitive: false,

@@ -1,4 +1,4 @@
-//! Patterns: parsing, and matching texts.
+//! Patterns: parsing them, and matching texts.
 ghost use Rattle.std.specs.Prelude.{◌≡◌, ℕ, ◌*◌, ◌≤◌, ◌↔◌, [], length, IsTrue, IsOk, IfOk, IfErr, IfNone, IfSome, chars};
 ghost use Rattle.std.specs.Str.{is_utf8};
 ghost use Rattle.glob_pattern.specs.Matching.Literals.{HasLiteral};
@@ -29,15 +29,15 @@ use std::marker::Model;
 use std::path::Path;
 pub use tokens::{TokenKind, token_kind, token_takes, tokens_len};
 
-/// A parsed pattern, which matches texts.
+/// A parsed pattern.
 ///
 /// | In a pattern | Matches |
 /// |---|---|
 /// | `?` | any one character |
 /// | `*` | any number of characters |
-/// | `**` | any number of whole components; it is a component of its own |
+/// | `**` | any number of whole components; it must be a whole component itself |
 /// | `[abc]`, `[a-z]` | one character that is listed or in a range |
-/// | `[!abc]` | one character that is not |
+/// | `[!abc]` | one character that is not listed |
 /// | any other character | itself |
 #[derive(Drop)]
 pub struct Pattern<A: Allocator = Global> {
@@ -57,7 +57,8 @@ impl<A: Allocator> Model for Pattern<A> {
 }
 
 impl<A: Allocator> Pattern<A> {
-    /// The text that the pattern was parsed from, as `a/*.rs`. It is accepted: parsed again it gives an equal pattern.
+    /// The text that the pattern was parsed from, such as `a/*.rs`. It is accepted: parsing it again gives an equal
+    /// pattern.
     ///
     /// ```text
     /// assert_eq!(Pattern::new(alloc, "a/*.rs")?.as_str(), "a/*.rs");
@@ -72,10 +73,10 @@ impl<A: Allocator> Pattern<A> {
 }
 
 impl<A: Allocator + Copy> Pattern<A> {
-    /// Parses a pattern. So `src/**/*.rs` is accepted, and `src/**.rs` is not.
+    /// Parses a pattern. `src/**/*.rs` is accepted, and `src/**.rs` is not.
     ///
-    /// The error is [`Syntax`](PatternRefusal::Syntax) if the text is not accepted, with its first fault from the left,
-    /// whose place counts characters; or [`Memory`](PatternRefusal::Memory) if an allocation fails.
+    /// The error is [`Syntax`](PatternRefusal::Syntax) with the first fault from the left, its place in characters from
+    /// 0, if the text is not accepted, or [`Memory`](PatternRefusal::Memory) if an allocation fails.
     ///
     /// ```text
     /// let pattern = Pattern::new(alloc, "src/**/*.rs")?;
@@ -93,8 +94,8 @@ impl<A: Allocator + Copy> Pattern<A> {
         Ok(Pattern { text, compiled })
     }
 
-    /// [`new`](Self::new), under the name of the trait `FromStr`, with its errors. So `from_str(alloc, "*.rs")` is the
-    /// pattern of `new(alloc, "*.rs")`.
+    /// [`new`](Self::new) by the name that the trait `FromStr` uses, with the same errors. `from_str(alloc, "*.rs")`
+    /// equals `new(alloc, "*.rs")`.
     pub fn from_str(alloc: A, s: &str) -> Result<Self, PatternRefusal>
         ensures accepted { IfOk result (λ _. IsAccepted (chars s.now)) }
         ensures text { IfOk result (λ p. p ≡ s.now) }
@@ -103,7 +104,7 @@ impl<A: Allocator + Copy> Pattern<A> {
         Self::new(alloc, s)
     }
 
-    /// The empty pattern, which matches the empty text alone: `""` and not `"a"`. It allocates nothing.
+    /// The empty pattern, which matches only the empty text: `""`, not `"a"`. It allocates nothing.
     pub fn default(alloc: A) -> Self
         ensures { result ≡ [] }
     {
@@ -113,8 +114,8 @@ impl<A: Allocator + Copy> Pattern<A> {
         }
     }
 
-    /// An equal pattern on the same allocator: that of `*.rs` is again `*.rs`, and matches the same texts. Fails only
-    /// if allocation fails.
+    /// An equal pattern on the same allocator: a clone of `*.rs` is `*.rs` and matches the same texts. Fails only if
+    /// allocation fails.
     pub fn clone(&self) -> Result<Self, AllocError>
         ensures { IfOk result (λ p. p ≡ self.now) }
     {
@@ -124,8 +125,9 @@ impl<A: Allocator + Copy> Pattern<A> {
         })
     }
 
-    /// Whether the pattern matches the whole text, case-sensitive, without the separator rule and the dot rule:
-    /// [`matches_with`](Self::matches_with) under `MatchOptions::new()`. So `*.rs` matches `main.rs` and `src/main.rs`.
+    /// Whether the pattern matches the whole text, case-sensitively, with neither the separator rule nor the dot rule.
+    /// This is [`matches_with`](Self::matches_with) under `MatchOptions::new()`: `*.rs` matches `main.rs` and
+    /// `src/main.rs`.
     ///
     /// The error is a failed allocation. With at most 63 tokens (characters, wildcards and brackets) the call succeeds.
     ///
@@ -143,8 +145,8 @@ impl<A: Allocator + Copy> Pattern<A> {
         self.matches_with(str, MatchOptions::new())
     }
 
-    /// Whether the pattern matches the whole text: whether the text splits into one allowed piece for each token. So
-    /// `*.rs` matches `src/main.rs`, and with the separator rule it does not.
+    /// Whether the pattern matches the whole text: whether the text splits into one allowed piece per token. `*.rs`
+    /// matches `src/main.rs`, but not under the separator rule.
     ///
     /// The error is a failed allocation. With at most 63 tokens (characters, wildcards and brackets) the call succeeds.
     ///
@@ -164,10 +166,10 @@ impl<A: Allocator + Copy> Pattern<A> {
         self.compiled.matches(self.text.as_str(), str, options)
     }
 
-    /// The answer of [`matches_with`](Self::matches_with), and how many questions it takes if the ends are not compared
-    /// beforehand: how often it is asked whether a token takes a character. Their number is at most the pattern's
-    /// characters times the text's, and for a match at least the text's characters. So `a` and the text `a` take one
-    /// question, and the answer is `(true, 1)`. The error is that of [`matches_with`](Self::matches_with).
+    /// The answer of [`matches_with`](Self::matches_with), and how many times a token is asked whether it takes a
+    /// character if the ends are not compared first. That is at most the pattern's characters times the text's, and for
+    /// a match at least the text's characters: `a` against the text `a` gives `(true, 1)`. The error is that of
+    /// [`matches_with`](Self::matches_with).
     #[inline(always)]
     pub fn matches_counted(
         &self,
@@ -185,7 +187,7 @@ impl<A: Allocator + Copy> Pattern<A> {
         self.compiled.matches_counted(str, options)
     }
 
-    /// [`matches`](Self::matches) on the path's text, with its error. So `src/*` matches the path `src/a.rs`.
+    /// [`matches`](Self::matches) for the path's text, with the same error: `src/*` matches the path `src/a.rs`.
     pub fn matches_path(&self, path: Path<'_>) -> Result<bool, AllocError>
         ensures answer { IfOk result (λ yes. IsTrue yes
             ↔ Matches new_options (chars self.now) (chars (path_bytes path.entry))) }
@@ -194,8 +196,8 @@ impl<A: Allocator + Copy> Pattern<A> {
         self.matches(path.as_str())
     }
 
-    /// [`matches_with`](Self::matches_with) on the path's text, with its error. So under the dot rule `src/*` does not
-    /// match the path `src/.git`.
+    /// [`matches_with`](Self::matches_with) for the path's text, with the same error. Under the dot rule `src/*` does
+    /// not match the path `src/.git`.
     pub fn matches_path_with(
         &self,
         path: Path<'_>,
@@ -209,8 +211,8 @@ impl<A: Allocator + Copy> Pattern<A> {
     }
 }
 
-/// Whether a text of these bytes may be one that the pattern matches, by its ends and a search for a needle: so for
-/// `*.rs` it may be `main.rs`, and not `main.c`. The bytes need not be UTF-8.
+/// Whether the pattern may match a text of these bytes, by its literals at both ends and a needle. `false` means that
+/// it does not match; `true` promises nothing. `*.rs` rejects `main.c`, but not `main.rs`. The bytes need not be UTF-8.
 #[inline(always)]
 pub fn may_match<A: Allocator>(pattern: &Pattern<A>, bytes: &[u8], options: MatchOptions) -> bool
     ensures { IsTrue (is_utf8 bytes.now)
@@ -221,8 +223,8 @@ pub fn may_match<A: Allocator>(pattern: &Pattern<A>, bytes: &[u8], options: Matc
         .may_match(pattern.text.as_str(), bytes, options)
 }
 
-/// The character that the token of this number is, counted from 0, or `None` if it is a wildcard or a bracket, or there
-/// is none: of `a*.rs` it is `.` at 2.
+/// The character of token `number`, counted from 0, if that is a literal: `.` for token 2 of `a*.rs`. `None` if it is a
+/// wildcard or a bracket, or if there is no such token.
 pub fn literal_at<A: Allocator>(pattern: &Pattern<A>, number: usize) -> Option<char>
     ensures literal { IfSome result (HasLiteral (chars pattern.now) number) }
     ensures none { IfNone result ((c : ℕ) → ¬ (HasLiteral (chars pattern.now) number c)) }

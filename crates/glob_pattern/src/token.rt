@@ -9,8 +9,8 @@ use crate::matcher::{Shape, Shaped};
 use bracket::Bracket;
 use std::alloc::Allocator;
 
-/// A token: what a unit of a pattern means. `C` is the content of a bracket. The shape of `AnySequence` is `Run`, that of
-/// `Recursive` is `Deep`, and that of each other token is `One`.
+/// A token: what a unit of a pattern means. `C` is the content of a bracket. `AnySequence` has the shape `Run`,
+/// `Recursive` has `Deep`, and every other token has `One`.
 #[derive(Clone, Drop)]
 pub enum Token<C> {
     /// A character.
@@ -21,9 +21,9 @@ pub enum Token<C> {
     AnySequence,
     /// `**`, the recursive wildcard: any number of whole path components.
     Recursive,
-    /// `[..]`, a character that the bracket holds.
+    /// `[..]`, a character in the bracket.
     OneOf(C),
-    /// `[!..]`, a character that the bracket does not hold.
+    /// `[!..]`, a character that is not in the bracket.
     NoneOf(C),
 }
 

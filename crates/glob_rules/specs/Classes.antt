@@ -1,4 +1,4 @@
--- The classes of characters that a bracket may name, as `[[:digit:]_]` does: those of git, in ASCII alone.
+-- The character classes of a bracket, as in `[[:digit:]_]`: git's classes, ASCII only.
 use Rattle.std.specs.Char.{is_ascii_alphabetic, is_ascii_alphanumeric, is_ascii_control, is_ascii_digit, is_ascii_graphic, is_ascii_hexdigit, is_ascii_lowercase, is_ascii_punctuation, is_ascii_uppercase}
 use Rattle.std.specs.Prelude.{ℕ, ◌-◌, Bool, ◌&&◌, ◌||◌, nat_le, ◌==◌, if◌then◌else◌, length, take, drop, Option, Some, None, codes, bytes_eq}
 use Rattle.std.specs.List.{before_first}
@@ -11,7 +11,7 @@ use Rattle.glob_rules.specs.declared.classes.Class.TheVariants.{Alnum, Alpha, Bl
 abbrev pub colon : ℕ
 colon = 58
 
--- the class has this character of ASCII
+-- whether the character c is in the class
 abbrev pub class_has : Class → ℕ → Bool
 class_has Alnum c = is_ascii_alphanumeric c
 class_has Alpha c = is_ascii_alphabetic c
@@ -26,7 +26,7 @@ class_has Space c = c == 9 || c == 10 || c == 13 || c == 32
 class_has Upper c = is_ascii_uppercase c
 class_has Xdigit c = is_ascii_hexdigit c
 
--- the class of a name
+-- the class with this name, if there is one
 unfoldable pub class_named : (name : Text) → Option Class
 class_named name =
     if bytes_eq name (codes "alnum") then Some Alnum
@@ -43,14 +43,14 @@ class_named name =
     else if bytes_eq name (codes "xdigit") then Some Xdigit
     else None
 
--- what is before the first `]`, or all of it where there is none
+-- the text before its first `]`, or all of it if it has none
 abbrev pub before_close : Text → Text
 before_close text = before_first (λ c. c == close_bracket) text
 
--- it is a name between colons
+-- whether the text is a name between two colons, as in `:digit:`
 abbrev pub is_between_colons : Text → Bool
 is_between_colons text = nat_le 2 (length text) && has text 0 colon && has text (length text - 1) colon
 
--- that name
+-- the name between the colons
 abbrev pub without_colons : Text → Text
 without_colons text = take (length text - 2) (drop 1 text)

@@ -28,6 +28,10 @@ last_naming list path is_directory (suc n) =
 unfoldable pub last_named : Ignores → (path : Text) → (is_directory : Bool) → Option ℕ
 last_named list path is_directory = last_naming list path is_directory (length list.rules)
 
+-- the same rule, if there is one
+unfoldable pub naming_rule : Ignores → (path : Text) → (is_directory : Bool) → Option Rule
+naming_rule list path is_directory = option_map (rule_at list) (last_named list path is_directory)
+
 -- there is a rule, and it is not negative
 abbrev pub ignores : Ignores → (number : Option ℕ) → Bool
 ignores list None = false

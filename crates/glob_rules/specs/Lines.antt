@@ -1,4 +1,4 @@
--- A line of an ignore list: a comment, a blank line, or a rule with its marks.
+-- A line of an ignore list: a comment, a blank line, or a rule, with its leading `!` and its trailing `/`.
 use Rattle.std.specs.Prelude.{ℕ, ◌+◌, ◌-◌, Bool, false, ◌&&◌, ◌||◌, not, ◌==◌, if◌then◌else◌, [], ◌++◌, length, take, drop}
 use Rattle.std.specs.List.{fold, list_any}
 use Rattle.glob_text.specs.Characters.{slash}
@@ -17,7 +17,7 @@ hash = 35
 abbrev pub carriage_return : ℕ
 carriage_return = 13
 
--- the blank, U+0020
+-- the space, U+0020
 abbrev pub blank : ℕ
 blank = 32
 
@@ -25,21 +25,22 @@ blank = 32
 abbrev pub ends_in : Text → ℕ → Bool
 ends_in text c = has text (length text - 1) c
 
--- without c at the start, if it is there
+-- the text without a leading c
 abbrev pub without_first : Text → ℕ → Text
 without_first text c = if has text 0 c then drop 1 text else text
 
--- without c at the end, if it is there
+-- the text without a trailing c
 abbrev pub without_last : Text → ℕ → Text
 without_last text c = if ends_in text c then take (length text - 1) text else text
 
--- how many bytes were read, how many there are up to the last that stays, and whether a backslash escapes the next one
+-- A scan for trailing spaces: the bytes read, the bytes up to the last one to keep, and whether the next byte is
+-- escaped.
 pub record Kept : Type 0 where
   pub seen : ℕ
   pub kept : ℕ
   pub escaped : Bool
 
--- one more byte: it stays if it is no blank, or escaped
+-- after one more byte c, which is kept unless it is an unescaped space
 abbrev pub next_kept : Kept → ℕ → Kept
 next_kept k c = record {
   seen = k.seen + 1;
@@ -47,30 +48,30 @@ next_kept k c = record {
   escaped = not k.escaped && c == backslash;
 }
 
--- no byte is read
+-- before the first byte
 abbrev pub none_kept : Kept
 none_kept = record { seen = 0; kept = 0; escaped = false }
 
--- all of a text
+-- after all of a text
 unfoldable pub kept_of : Text → Kept
 kept_of text = fold next_kept none_kept text
 
--- without the blanks at the end that no backslash escapes
+-- the text without its unescaped trailing spaces
 abbrev pub without_blanks : Text → Text
 without_blanks text = take (kept_of text).kept text
 
--- what a line is, whether its rule begins with `!`, whether it ends in `/`, and its pattern
+-- a line as read: its outcome, whether its rule begins with `!`, whether it ends in `/`, and its pattern
 pub record Line : Type 0 where
   pub outcome : Outcome
   pub negative : Bool
   pub directories : Bool
   pub glob : Text
 
--- a line that names nothing
+-- a line that matches nothing
 abbrev pub nothing : Line
 nothing = record { outcome = Nothing; negative = false; directories = false; glob = [] }
 
--- a rule that is read
+-- the line of a rule that was translated to r
 abbrev pub line_of_reading : (negative directories : Bool) → Read → Line
 line_of_reading negative directories r = record {
   outcome = outcome r.mode;
@@ -79,25 +80,26 @@ line_of_reading negative directories r = record {
   glob = r.glob ++ ending r.mode;
 }
 
--- there is a separator
+-- whether the text has a separator
 abbrev pub is_path : Text → Bool
 is_path text = list_any (λ c. c == slash) text
 
--- A rule without its marks. One that has a separator is for paths, and a separator at its start only says so.
+-- The line of a rule without its `!` and its last `/`. A separator ties the rule to the list's own directory, and a
+-- leading one does only that.
 unfoldable pub line_of_body : (negative directories : Bool) → Text → Line
 line_of_body negative directories body =
     if length body == 0 || ends_in body slash then nothing
     else line_of_reading negative directories (reading_of (is_path body) (without_first body slash))
 
--- a rule without its `!`: one that ends in `/` is for directories alone
+-- the line of a rule without its `!`: if it ends in `/`, it is for directories only
 abbrev pub line_of_rule : (negative : Bool) → Text → Line
 line_of_rule negative rule = line_of_body negative (ends_in rule slash) (without_last rule slash)
 
--- a line without its end
+-- the line of a text without its CR and its trailing spaces
 abbrev pub line_of_kept : Text → Line
 line_of_kept kept = line_of_rule (has kept 0 exclamation_mark) (without_first kept exclamation_mark)
 
--- any line
+-- the line of any text: a comment begins with `#`
 unfoldable pub line_of : Text → Line
 line_of text =
     if has text 0 hash then nothing

@@ -1,4 +1,4 @@
--- A rule that is read from its start to its end.
+-- The translation of a rule, byte by byte.
 use Rattle.std.specs.Prelude.{ℕ, Bool, if◌then◌else◌, List, [], ◌∷◌, ◌++◌}
 use Rattle.glob_text.specs.Characters.{slash}
 use Rattle.glob_text.specs.Text.{Text}
@@ -16,13 +16,14 @@ use Rattle.glob_rules.specs.declared.steps.Mode.TheVariants.{Units, Escape, Star
 use Rattle.glob_rules.specs.declared.steps.Change.{Change}
 use Rattle.glob_rules.specs.declared.steps.Change.TheVariants.{Keep, Clear, Add}
 
--- what the bytes so far end with, the characters of the last bracket, and the pattern so far
+-- a rule read in part: the mode after the bytes so far, the characters of the last bracket, and the pattern so far
 pub record Read : Type 0 where
   pub mode : Mode
   pub spans : List Span
   pub glob : Text
 
--- Nothing is read. A rule for paths has its pattern from the list's own directory on, and another at any depth.
+-- Before the first byte. With a separator, a rule is relative to the list's directory; without one, it matches at any
+-- depth.
 abbrev pub reading_start : (path : Bool) → Read
 reading_start path = record {
   mode = Units path path;
@@ -30,32 +31,33 @@ reading_start path = record {
   glob = if path then [] else star ∷ star ∷ slash ∷ [];
 }
 
--- a bracket's characters after a change
+-- the bracket's characters after a change
 abbrev pub changed : List Span → Change → List Span
 changed spans Keep = spans
 changed spans Clear = []
 changed spans (Add span) = spans ++ span ∷ []
 
--- after a step
+-- the reading after a step
 abbrev pub stepped : Read → Step → Read
 stepped r step =
     let spans = changed r.spans step.change in
     record { mode = step.mode; spans = spans; glob = r.glob ++ written spans step.writing }
 
--- one more byte is read
+-- the reading after one more byte
 unfoldable pub next_reading : Read → ℕ → (ahead : Text) → Read
 next_reading r c ahead = stepped r (step_from r.mode c ahead)
 
--- the rest is read
+-- the reading after the rest
 abbrev pub reading_from : Read → (rest : Text) → Read
 reading_from r [] = r
 reading_from r (c ∷ cs) = reading_from (next_reading r c (before_close cs)) cs
 
--- all of a rule is read
+-- the reading after all of a rule
 unfoldable pub reading_of : (path : Bool) → Text → Read
 reading_of path text = reading_from (reading_start path) text
 
--- What a rule is that ends so: one whose last backslash escapes nothing, or whose bracket is not closed, names nothing.
+-- The outcome of a rule that ends in this mode. After a last lone backslash or in an open bracket, the rule matches
+-- nothing.
 abbrev pub outcome : Mode → Outcome
 outcome (Units plain opening) = outcomes.Named
 outcome Escape = outcomes.Nothing
@@ -72,7 +74,7 @@ outcome ItemEscape = outcomes.Nothing
 outcome (HyphenEscape item) = outcomes.Nothing
 outcome (Refused reason) = outcomes.Refused reason
 
--- the end of its pattern: stars that are a component are two
+-- what the end of the rule adds to its pattern: the second star of a final `**`
 abbrev pub ending : Mode → Text
 ending (Units plain opening) = []
 ending Escape = []

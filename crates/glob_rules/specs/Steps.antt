@@ -1,5 +1,5 @@
--- What a byte of a rule does, after those before it: git's syntax on the left, the grammar of patterns on the right.
--- `ahead` is what follows the byte, up to the next `]` or, where there is none, to the end.
+-- What a byte of a rule does, given the mode that the bytes before it led to: it reads git's syntax and writes a
+-- pattern. `ahead` is the text after the byte, up to the next `]`, or up to the end if there is none.
 use Rattle.std.specs.Prelude.{ℕ, Bool, true, false, ◌||◌, ◌&&◌, not, nat_le, ◌==◌, if◌then◌else◌, Option, Some, None}
 use Rattle.glob_text.specs.Characters.{slash}
 use Rattle.glob_text.specs.Text.{Text}
@@ -24,15 +24,15 @@ backslash = 92
 abbrev pub caret : ℕ
 caret = 94
 
--- a step that adds nothing to a bracket
+-- a step that leaves the bracket's characters as they are
 abbrev pub writes : Mode → Writing → Step
 writes mode writing = record { mode = mode; change = Keep; writing = writing }
 
--- a step that writes nothing
+-- a step that only changes the mode
 abbrev pub moves : Mode → Step
 moves mode = writes mode Nothing
 
--- a step that adds to a bracket the characters from one to another
+-- a step that adds the characters from `first` to `last` to the bracket
 abbrev pub adds : Mode → (first last : ℕ) → Step
 adds mode first last = record { mode = mode; change = Add (Between first last); writing = Nothing }
 
@@ -40,11 +40,11 @@ adds mode first last = record { mode = mode; change = Add (Between first last); 
 abbrev pub refuses : Reason → Step
 refuses reason = moves (Refused reason)
 
--- a byte that matches itself: `[*]` for `*`
+-- how a byte that matches itself is written: `[*]` for `*`
 abbrev pub literal : ℕ → Writing
 literal c = if is_wildcard c then Bracketed c else Byte c
 
--- After whole units. After a `/` a component opens.
+-- A byte after a complete unit. A component begins after `/`.
 abbrev pub after_units : (plain opening : Bool) → ℕ → Step
 after_units plain opening c =
     if c == backslash then moves Escape
@@ -53,19 +53,20 @@ after_units plain opening c =
     else if c == open_bracket then record { mode = Open; change = Clear; writing = Byte c }
     else writes (Units plain (c == slash)) (Byte c)
 
--- after a backslash
+-- a byte after a backslash
 abbrev pub after_escape : ℕ → Step
 after_escape c = writes (Units false (c == slash)) (literal c)
 
--- After one star. More stars mean more than one where they may be a component: at its start, or behind plain text.
+-- A byte after one star. A second star counts only at the start of a component or after nothing but literals; elsewhere
+-- `**` means `*`.
 abbrev pub after_star : (plain opening : Bool) → ℕ → Step
 after_star plain opening c =
     if not (c == star) then after_units false false c
     else if plain || opening then moves (Stars plain opening)
     else moves (Star false false)
 
--- After two stars or more that may be a component: before `/` they are one if a component opens there, and are refused
--- behind literal text; else they are one star.
+-- A byte after two or more stars that count. Before `/` they are a component if one begins there, and are refused after
+-- literals; before anything else they are one star.
 abbrev pub after_stars : (plain opening : Bool) → ℕ → Step
 after_stars plain opening c =
     if c == star then moves (Stars plain opening)
@@ -74,22 +75,22 @@ after_stars plain opening c =
     else if opening then writes (Units false true) StarSlash
     else refuses StarsBehindText
 
--- after such stars and a backslash: before `/` they are one directory or more
+-- a byte after such stars and a backslash: before `/` the stars match one or more directories
 abbrev pub after_escaped_stars : ℕ → Step
 after_escaped_stars c = if c == slash then writes (Units false true) SlashStars else after_escape c
 
--- as the `[` of a class, if git knows the class
+-- the `[` of a class, which is refused if git does not know the class
 abbrev pub as_class : Option Class → Step
 as_class None = refuses UnknownClass
 as_class (Some class) = record { mode = InClass; change = Add (OfClass class); writing = Nothing }
 
--- `[` in a bracket: it begins a class, or is an item
+-- `[` in a bracket: the start of a class, or an item
 abbrev pub as_open : (ahead : Text) → Step
 as_open ahead =
     if is_between_colons ahead then as_class (class_named (without_colons ahead))
     else adds (Item open_bracket) open_bracket open_bracket
 
--- a byte as an item of a bracket, or as its end
+-- a byte in a bracket: an item, or the closing `]`
 abbrev pub as_item : ℕ → (ahead : Text) → Step
 as_item c ahead =
     if c == close_bracket then writes (Units false false) Held
@@ -97,31 +98,31 @@ as_item c ahead =
     else if c == open_bracket then as_open ahead
     else adds (Item c) c c
 
--- as its first item, which `]` may be
+-- the first item of a bracket, which may be `]`
 abbrev pub as_first_item : ℕ → (ahead : Text) → Step
 as_first_item c ahead = if c == close_bracket then adds (Item c) c c else as_item c ahead
 
--- after `[`
+-- a byte after the opening `[`
 abbrev pub after_open : ℕ → (ahead : Text) → Step
 after_open c ahead =
     if c == exclamation_mark || c == caret then writes Negation (Byte exclamation_mark) else as_first_item c ahead
 
--- after an item that may begin a range
+-- a byte after an item that may begin a range
 abbrev pub after_item : (item : ℕ) → ℕ → (ahead : Text) → Step
 after_item item c ahead = if c == hyphen then moves (Hyphen item) else as_item c ahead
 
--- in a class, which ends with `]` and begins no range
+-- a byte in a class, which ends at `]` and cannot begin a range
 abbrev pub in_class : ℕ → Step
 in_class c = moves (if c == close_bracket then Range else InClass)
 
--- After an item and `-`: the end of a range, and `-` is an item before `]`.
+-- A byte after an item and `-`: the end of the range. Before `]`, the `-` is an item itself.
 abbrev pub after_hyphen : (item : ℕ) → ℕ → Step
 after_hyphen item c =
     if c == backslash then moves (HyphenEscape item)
     else if c == close_bracket then record (adds (Units false false) hyphen hyphen) { writing = Held }
     else adds Range item c
 
--- the byte after these is in a bracket
+-- whether the next byte is inside a bracket
 abbrev pub is_in_bracket : Mode → Bool
 is_in_bracket (Units plain opening) = false
 is_in_bracket Escape = false
@@ -138,7 +139,7 @@ is_in_bracket ItemEscape = true
 is_in_bracket (HyphenEscape item) = true
 is_in_bracket (Refused reason) = false
 
--- a byte that is neither NUL nor beyond ASCII in a bracket
+-- the step for a byte that is neither NUL nor, in a bracket, non-ASCII
 abbrev pub accepted_step : Mode → ℕ → (ahead : Text) → Step
 accepted_step (Units plain opening) c ahead = after_units plain opening c
 accepted_step Escape c ahead = after_escape c
@@ -155,7 +156,7 @@ accepted_step ItemEscape c ahead = adds (Item c) c c
 accepted_step (HyphenEscape item) c ahead = adds Range item c
 accepted_step (Refused reason) c ahead = refuses reason
 
--- any byte
+-- the step for any byte
 unfoldable pub step_from : Mode → ℕ → (ahead : Text) → Step
 step_from mode c ahead =
     if c == 0 then refuses Nul

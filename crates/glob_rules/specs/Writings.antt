@@ -1,4 +1,4 @@
--- What the steps write of a pattern.
+-- What each step appends to the pattern.
 use Rattle.std.specs.Prelude.{ℕ, Bool, ◌&&◌, ◌||◌, nat_le, ◌==◌, List, [], ◌∷◌, ◌++◌}
 use Rattle.std.specs.List.{filter, list_any}
 use Rattle.glob_text.specs.Characters.{slash}
@@ -11,20 +11,20 @@ use Rattle.glob_rules.specs.declared.steps.Writing.{Writing}
 use Rattle.glob_rules.specs.declared.steps.Writing.TheVariants.{Nothing, Byte, Bracketed, StarSlash, SlashStars, Held}
 use Rattle.glob_rules.specs.declared.listing.TheConstants.{ORDER}
 
--- the character is between the ends, or of the class
+-- whether c is in the range, ends included, or in the class
 abbrev pub is_within : ℕ → Span → Bool
 is_within c (Between first last) = nat_le first c && nat_le c last
 is_within c (OfClass class) = class_has class c
 
--- A bracket with these characters holds one. All hold `/`, which no bracket matches under the separator rule.
+-- Whether a bracket with these spans lists c. Every bracket lists `/`, which none matches under the separator rule.
 abbrev pub holds : List Span → ℕ → Bool
 holds spans c = c == slash || list_any (is_within c) spans
 
--- the characters of a bracket as they are written
+-- the characters of a bracket, in the order in which they are written
 unfoldable pub held : List Span → Text
 held spans = filter (holds spans) ORDER
 
--- what is written where the bracket has these characters
+-- what a step appends, where the bracket has these spans
 abbrev pub written : List Span → Writing → Text
 written spans Nothing = []
 written spans (Byte c) = c ∷ []

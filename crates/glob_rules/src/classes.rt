@@ -1,30 +1,30 @@
-//! The classes of characters that a bracket may name.
+//! The character classes of a bracket, as in `[[:digit:]_]`.
 ghost use Rattle.std.specs.Prelude.{◌≡◌, map};
 ghost use Rattle.glob_rules.specs.Classes.{class_has, class_named, before_close};
 ghost use Rattle.glob_rules.specs.Private.ClassTables.{class_in};
 
-/// A class of characters, as git has it: all of them are ASCII.
+/// A character class as git defines it: all its characters are ASCII.
 #[derive(Clone, Copy)]
 pub enum Class {
     /// Letters and digits.
     Alnum,
     /// Letters.
     Alpha,
-    /// The blank and the tab.
+    /// Space and tab.
     Blank,
-    /// What does not print.
+    /// Control characters.
     Cntrl,
     /// Digits.
     Digit,
-    /// What prints, but for the blank.
+    /// Printable characters except the space.
     Graph,
     /// Lower case letters.
     Lower,
-    /// What prints.
+    /// Printable characters.
     Print,
-    /// What prints, but for the blank, letters and digits.
+    /// Printable characters except the space, letters and digits.
     Punct,
-    /// The blank, the tab, LF and CR. To C, VT and FF are of this class, too.
+    /// Space, tab, LF and CR. In C this class also has VT and FF.
     Space,
     /// Upper case letters.
     Upper,
@@ -49,7 +49,7 @@ const CLASSES: [(&[u8], Class); 12] = [
 ];
 
 impl Class {
-    /// The class of a name.
+    /// The class with this name, if there is one.
     #[tactic(auto, unfolding(crate::specs::Classes::class_named))]
     pub fn named(name: &[u8]) -> Option<Class>
         ensures { result ≡ class_named name.now }
@@ -57,7 +57,7 @@ impl Class {
         class_in(&CLASSES, name)
     }
 
-    /// Whether it has a character.
+    /// Whether `c` is in the class.
     pub fn has(self, c: u8) -> bool
         ensures { result ≡ class_has self c }
     {
@@ -78,7 +78,7 @@ impl Class {
     }
 }
 
-/// The class of a name in a table.
+/// The class with this name in the table.
 fn class_in(mut classes: &[(&[u8], Class)], name: &[u8]) -> Option<Class>
     ensures { result ≡ class_in (map (λ c. (c.0.now, c.1)) classes.entry.now) name.now }
 {
@@ -91,7 +91,7 @@ fn class_in(mut classes: &[(&[u8], Class)], name: &[u8]) -> Option<Class>
     None
 }
 
-/// What is before the first `]`, or all of it where there is none.
+/// The text before its first `]`, or all of it if it has none.
 pub fn before_close(text: &[u8]) -> &[u8]
     ensures { result.now ≡ before_close text.now }
 {

@@ -1,4 +1,4 @@
-//! Why a text is no ignore list.
+//! Why a text is refused as an ignore list.
 ghost use Rattle.std.specs.Prelude.{Some};
 ghost use Rattle.glob_rules.specs.Words.{reason_words, refusal_words};
 
@@ -6,19 +6,19 @@ use std::alloc::{AllocError, AllocFailed};
 use std::error::Error;
 use std::fmt;
 
-/// Why a line is refused: it has no exact translation, or what git does with it is against gitignore(5).
+/// Why a line is refused: it has no exact translation, or git contradicts gitignore(5) on it.
 #[derive(Clone, Copy, Debug, PartialEq, Eq)]
 pub enum Reason {
-    /// A bracket names a character beyond ASCII, as `[é]`: git takes its bytes, each alone.
+    /// A bracket has a non-ASCII character, as in `[é]`: git matches each of its bytes by itself.
     BeyondAscii,
-    /// A bracket has a class of characters that git does not know, as `[[:word:]]`: to git such a rule names nothing.
+    /// A bracket has a class that git does not know, as in `[[:word:]]`: in git such a rule matches nothing.
     UnknownClass,
-    /// In a rule with a separator, two stars or more are right behind plain text and end the component, as in `a**/b`:
-    /// git's answer contradicts its manual.
+    /// In a rule with a separator, nothing but literal text comes before two or more stars that end a component and do
+    /// not begin it, as in `a**/b`: git contradicts its manual here.
     StarsBehindText,
-    /// The line has a NUL, where git ends the line.
+    /// The line has a NUL, where git stops reading it.
     Nul,
-    /// The translation is refused as a pattern. No line is known for which that comes.
+    /// The translation is not a valid pattern. No line is known to cause this.
     Pattern,
 }
 
@@ -36,12 +36,11 @@ impl fmt::Display for Reason {
     }
 }
 
-/// Why a text is refused as an ignore list, by [`IgnoreList::new`](crate::IgnoreList::new). So the text `[é]` is
-/// refused with `Line`, the line 1 and [`Reason::BeyondAscii`], and prints as `line 1: a bracket names a character
-/// beyond ASCII`.
+/// Why [`IgnoreList::new`](crate::IgnoreList::new) refused a text. The text `[é]` is refused with `Line(1,
+/// Reason::BeyondAscii)`, which prints as `line 1: a bracket names a character beyond ASCII`.
 #[derive(Debug, Drop)]
 pub enum RuleRefusal {
-    /// The first line that is refused, counted from 1, and why.
+    /// The number of the first refused line, counted from 1, and the reason.
     Line(usize, Reason),
     /// Out of memory: an allocation failed.
     Memory,

@@ -1,7 +1,7 @@
-//! Ignore lists: which paths the rules of gitignore(5) leave out.
+//! Ignore lists: which paths the rules of gitignore(5) exclude.
 //!
-//! An [`IgnoreList`] of the lines `*.o`, `target/` and `!keep.o` ignores `a.o` and all below `src/target`, and not
-//! `keep.o`.
+//! An [`IgnoreList`] of the lines `*.o`, `target/` and `!keep.o` ignores `a.o` and everything below `src/target`, but
+//! not `keep.o`.
 #![tactic(auto)]
 
 mod classes;

@@ -8,7 +8,7 @@ use crate::reading::{Outcome, Reading};
 use std::alloc::{AllocError, Allocator};
 use std::marker::Model;
 
-/// A line that is read.
+/// A line of an ignore list, as read.
 #[derive(Drop)]
 pub struct Line<A: Allocator> {
     outcome: Outcome,
@@ -31,7 +31,7 @@ impl<A: Allocator> Model for Line<A> {
 }
 
 impl<A: Allocator> Line<A> {
-    /// What the line is.
+    /// The outcome of reading the line.
     pub fn outcome(&self) -> Outcome
         ensures { result ≡ self.now.outcome }
     {
@@ -45,21 +45,21 @@ impl<A: Allocator> Line<A> {
         self.negative
     }
 
-    /// Whether its rule is for directories alone.
+    /// Whether its rule is for directories only.
     pub fn directories(&self) -> bool
         ensures { result ≡ self.now.directories }
     {
         self.directories
     }
 
-    /// Its pattern.
+    /// The pattern of its rule.
     pub fn glob(&self) -> &[u8]
         ensures { result.now ≡ self.now.glob }
     {
         self.glob.as_slice()
     }
 
-    /// A line that names nothing.
+    /// A line that matches nothing.
     fn nothing(alloc: A) -> Self
         ensures { result ≡ nothing }
     {
@@ -73,7 +73,7 @@ impl<A: Allocator> Line<A> {
 }
 
 impl<A: Allocator + Copy> Line<A> {
-    /// The line of these bytes.
+    /// Reads a line, given without its line feed.
     #[tactic(auto, unfolding(crate::specs::Lines::line_of))]
     pub fn read(alloc: A, text: &[u8]) -> Result<Self, AllocError>
         ensures { IfOk result (λ line. line ≡ line_of text.now) }
@@ -88,7 +88,7 @@ impl<A: Allocator + Copy> Line<A> {
         Self::of_body(alloc, negative, directories, without_last(body, b'/'))
     }
 
-    /// The line of a rule without its marks.
+    /// The line of a rule without its `!` and its last `/`.
     #[tactic(auto, unfolding(crate::specs::Lines::line_of_body))]
     fn of_body(alloc: A, negative: bool, directories: bool, body: &[u8]) -> Result<Self, AllocError>
         ensures { IfOk result (λ line. line ≡ line_of_body negative directories body.now) }
@@ -106,14 +106,14 @@ impl<A: Allocator + Copy> Line<A> {
     }
 }
 
-/// Whether there is a separator.
+/// Whether the text has a separator.
 fn is_path(text: &[u8]) -> bool
     ensures { result ≡ is_path text.now }
 {
     text.iter().any(|c| *c == b'/')
 }
 
-/// Whether the byte at a place is `c`.
+/// Whether the byte at `place` is `c`; false beyond the end.
 pub fn has(text: &[u8], place: usize, c: u8) -> bool
     ensures { result ≡ has text.now place c }
 {
@@ -127,14 +127,14 @@ fn ends_in(text: &[u8], c: u8) -> bool
     has(text, text.len().saturating_sub(1), c)
 }
 
-/// The text without `c` at its start.
+/// The text without a leading `c`.
 fn without_first(text: &[u8], c: u8) -> &[u8]
     ensures { result.now ≡ without_first text.now c }
 {
     if has(text, 0, c) { &text[1..] } else { text }
 }
 
-/// The text without `c` at its end.
+/// The text without a trailing `c`.
 fn without_last(text: &[u8], c: u8) -> &[u8]
     ensures { result.now ≡ without_last text.now c }
 {
@@ -145,14 +145,14 @@ fn without_last(text: &[u8], c: u8) -> &[u8]
     }
 }
 
-/// The text without the blanks at its end that no backslash escapes.
+/// The text without its unescaped trailing spaces.
 fn without_blanks(text: &[u8]) -> &[u8]
     ensures { result.now ≡ without_blanks text.now }
 {
     &text[..kept_len(text)]
 }
 
-/// How many bytes there are up to the last that is no such blank.
+/// The length of the text without its unescaped trailing spaces.
 #[tactic(auto, unfolding(crate::specs::Lines::kept_of))]
 fn kept_len(text: &[u8]) -> usize
     ensures kept { result ≡ (kept_of text.now).kept }
@@ -167,7 +167,7 @@ fn kept_len(text: &[u8]) -> usize
     kept
 }
 
-/// What is kept up to a byte, where `kept` is kept before it.
+/// How many bytes to keep after `c`, the byte at `place`, where `kept` are kept before it.
 fn kept_after(kept: usize, place: usize, escaped: bool, c: u8) -> usize
     requires place { place + 1 < 2 ^ 64 }
     requires kept { kept ≤ place }
@@ -182,7 +182,7 @@ fn kept_after(kept: usize, place: usize, escaped: bool, c: u8) -> usize
     }
 }
 
-/// Whether a byte escapes the next one.
+/// Whether `c` escapes the next byte, where `escaped` says whether `c` is escaped itself.
 fn escapes(escaped: bool, c: u8) -> bool
     ensures { result ≡ (not escaped && c == backslash) }
 {

@@ -1,7 +1,7 @@
 //! Ignore lists: which paths they ignore, and by which rule.
 ghost use Rattle.std.specs.Prelude.{◌≡◌, ◌<◌, ◌≤◌, length, IfOk, IfErr, IfSome, IsOk, OnOk, Bool};
 ghost use Rattle.glob_set.specs.Sets.{AreShort};
-ghost use Rattle.glob_rules.specs.Deciding.{names, last_naming, last_named, ignores, deciding, deciding_rule, is_ignored};
+ghost use Rattle.glob_rules.specs.Deciding.{names, last_naming, last_named, naming_rule, ignores, deciding, deciding_rule, is_ignored};
 ghost use Rattle.glob_rules.specs.Lists.{rules_of, RefusesText, AreTaken, rule_options};
 
 use crate::error::RuleRefusal;
@@ -85,6 +85,21 @@ impl<A: Allocator + Copy> IgnoreList<A> {
         ensures short { AreShort self.now.patterns → IsOk result }
     {
         match self.deciding(path, is_directory)? {
+            Some(number) => Ok(Some(self.rules[number])),
+            None => Ok(None),
+        }
+    }
+
+    /// The last rule that names a path itself, whatever is said of the directories above it, or `None` if no rule does.
+    /// Who comes down from the list's directory, and enters no directory that is ignored, asks this alone: by `a/` and
+    /// `!a/b` it is the rule of line 2 for `a/b`. Its error is that of [`is_ignored`](Self::is_ignored).
+    #[tactic(auto, unfolding(crate::specs::Deciding::naming_rule))]
+    pub fn naming_rule(&self, path: &str, is_directory: bool) -> Result<Option<Rule>, AllocError>
+        ensures rule { IfOk result
+            (λ rule. rule ≡ naming_rule self.now path.now is_directory) }
+        ensures short { AreShort self.now.patterns → IsOk result }
+    {
+        match self.last_naming(path, is_directory)? {
             Some(number) => Ok(Some(self.rules[number])),
             None => Ok(None),
         }

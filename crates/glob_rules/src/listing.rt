@@ -6,8 +6,8 @@ ghost use Rattle.std.specs.List.{list_any};
 use crate::steps::{Span, Writing};
 use std::alloc::{AllocError, Allocator};
 
-/// Each character of ASCII but NUL, in an order in which a bracket may have any of them with its `/`: `]` is first, and
-/// `!` and `-` are last.
+/// The ASCII characters except NUL, in an order in which a bracket can list any of them together with `/`: `]` comes
+/// first, `!` and `-` come last.
 pub const ORDER: [u8; 127] = [
     b']', 1, 2, 3, 4, 5, 6, 7, 8, 9, 10, 11, 12, 13, 14, 15, 16, 17, 18, 19, 20, 21, 22, 23, 24,
     25, 26, 27, 28, 29, 30, 31, 32, b'"', b'#', b'$', b'%', b'&', b'\'', b'(', b')', b'*', b'+',
@@ -19,15 +19,15 @@ pub const ORDER: [u8; 127] = [
     b'|', b'}', b'~', 127, b'!', b'-',
 ];
 
-/// Whether a bracket with these characters holds one. It holds `/`, which no bracket matches under the separator rule,
-/// so that it is never empty.
+/// Whether a bracket with these spans lists `c`. Every bracket lists `/`, so that none is empty; under the separator
+/// rule no bracket matches it.
 fn holds(spans: &[Span], c: u8) -> bool
     ensures { result ≡ holds spans.now c }
 {
     c == b'/' || is_in_any(spans, c)
 }
 
-/// Whether a character is between the ends, or of the class.
+/// Whether `c` is in the span.
 fn is_within(c: u8, span: Span) -> bool
     ensures { result ≡ is_within c span }
 {
@@ -37,14 +37,14 @@ fn is_within(c: u8, span: Span) -> bool
     }
 }
 
-/// Whether a character is in one of the spans.
+/// Whether `c` is in one of the spans.
 fn is_in_any(spans: &[Span], c: u8) -> bool
     ensures { result ≡ list_any (is_within c) spans.now }
 {
     spans.iter().any(|span| is_within(c, *span))
 }
 
-/// Writes the characters of a bracket.
+/// Appends the characters of a bracket.
 fn write_held<A: Allocator>(glob: &mut Vec<u8, A>, spans: &[Span]) -> Result<(), AllocError>
     ensures { OnOk result (glob.new.items ≡ glob.old.items ++ held spans.now) }
 {
@@ -56,7 +56,7 @@ fn write_held<A: Allocator>(glob: &mut Vec<u8, A>, spans: &[Span]) -> Result<(),
     Ok(())
 }
 
-/// Writes what a step says, where the bracket has these characters.
+/// Appends what a step writes, where the bracket has these spans.
 pub fn write<A: Allocator>(
     glob: &mut Vec<u8, A>,
     spans: &[Span],

@@ -1,4 +1,4 @@
-//! Rules read a byte at a time.
+//! The translation of a rule, byte by byte.
 ghost use Rattle.std.specs.Prelude.{◌≡◌, ◌++◌, OnOk, IfOk};
 ghost use Rattle.glob_rules.specs.Readings.{reading_start, next_reading, reading_of, changed, outcome, ending};
 
@@ -9,10 +9,10 @@ use crate::steps::{Change, Mode, Span, Step, Writing, step_from};
 use std::alloc::{AllocError, Allocator};
 use std::marker::Model;
 
-/// What a rule is, once all of it is read.
+/// The outcome of reading a rule.
 #[derive(Clone, Copy)]
 pub enum Outcome {
-    /// It names nothing.
+    /// It matches nothing.
     Nothing,
     /// It has a pattern.
     Named,
@@ -20,7 +20,7 @@ pub enum Outcome {
     Refused(Reason),
 }
 
-/// A rule that is read: what the bytes so far end with, the characters of the last bracket, and the pattern so far.
+/// A rule read in part: the mode after the bytes so far, the characters of the last bracket, and the pattern so far.
 #[derive(Drop)]
 pub struct Reading<A: Allocator> {
     mode: Mode,
@@ -37,14 +37,14 @@ impl<A: Allocator> Model for Reading<A> {
 }
 
 impl<A: Allocator + Copy> Reading<A> {
-    /// The rule of these bytes, where `path` says that it is taken from the list's own directory.
+    /// Reads all of a rule. `path` says that it is relative to the list's directory.
     #[tactic(auto, unfolding(crate::specs::Readings::reading_of))]
     pub fn of(alloc: A, text: &[u8], path: bool) -> Result<Self, AllocError>
         ensures { IfOk result (λ r. r ≡ reading_of path text.now) }
     {
         let mut reading = Self::start(alloc, path)?;
         let mut rest = text;
-        // it is looked for once a `]`, and not once a byte
+        // search once per `]`, not once per byte
         let mut ahead = before_close(text);
         while let [c, after @ ..] = rest {
             ahead = match ahead {
@@ -57,7 +57,7 @@ impl<A: Allocator + Copy> Reading<A> {
         Ok(reading)
     }
 
-    /// A rule of which nothing is read.
+    /// A rule before its first byte.
     fn start(alloc: A, path: bool) -> Result<Self, AllocError>
         ensures { IfOk result (λ r. r ≡ reading_start path) }
     {
@@ -71,7 +71,7 @@ impl<A: Allocator + Copy> Reading<A> {
 }
 
 impl<A: Allocator> Reading<A> {
-    /// Reads one byte, where `ahead` is what follows it, up to the next `]` or the end.
+    /// Reads one byte. `ahead` is the text after it, up to the next `]` or the end.
     #[tactic(auto, unfolding(crate::specs::Readings::next_reading))]
     fn advance(&mut self, c: u8, ahead: &[u8]) -> Result<(), AllocError>
         ensures { OnOk result (self.new ≡ next_reading self.old c ahead.now) }
@@ -83,7 +83,7 @@ impl<A: Allocator> Reading<A> {
         Ok(())
     }
 
-    /// What the rule is.
+    /// The outcome, if the rule ends here.
     pub fn outcome(&self) -> Outcome
         ensures { result ≡ outcome self.now.mode }
     {
@@ -95,7 +95,7 @@ impl<A: Allocator> Reading<A> {
         }
     }
 
-    /// The rule's pattern.
+    /// The pattern, if the rule ends here.
     pub fn into_glob(self) -> Result<Vec<u8, A>, AllocError>
         ensures { IfOk result (λ glob. glob.items ≡ self.glob ++ ending self.mode) }
     {
@@ -107,7 +107,7 @@ impl<A: Allocator> Reading<A> {
     }
 }
 
-/// Makes the change of a step.
+/// Applies a change to the bracket's characters.
 fn change<A: Allocator>(spans: &mut Vec<Span, A>, change: Change) -> Result<(), AllocError>
     ensures { OnOk result (spans.new.items ≡ changed spans.old.items change) }
 {

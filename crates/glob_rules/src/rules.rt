@@ -33,7 +33,7 @@ impl<A: Allocator> Model for Rules<A> {
 }
 
 impl<A: Allocator + Copy> Rules<A> {
-    /// The rules of a text.
+    /// Reads the rules of a text.
     #[tactic(auto, unfolding(crate::specs::Lists::rules_of))]
     pub fn read(alloc: A, text: &str) -> Result<Self, RuleRefusal>
         ensures rules { IfOk result (λ rules. rules ≡ rules_of text.now) }
@@ -85,7 +85,7 @@ impl<A: Allocator + Copy> Rules<A> {
         Ok(())
     }
 
-    /// Its parts: the number of lines, the rules, and their patterns.
+    /// Takes it apart: the number of lines, the rules, and their patterns.
     pub fn into_parts(self) -> (usize, Vec<Rule, A>, Vec<Pattern<A>, A>)
         ensures lines { result.0 ≡ self.lines }
         ensures rules { result.1.items ≡ self.rules }
@@ -95,7 +95,7 @@ impl<A: Allocator + Copy> Rules<A> {
     }
 }
 
-/// The pattern of a rule of this line.
+/// The pattern of the rule in this line.
 fn pattern_of<A: Allocator + Copy>(
     alloc: A,
     glob: &[u8],
@@ -112,7 +112,7 @@ fn pattern_of<A: Allocator + Copy>(
     })
 }
 
-/// The text without a byte order mark at its start.
+/// The text without its byte order mark.
 fn without_byte_order_mark(text: &str) -> &str
     ensures { result.now ≡ without_byte_order_mark text.now }
 {
@@ -123,7 +123,7 @@ fn without_byte_order_mark(text: &str) -> &str
     }
 }
 
-/// Whether the three bytes of a byte order mark are first.
+/// Whether the text begins with a byte order mark.
 fn begins_with_mark(text: &[u8]) -> bool
     ensures { result ≡ begins_with_mark text.now }
 {

@@ -1,5 +1,7 @@
--- Patterns that are asked about a text in two lists, and what the lists answer together.
-use Rattle.std.proofs.Common.{◌≡◌, ℕ, ◌+◌, ◌<◌, ◌≤◌, ◌⊎◌, inl, inr, min, max, false, List, [], ◌∷◌, ◌++◌, length, get_or, Option, Some, None, IfSome, IsNone, IsTrue, Result, Ok, Err, OnOk, All, Contains, refl, sym, ap, subst, ◌∙◌, arith, ⊎_elim, below_more}
+-- Asking the patterns in two lists about a text, and what both answers say together.
+use Rattle.std.proofs.Common.{◌≡◌, ℕ, ◌+◌, ◌<◌, ◌≤◌, ◌⊎◌, inl, inr, min, max, false, List, [], ◌∷◌, ◌++◌, length}
+use Rattle.std.proofs.Common.{get_or, Option, Some, None, IfSome, IsNone, IsTrue, Result, Ok, Err, OnOk, All, Contains}
+use Rattle.std.proofs.Common.{refl, sym, ap, subst, ◌∙◌, arith, ⊎_elim, below_more}
 use Rattle.std.proofs.lemmas.Bool.{cases_lt, false≢true}
 use Rattle.std.proofs.lemmas.List.{get_or_default}
 use Rattle.std.proofs.lemmas.List.Elements.{Contains-append_left, Contains-push, Contains-push_cases}
@@ -10,7 +12,7 @@ use Rattle.glob_pattern.specs.declared.options.MatchOptions.{MatchOptions}
 use Rattle.glob_set.specs.Private.Asking.{AreAsked, AreMatches, IsFirstOf, IsLastOf, earlier, later}
 use Rattle.glob_set.specs.Private.Buckets.{IsBucket, AreBuckets, IsAll}
 use Rattle.glob_set.specs.declared.key.Key.{Key}
-use Rattle.glob_set.specs.Private.Keyed.{FoundNumbers, Finds, few_or_many}
+use Rattle.glob_set.specs.Private.Keyed.{FoundNumbers, Finds}
 use Rattle.glob_set.specs.Private.Keys.{AreKeys, HasKey, IsKeyOf}
 use Rattle.glob_set.specs.Private.Pairs.{AreNeeds, text_class}
 use Rattle.glob_set.specs.declared.pairs.Need.{Need}
@@ -32,15 +34,18 @@ module _ (o : MatchOptions) (patterns : List Text) (text : Text) where
 
   -- one without a key is in the bucket
   listed_without_key : IsUtf8 text → (needs : List Need) (keys : List (Option Key)) (numbers : List ℕ) → AreNeeds patterns needs
-      → IsBucket needs keys (text_class text) (length needs) numbers → (k : ℕ) → MatchesAt o patterns text k → IsNone (get_or keys k None) → Contains numbers k
+      → IsBucket needs keys (text_class text) (length needs) numbers → (k : ℕ) → MatchesAt o patterns text k → IsNone
+      (get_or keys k None) → Contains numbers k
   unfolding MatchesAt
   listed_without_key utf8 needs keys numbers are bucket k at none =
       let no_need : Need = record { bits = 0; class = None } in
-      ⊎_elim (λ has. has) (λ other. absurd (other_class (get_or patterns k []) (get_or needs k no_need) o text (are.each k no_need at.0) utf8 other at.1))
+      ⊎_elim (λ has. has) (λ other. absurd (other_class (get_or patterns k []) (get_or needs k no_need) o text
+      (are.each k no_need at.0) utf8 other at.1))
       (bucket.all k no_need (omega (arith, at.0, are.same_length)) none)
 
   -- the numbers of a bucket, and those that are found
-  pub AreAsked-bucket : IsUtf8 text → (needs : List Need) (keys : List (Option Key)) (listed : List ℕ) (found : FoundNumbers) → AreNeeds patterns needs
+  pub AreAsked-bucket : IsUtf8 text → (needs : List Need) (keys : List (Option Key)) (listed : List ℕ)
+      (found : FoundNumbers) → AreNeeds patterns needs
       → AreKeys patterns keys → IsBucket needs keys (text_class text) (length needs) listed → found.is_full ≡ false
       → All (λ k. k < length keys) found.items → IsNonDecreasing found.items → Finds keys (IsKeyOf text) found
       → AreAsked o patterns text listed found.items
@@ -56,7 +61,8 @@ module _ (o : MatchOptions) (patterns : List Text) (text : Text) where
   }
 
   -- all numbers
-  pub AreAsked-all : (keys : List (Option Key)) (listed : List ℕ) (found : List ℕ) → length keys ≡ length patterns → IsAll (length patterns) listed
+  pub AreAsked-all : (keys : List (Option Key)) (listed : List ℕ) (found : List ℕ) → length keys ≡ length patterns
+      → IsAll (length patterns) listed
       → All (λ k. k < length keys) found → IsNonDecreasing found → AreAsked o patterns text listed found
   AreAsked-all keys listed found same all within order = record {
     listed_within = all.within;
@@ -118,7 +124,8 @@ module _ (o : MatchOptions) (patterns : List Text) (text : Text) where
     pub FirstMatch-of : (one other : Option ℕ) → IsFirstOf o patterns text listed one → IsFirstOf o patterns text found other
         → FirstMatch o patterns text (earlier one other)
     unfolding IsFirstOf FirstMatch AnyMatch
-    FirstMatch-of None None first second = λ any. ⊎_elim (λ has. first any.0 has any.1) (λ has. second any.0 has any.1) (asked.all any.0 any.1)
+    FirstMatch-of None None first second = λ any. ⊎_elim (λ has. first any.0 has any.1) (λ has. second any.0 has any.1)
+        (asked.all any.0 any.1)
     FirstMatch-of (Some m) None first second = (
       first.0,
       λ k below at. ⊎_elim (λ has. first.1 k has below at) (λ has. second k has at) (asked.all k at),
@@ -132,13 +139,15 @@ module _ (o : MatchOptions) (patterns : List Text) (text : Text) where
           (λ less. subst (MatchesAt o patterns text) (let e : m ≡ min m n = omega (arith, less) in e) first.0)
           (λ more. subst (MatchesAt o patterns text) (let e : n ≡ min m n = omega (arith, more) in e) second.0)
           (cases_lt m n),
-      λ k below at. ⊎_elim (λ has. first.1 k has (omega (arith, below)) at) (λ has. second.1 k has (omega (arith, below)) at) (asked.all k at),
+      λ k below at. ⊎_elim (λ has. first.1 k has (omega (arith, below)) at) (λ has. second.1 k has
+          (omega (arith, below)) at) (asked.all k at),
     )
 
     pub LastMatch-of : (one other : Option ℕ) → IsLastOf o patterns text listed one → IsLastOf o patterns text found other
         → LastMatch o patterns text (later one other)
     unfolding IsLastOf LastMatch AnyMatch
-    LastMatch-of None None first second = λ any. ⊎_elim (λ has. first any.0 has any.1) (λ has. second any.0 has any.1) (asked.all any.0 any.1)
+    LastMatch-of None None first second = λ any. ⊎_elim (λ has. first any.0 has any.1) (λ has. second any.0 has any.1)
+        (asked.all any.0 any.1)
     LastMatch-of (Some m) None first second = (
       first.0,
       λ k above at. ⊎_elim (λ has. first.1 k has above at) (λ has. second k has at) (asked.all k at),
@@ -152,7 +161,8 @@ module _ (o : MatchOptions) (patterns : List Text) (text : Text) where
           (λ less. subst (MatchesAt o patterns text) (let e : n ≡ max m n = omega (arith, less) in e) second.0)
           (λ more. subst (MatchesAt o patterns text) (let e : m ≡ max m n = omega (arith, more) in e) first.0)
           (cases_lt m n),
-      λ k above at. ⊎_elim (λ has. first.1 k has (omega (arith, above)) at) (λ has. second.1 k has (omega (arith, above)) at) (asked.all k at),
+      λ k above at. ⊎_elim (λ has. first.1 k has (omega (arith, above)) at) (λ has. second.1 k has
+          (omega (arith, above)) at) (asked.all k at),
     )
 
     -- the numbers of the matches, after both lists
@@ -173,7 +183,8 @@ OnOk-follow (Ok x) P Q follows known = follows known
 OnOk-follow (Err e) P Q follows known = tt
 
 -- The numbers with those that were there before, and of the first ones of a list those of the matches.
-pub record PushedSoFar (o : MatchOptions) (patterns : List Text) (text : Text) (before asked : List ℕ) (count : ℕ) (numbers : List ℕ) : Type 0 where
+pub record PushedSoFar (o : MatchOptions) (patterns : List Text) (text : Text) (before asked : List ℕ) (count : ℕ)
+    (numbers : List ℕ) : Type 0 where
   pub only : (k : ℕ) → Contains numbers k → Contains before k ⊎ MatchesAt o patterns text k
   pub kept : (k : ℕ) → Contains before k → Contains numbers k
   pub all : (j : ℕ) → j < count → MatchesAt o patterns text (get_or asked j 0) → Contains numbers (get_or asked j 0)
@@ -186,15 +197,18 @@ module _ (o : MatchOptions) (patterns : List Text) (text : Text) (before asked :
     all = λ j below. absurd (omega (arith, below));
   }
 
-  pub PushedSoFar-yes : (i : ℕ) (numbers new : List ℕ) → MatchesAt o patterns text (get_or asked i 0) → new ≡ numbers ++ get_or asked i 0 ∷ []
+  pub PushedSoFar-yes : (i : ℕ) (numbers new : List ℕ) → MatchesAt o patterns text (get_or asked i 0) → new ≡ numbers
+      ++ get_or asked i 0 ∷ []
       → PushedSoFar o patterns text before asked i numbers → PushedSoFar o patterns text before asked (i + 1) new
   PushedSoFar-yes i numbers new at is so_far =
       let n = get_or asked i 0 in
       subst (PushedSoFar o patterns text before asked (i + 1)) (sym is) (record {
-        only = λ k has. ⊎_elim (so_far.only k) (λ same. inr (subst (MatchesAt o patterns text) same at)) (Contains-push_cases numbers n k has);
+        only = λ k has. ⊎_elim (so_far.only k) (λ same. inr (subst (MatchesAt o patterns text) same at))
+            (Contains-push_cases numbers n k has);
         kept = λ k has. Contains-append_left numbers (n ∷ []) k (so_far.kept k has);
         all = below_more (λ j. MatchesAt o patterns text (get_or asked j 0) → Contains (numbers ++ n ∷ []) (get_or asked j 0)) i
-            (λ j below here. Contains-append_left numbers (n ∷ []) (get_or asked j 0) (so_far.all j below here)) (λ _. Contains-push numbers n);
+            (λ j below here. Contains-append_left numbers (n ∷ []) (get_or asked j 0) (so_far.all j below here))
+            (λ _. Contains-push numbers n);
       })
 
   pub PushedSoFar-no : (i : ℕ) (numbers : List ℕ) → ¬ (MatchesAt o patterns text (get_or asked i 0))
@@ -202,7 +216,8 @@ module _ (o : MatchOptions) (patterns : List Text) (text : Text) (before asked :
   PushedSoFar-no i numbers not so_far = record {
     only = so_far.only;
     kept = so_far.kept;
-    all = below_more (λ j. MatchesAt o patterns text (get_or asked j 0) → Contains numbers (get_or asked j 0)) i so_far.all (λ at. absurd (not at));
+    all = below_more (λ j. MatchesAt o patterns text (get_or asked j 0) → Contains numbers (get_or asked j 0)) i
+        so_far.all (λ at. absurd (not at));
   }
 
   pub PushedSoFar-end : (count : ℕ) (numbers : List ℕ) → length asked ≤ count → PushedSoFar o patterns text before asked count numbers
@@ -219,7 +234,8 @@ only_matches P before numbers none only k has =
 
 -- the bucket of a text
 pub bucket_for : (needs : List Need) (keys : List (Option Key)) (buckets : List (List ℕ)) (class : ℕ) (text : Text) (bucket : List ℕ)
-    → AreBuckets needs keys buckets → class < 128 → class ≡ text_class text → bucket ≡ few_or_many (get_or buckets 128 []) (get_or buckets class [])
+    → AreBuckets needs keys (length needs) buckets → class < 128 → class ≡ text_class text → bucket ≡ get_or buckets class []
     → IsBucket needs keys (text_class text) (length needs) bucket
 bucket_for needs keys buckets class text bucket are small of is =
-    subst (λ c. IsBucket needs keys c (length needs) bucket) of (subst (IsBucket needs keys class (length needs)) (sym is) (are.each class small))
+    subst (λ c. IsBucket needs keys c (length needs) bucket) of (subst (IsBucket needs keys class (length needs))
+    (sym is) (are.each class small))

@@ -1,4 +1,4 @@
--- What is returned for a text.
+-- What expanding a text returns: its alternatives, or its refusal.
 use Rattle.std.proofs.Common.{◌≡◌, ℕ, ◌≤◌, ◌↔◌, true, List, length, map, Result, Ok, Err, IfErr, IsErrAnd, sym, ap, subst, ◌∙◌, arith}
 use Rattle.std.proofs.lemmas.List.{length-map}
 use Rattle.glob_text.specs.Text.{Text}

@@ -1,5 +1,7 @@
--- Counts of alternatives, lexeme by lexeme.
-use Rattle.std.proofs.Common.{◌≡◌, ℕ, ◌+◌, ◌*◌, ◌<◌, ◌≤◌, min, Bool, true, false, List, [], ◌∷◌, ◌++◌, length, get_or, map, take, drop, reverse, Some, None, inl, inr, refl, sym, ap, subst, ◌∙◌, arith, append_assoc, length-append, mul-le-mul}
+-- Counting alternatives, lexeme by lexeme.
+use Rattle.std.proofs.Common.{◌≡◌, ℕ, ◌+◌, ◌*◌, ◌<◌, ◌≤◌, min, Bool, true, false, List, [], ◌∷◌, ◌++◌, length, get_or}
+use Rattle.std.proofs.Common.{map, take, drop, reverse, Some, None, inl, inr, refl, sym, ap, subst, ◌∙◌, arith}
+use Rattle.std.proofs.Common.{append_assoc, length-append, mul-le-mul}
 use Rattle.std.proofs.lemmas.Bool.{cases_lt}
 use Rattle.std.proofs.lemmas.List.{append-nil, length-map, length-take-le, reverse-append, take_more, take_all, drop_more, take-append-drop}
 use Rattle.std.specs.Prelude.{encode_utf8, slice_get}
@@ -31,7 +33,7 @@ length-joined (t ∷ ts) us =
 count_sum : (a b x y : ℕ) → IsCount a x → IsCount b y → IsCount (min (a + b) largest) (x + y)
 count_sum a b x y is js = omega (arith, is, js)
 
--- a product of which a factor is too large
+-- a product with a factor that is too large
 large_product : (x y b : ℕ) → largest ≤ x → 1 ≤ y → 1 ≤ b → min (largest * b) largest ≡ min (x * y) largest
 large_product x y b large some positive =
     let left : largest * 1 ≤ largest * b = mul-le-mul {n₁ = largest} {m₁ = 1} {n₂ = largest} {m₂ = b} (omega arith) positive in
@@ -182,7 +184,8 @@ unfolding IsUnmatched
 IsUnmatched-at l r n place at so = (l, r, so.0, refl, at, so.1)
 
 -- the first of the `{` that are not closed
-pub IsUnclosed-first : (os : List Opened) (first : Opened) (l : List Lexeme) (n : ℕ) → CountsSoFar l n (os ++ first ∷ []) → IsUnclosed l first.place
+pub IsUnclosed-first : (os : List Opened) (first : Opened) (l : List Lexeme) (n : ℕ) → CountsSoFar l n
+    (os ++ first ∷ []) → IsUnclosed l first.place
 unfolding IsUnclosed
 IsUnclosed-first [] first l n so =
     let group = so.5 in (

@@ -1,5 +1,7 @@
--- Escaped texts have one alternative, and match the text that they are made from.
-use Rattle.std.proofs.Common.{◌≡◌, ℕ, suc, ◌+◌, ◌<◌, ◌≤◌, ◌≢◌, ◌⊎◌, ◌↔◌, inl, inr, ⊎_elim, Bool, true, false, ◌==◌, cond, List, [], ◌∷◌, ◌++◌, length, get_or, drop, IsTrue, IsFalse, refl, sym, ap, subst, ◌∙◌, arith, append_assoc}
+-- An escaped text is its own only alternative, and matches the text it is made from.
+use Rattle.std.proofs.Common.{◌≡◌, ℕ, suc, ◌+◌, ◌<◌, ◌≤◌, ◌≢◌, ◌⊎◌, ◌↔◌, inl, inr, ⊎_elim, Bool, true, false, ◌==◌}
+use Rattle.std.proofs.Common.{cond, List, [], ◌∷◌, ◌++◌, length, get_or, drop, IsTrue, IsFalse, refl, sym, ap, subst}
+use Rattle.std.proofs.Common.{◌∙◌, arith, append_assoc}
 use Rattle.std.proofs.lemmas.Bool.{or_parts, or_cases, eqb-true, ne_eqb, eq-eqb, lt-ltb, le-ltb, and_right}
 use Rattle.std.proofs.lemmas.List.{append-nil}
 use Rattle.std.proofs.lemmas.Str.{chars_from_encodes}
@@ -11,11 +13,13 @@ use Rattle.glob_pattern.specs.Grammar.Tokens.{Token}
 use Rattle.glob_pattern.specs.Matching.Texts.{Matches}
 use Rattle.glob_pattern.specs.declared.options.MatchOptions.{MatchOptions}
 use Rattle.glob_pattern.specs.declared.token.Token.TheVariants.{Literal}
-use Rattle.glob_pattern.proofs.EscapingLemmas.Standing.{IsApart, IsApart-from_number, Stands, bracketed, not_special, special-apart, stands_matches_itself}
+use Rattle.glob_pattern.proofs.EscapingLemmas.Standing.{IsApart, IsApart-from_number, Stands, bracketed, not_special}
+use Rattle.glob_pattern.proofs.EscapingLemmas.Standing.{special-apart, stands_matches_itself}
 use Rattle.glob_pattern.proofs.Places.{get_or-at_drop, drop-at_drop, length-at_drop}
 use Rattle.glob_set.specs.declared.braces.lexemes.Lexeme.{Lexeme}
 use Rattle.glob_set.specs.declared.braces.lexemes.Lexeme.TheVariants as lexeme
-use Rattle.glob_set.specs.Braces.{AreAlternatives, HasAlternatives, bracket_end, comma, close_brace, end_at, lexeme_at, lexeme_of, lexemes, lexemes_from, open_brace}
+use Rattle.glob_set.specs.Braces.{AreAlternatives, HasAlternatives, bracket_end, comma, close_brace, end_at, lexeme_at}
+use Rattle.glob_set.specs.Braces.{lexeme_of, lexemes, lexemes_from, open_brace}
 use Rattle.glob_set.specs.BraceEscaping.{StandsFor, escaped_character, escaped_text, is_special}
 
 -- a special character is apart
@@ -24,7 +28,8 @@ apart c h =
     ⊎_elim (λ own. special-apart c own)
     (λ brace. ⊎_elim
     (λ one. IsApart-from_number c open_brace (eqb-true _ _ one) (inr (omega arith)) refl (omega arith) (omega arith) (omega arith))
-    (λ one. IsApart-from_number c close_brace (eqb-true _ _ one) (inr (omega arith)) refl (omega arith) (omega arith) (omega arith)) (or_cases _ _ brace))
+    (λ one. IsApart-from_number c close_brace (eqb-true _ _ one) (inr (omega arith)) refl (omega arith) (omega arith)
+    (omega arith)) (or_cases _ _ brace))
     (or_cases _ _ h)
 
 -- what an escaped character is as a token
@@ -35,7 +40,8 @@ escaped_token c = cond (is_special c) (bracketed c) (Literal c)
 stands : (c : ℕ) → Stands (escaped_character c) (escaped_token c) c
 stands c = by (is_special c) refl
   where
-    by : (b : Bool) → is_special c ≡ b → Stands (cond b (open_bracket ∷ c ∷ close_bracket ∷ []) (c ∷ [])) (cond b (bracketed c) (Literal c)) c
+    by : (b : Bool) → is_special c ≡ b → Stands (cond b (open_bracket ∷ c ∷ close_bracket ∷ []) (c ∷ []))
+        (cond b (bracketed c) (Literal c)) c
     by true special = inr (refl, refl, apart c special)
     by false other = inl (refl, refl, not_special c (or_parts _ _ other).0)
 
@@ -50,7 +56,8 @@ grown l t x c (inl is) has =
     subst (λ z. HasAlternatives true (l ++ z ∷ []) ((t ++ encode_utf8 c) ∷ [])) (sym is) (HasAlternatives.literal true l (t ∷ []) c has)
 grown l t x c (inr is) has =
     subst (λ z. HasAlternatives true (l ++ z ∷ []) ((t ++ encode_utf8 c) ∷ [])) (sym is.0)
-    (subst (λ d. HasAlternatives true (l ++ lexeme.Comma ∷ []) ((t ++ encode_utf8 d) ∷ [])) (sym is.1) (HasAlternatives.comma_outside l (t ∷ []) has))
+    (subst (λ d. HasAlternatives true (l ++ lexeme.Comma ∷ []) ((t ++ encode_utf8 d) ∷ [])) (sym is.1)
+    (HasAlternatives.comma_outside l (t ∷ []) has))
 
 -- a character that is not special is itself
 lexeme_of-plain : (c : ℕ) → IsFalse (is_special c) → Is (lexeme_of c) c
@@ -65,7 +72,8 @@ lexeme_of-plain c other =
 -- a place that has another character
 has_other : (whole rest : Text) (p c d : ℕ) → c ≢ d → drop p whole ≡ c ∷ rest → has whole p d ≡ false
 has_other whole rest p c d apart at =
-    rw (ne_eqb (get_or whole p 0) d (λ e. apart (sym (get_or-at_drop whole rest p c 0 at) ∙ e))) (and_right (nat_lt p (length whole)) false refl)
+    rw (ne_eqb (get_or whole p 0) d (λ e. apart (sym (get_or-at_drop whole rest p c 0 at) ∙ e)))
+    (and_right (nat_lt p (length whole)) false refl)
 
 -- and one that has it
 has_this : (whole rest : Text) (p c : ℕ) → drop p whole ≡ c ∷ rest → has whole p c ≡ true
@@ -78,11 +86,17 @@ bracket_end-plain : (whole rest : Text) (p c : ℕ) → c ≢ open_bracket → d
 bracket_end-plain whole rest p c other at = rw (has_other whole rest p c open_bracket other at) refl
 
 -- a bracket of one character has three
-bracket_end-own : (whole rest : Text) (p c : ℕ) → IsApart c → drop p whole ≡ open_bracket ∷ c ∷ close_bracket ∷ rest → bracket_end whole p ≡ p + 3
+bracket_end-own : (whole rest : Text) (p c : ℕ) → IsApart c → drop p whole ≡ open_bracket ∷ c ∷ close_bracket ∷ rest
+    → bracket_end whole p ≡ p + 3
 bracket_end-own whole rest p c own at =
     let second : drop (p + 1) whole ≡ c ∷ close_bracket ∷ rest = drop-at_drop whole (c ∷ close_bracket ∷ rest) p open_bracket at in
     let third : drop (p + 1 + 1) whole ≡ close_bracket ∷ rest = drop-at_drop whole (close_bracket ∷ rest) (p + 1) c second in
-    rw (has_this whole (c ∷ close_bracket ∷ rest) p open_bracket at, has_other whole (close_bracket ∷ rest) (p + 1) c exclamation_mark own.no_mark second, third)
+    rw (
+      has_this whole (c ∷ close_bracket ∷ rest) p open_bracket at,
+      has_other whole (close_bracket ∷ rest)
+          (p + 1) c exclamation_mark own.no_mark second,
+      third,
+    )
     (omega arith)
 
 -- the lexemes of characters from place p on, behind what has one alternative, leave it one
@@ -94,7 +108,8 @@ Grows whole rest p =
 -- one more character, whose lexeme is the character itself
 grown_by : (whole rest : Text) (p e f c : ℕ) (x : Lexeme) (l : List Lexeme) (t : Text) → end_at whole p e ≡ f → lexeme_at p f c ≡ x → Is x c
     → HasAlternatives true l (t ∷ [])
-    → ((m : List Lexeme) (u : Text) → HasAlternatives true m (u ∷ []) → HasAlternatives true (m ++ lexemes_from whole (p + 1) f rest) ((u ++ encode_utf8_all rest) ∷ []))
+    → ((m : List Lexeme) (u : Text) → HasAlternatives true m (u ∷ []) → HasAlternatives true (m ++ lexemes_from whole
+    (p + 1) f rest) ((u ++ encode_utf8_all rest) ∷ []))
     → HasAlternatives true (l ++ lexemes_from whole p e (c ∷ rest)) ((t ++ encode_utf8_all (c ∷ rest)) ∷ [])
 grown_by whole rest p e f c x l t end at is alone later =
     let m = lexemes_from whole (p + 1) f rest in
@@ -120,7 +135,8 @@ lexeme_at-within : (p e c : ℕ) → p < e → lexeme_at p e c ≡ lexeme.Litera
 lexeme_at-within p e c within = rw (lt-ltb p e within) refl
 
 -- a character that is not special
-grows_plain : (whole rest : Text) (p c : ℕ) → IsFalse (is_special c) → drop p whole ≡ c ∷ rest → Grows whole rest (p + 1) → Grows whole (c ∷ rest) p
+grows_plain : (whole rest : Text) (p c : ℕ) → IsFalse (is_special c) → drop p whole ≡ c ∷ rest → Grows whole rest
+    (p + 1) → Grows whole (c ∷ rest) p
 unfolding Grows
 grows_plain whole rest p c other at later e l t low alone =
     grown_by whole rest p e p c (lexeme_of c) l t
@@ -129,23 +145,27 @@ grows_plain whole rest p c other at later e l t low alone =
     (λ m u. later p m u (omega arith))
 
 -- a bracket of one character
-grows_own : (whole rest : Text) (p c : ℕ) → IsApart c → drop p whole ≡ open_bracket ∷ c ∷ close_bracket ∷ rest → Grows whole rest (p + 1 + 1 + 1)
+grows_own : (whole rest : Text) (p c : ℕ) → IsApart c → drop p whole ≡ open_bracket ∷ c ∷ close_bracket ∷ rest
+    → Grows whole rest (p + 1 + 1 + 1)
     → Grows whole (open_bracket ∷ c ∷ close_bracket ∷ rest) p
 unfolding Grows
 grows_own whole rest p c own at later e l t low alone =
     grown_by whole (c ∷ close_bracket ∷ rest) p e (p + 3) open_bracket (lexeme.Literal open_bracket) l t
-    (end_at-past whole p e low ∙ bracket_end-own whole rest p c own at) (lexeme_at-within p (p + 3) open_bracket (omega arith)) (inl refl) alone
+    (end_at-past whole p e low ∙ bracket_end-own whole rest p c own at) (lexeme_at-within p (p + 3) open_bracket
+    (omega arith)) (inl refl) alone
     (λ m u more. grown_by whole (close_bracket ∷ rest) (p + 1) (p + 3) (p + 3) c (lexeme.Literal c) m u
     (end_at-within whole (p + 1) (p + 3) (omega arith)) (lexeme_at-within (p + 1) (p + 3) c (omega arith)) (inl refl) more
     (λ n v most. grown_by whole rest (p + 1 + 1) (p + 3) (p + 3) close_bracket (lexeme.Literal close_bracket) n v
-    (end_at-within whole (p + 1 + 1) (p + 3) (omega arith)) (lexeme_at-within (p + 1 + 1) (p + 3) close_bracket (omega arith)) (inl refl) most
+    (end_at-within whole (p + 1 + 1) (p + 3) (omega arith)) (lexeme_at-within (p + 1 + 1) (p + 3) close_bracket
+    (omega arith)) (inl refl) most
     (λ k w. later (p + 3) k w (omega arith))))
 
 -- none
 grows_none : (whole : Text) (p : ℕ) → Grows whole [] p
 unfolding Grows
 grows_none whole p e l t low alone =
-    subst (λ z. HasAlternatives true z ((t ++ []) ∷ [])) (sym (append-nil l)) (subst (λ z. HasAlternatives true l (z ∷ [])) (sym (append-nil t)) alone)
+    subst (λ z. HasAlternatives true z ((t ++ []) ∷ [])) (sym (append-nil l)) (subst (λ z. HasAlternatives true l
+    (z ∷ [])) (sym (append-nil t)) alone)
 
 -- escaped characters
 escaped_grows : (whole cs : Text) (p : ℕ) → drop p whole ≡ escaped_text cs → Grows whole (escaped_text cs) p
@@ -155,7 +175,8 @@ escaped_grows whole (c ∷ cs) p at = by (is_special c) refl at (λ q. escaped_g
     by : (b : Bool) → is_special c ≡ b → drop p whole ≡ cond b (open_bracket ∷ c ∷ close_bracket ∷ []) (c ∷ []) ++ escaped_text cs
         → ((q : ℕ) → drop q whole ≡ escaped_text cs → Grows whole (escaped_text cs) q)
         → Grows whole (cond b (open_bracket ∷ c ∷ close_bracket ∷ []) (c ∷ []) ++ escaped_text cs) p
-    by false other here later = grows_plain whole (escaped_text cs) p c other here (later (p + 1) (drop-at_drop whole (escaped_text cs) p c here))
+    by false other here later = grows_plain whole (escaped_text cs) p c other here (later (p + 1) (drop-at_drop whole
+        (escaped_text cs) p c here))
     by true special here later =
         let rest = escaped_text cs in
         let second : drop (p + 1) whole ≡ c ∷ close_bracket ∷ rest = drop-at_drop whole (c ∷ close_bracket ∷ rest) p open_bracket here in

@@ -1,4 +1,4 @@
--- Balanced lexemes are read to their alternatives.
+-- Reading balanced lexemes gives their alternatives, and there is only one list of them.
 use Rattle.std.proofs.Common.{◌≡◌, Bool, true, false, List, [], ◌∷◌, ◌++◌, refl, sym, ap, ◌∙◌}
 use Rattle.std.specs.Prelude.{encode_utf8, ⊤}
 use Rattle.glob_text.specs.Text.{Text}
@@ -30,7 +30,8 @@ comma_at ts [] fits = refl
 comma_at ts (g ∷ gs) fits = absurd (cc)
 
 mutual
-  reads : {outside : Bool} {l : List Lexeme} {ts : List Text} → HasAlternatives outside l ts → (groups : List OpenGroup) → Fits outside groups
+  reads : {outside : Bool} {l : List Lexeme} {ts : List Text} → HasAlternatives outside l ts →
+      (groups : List OpenGroup) → Fits outside groups
       → after_lexemes (record { texts = [] ∷ []; groups = groups }) l ≡ record { texts = ts; groups = groups }
   reads (HasAlternatives.at_start outside) groups fits = refl
   reads (HasAlternatives.literal outside l ts c h) groups fits =

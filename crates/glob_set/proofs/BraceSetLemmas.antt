@@ -1,5 +1,7 @@
--- Sets of the alternatives of several texts.
-use Rattle.std.proofs.Common.{◌≡◌, ℕ, zero, suc, ◌+◌, ◌-◌, ◌<◌, ◌↔◌, List, [], ◌∷◌, ◌++◌, length, get_or, map, take, refl, sym, ap, subst, ◌∙◌, arith, append_assoc, length-append, below_more, Result, Ok, Err, IfErr, IsErrAnd, inl, inr}
+-- Sets of all alternatives of several texts: what they match, and when texts are refused.
+use Rattle.std.proofs.Common.{◌≡◌, ℕ, zero, suc, ◌+◌, ◌-◌, ◌<◌, ◌↔◌, List, [], ◌∷◌, ◌++◌, length, get_or, map, take}
+use Rattle.std.proofs.Common.{refl, sym, ap, subst, ◌∙◌, arith, append_assoc, length-append, below_more, Result, Ok}
+use Rattle.std.proofs.Common.{Err, IfErr, IsErrAnd, inl, inr}
 use Rattle.std.proofs.lemmas.Bool.{cases_lt}
 use Rattle.std.proofs.lemmas.List.{append-nil, get_or_append_left, get_or-append_right, get_or-append-add, map_more, length-map, get_or-map}
 use Rattle.std.specs.Str.{chars}
@@ -7,7 +9,8 @@ use Rattle.glob_text.specs.Text.{Text}
 use Rattle.glob_pattern.specs.Matching.Texts.{Matches}
 use Rattle.glob_pattern.specs.declared.options.MatchOptions.{MatchOptions}
 use Rattle.glob_set.specs.Braces.{lexemes, AreAlternatives, IsAlternative, RefusesBraces}
-use Rattle.glob_set.specs.BraceSets.{AreAccepted, AreAlternativesOf, AnyAlternativeMatches, HasPatterns, RefusesText, RefusesBraceTexts, of_alternatives, of_braces}
+use Rattle.glob_set.specs.BraceSets.{AreAccepted, AreAlternativesOf, AnyAlternativeMatches, HasPatterns, RefusesText}
+use Rattle.glob_set.specs.BraceSets.{RefusesBraceTexts, of_alternatives, of_braces}
 use Rattle.glob_set.specs.Sets.{MatchesAt, AnyMatch, RefusesTexts}
 use Rattle.glob_set.specs.declared.error.BraceSetRefusal.{BraceSetRefusal}
 use Rattle.glob_set.specs.declared.error.BraceSetRefusal.TheVariants.{Braces, Pattern, Memory}
@@ -107,13 +110,15 @@ RefusesBraceTexts-at f xs i d below before (Braces n fault) refused =
     let within : i < length (map f xs) = subst (λ k. i < k) (sym (length-map xs f)) below in
     let here : RefusesText (get_or (map f xs) i []) i (Braces n fault) =
     subst (λ t. RefusesText t i (Braces n fault)) (sym (get_or-map f xs i d [] below)) refused in
-    subst (λ k. (k < length (map f xs)) × ((b : ℕ) → b < k → HasPatterns (get_or (map f xs) b [])) × RefusesText (get_or (map f xs) k []) k (Braces n fault))
+    subst (λ k. (k < length (map f xs)) × ((b : ℕ) → b < k → HasPatterns (get_or (map f xs) b [])) × RefusesText
+    (get_or (map f xs) k []) k (Braces n fault))
     (sym refused.0) (within, before, here)
 RefusesBraceTexts-at f xs i d below before (Pattern n alternative e) refused =
     let within : i < length (map f xs) = subst (λ k. i < k) (sym (length-map xs f)) below in
     let here : RefusesText (get_or (map f xs) i []) i (Pattern n alternative e) =
     subst (λ t. RefusesText t i (Pattern n alternative e)) (sym (get_or-map f xs i d [] below)) refused in
-    subst (λ k. (k < length (map f xs)) × ((b : ℕ) → b < k → HasPatterns (get_or (map f xs) b [])) × RefusesText (get_or (map f xs) k []) k (Pattern n alternative e))
+    subst (λ k. (k < length (map f xs)) × ((b : ℕ) → b < k → HasPatterns (get_or (map f xs) b [])) × RefusesText
+    (get_or (map f xs) k []) k (Pattern n alternative e))
     (sym refused.0) (within, before, here)
 RefusesBraceTexts-at f xs i d below before Memory refused = tt
 
@@ -143,13 +148,15 @@ RefusesText-braces text number (braces.Syntax fault) refused = (refl, refused)
 RefusesText-braces text number braces.Memory refused = tt
 
 -- an alternative of a text is refused
-pub RefusesText-alternative : (text : Text) (number : ℕ) (alternatives : List Text) (refusal : SetRefusal) → AreAlternatives (chars text) alternatives
+pub RefusesText-alternative : (text : Text) (number : ℕ) (alternatives : List Text) (refusal : SetRefusal)
+    → AreAlternatives (chars text) alternatives
     → RefusesTexts alternatives refusal → RefusesText text number (of_alternatives number refusal)
 unfolding RefusesText
 RefusesText-alternative text number alternatives (set.Syntax n e) are refused = (refl, (alternatives, are, refused))
 RefusesText-alternative text number alternatives set.Memory are refused = tt
 
 -- the alternatives of a text are accepted
-pub HasPatterns-all : (text : Text) (alternatives : List Text) → AreAlternatives (chars text) alternatives → AreAccepted alternatives → HasPatterns text
+pub HasPatterns-all : (text : Text) (alternatives : List Text) → AreAlternatives (chars text) alternatives
+    → AreAccepted alternatives → HasPatterns text
 unfolding HasPatterns
 HasPatterns-all text alternatives are accepted = (alternatives, are, accepted)

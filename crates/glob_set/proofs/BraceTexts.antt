@@ -1,5 +1,6 @@
--- Lists of texts, text by text.
-use Rattle.std.proofs.Common.{◌≡◌, ℕ, ◌+◌, ◌<◌, List, [], ◌∷◌, ◌++◌, length, get_or, set, map, take, drop, refl, sym, ap, ◌∙◌, arith, append_assoc}
+-- Texts of a list, appended to and joined one after another.
+use Rattle.std.proofs.Common.{◌≡◌, ℕ, ◌+◌, ◌<◌, List, [], ◌∷◌, ◌++◌, length, get_or, set, map, take, drop, refl, sym}
+use Rattle.std.proofs.Common.{ap, ◌∙◌, arith, append_assoc}
 use Rattle.std.proofs.lemmas.List.{append-nil, drop_more, length-map, length-take-le, get_or_at, set_at, map_more, map-set, get_or-map}
 use Rattle.glob_text.specs.Text.{Text}
 use Rattle.glob_set.specs.Braces.{each_with, joined}

@@ -1,4 +1,4 @@
--- Bytes that are read one after the other, from the start of a text or from its end.
+-- Folds over bytes, read forwards or backwards.
 use Rattle.std.proofs.Common.{◌≡◌, ℕ, ◌+◌, ◌<◌, List, [], ◌∷◌, length, take, drop, drop-cons, reverse, get_or, fold, sym, ap, ◌∙◌, add-one}
 use Rattle.std.proofs.lemmas.List.{reverse-append, take_more}
 use Rattle.std.proofs.lemmas.List.Sums.{fold-append}
@@ -11,7 +11,8 @@ fold_more f s now bytes i below is =
     ∙ sym (ap (fold f s) (take_more bytes i 0 below) ∙ fold-append f s (take i bytes) (get_or bytes i 0 ∷ []))
 
 -- one more from the end
-pub fold_back : {S : Type 0} (f : S → ℕ → S) (s now : S) (bytes : List ℕ) (left : ℕ) → left < length bytes → now ≡ fold f s (reverse (drop (left + 1) bytes))
+pub fold_back : {S : Type 0} (f : S → ℕ → S) (s now : S) (bytes : List ℕ) (left : ℕ) → left < length bytes
+    → now ≡ fold f s (reverse (drop (left + 1) bytes))
     → f now (get_or bytes left 0) ≡ fold f s (reverse (drop left bytes))
 fold_back f s now bytes left below is =
     let byte = get_or bytes left 0 in

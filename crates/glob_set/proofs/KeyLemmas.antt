@@ -1,5 +1,8 @@
--- The keys of a pattern are keys of each text that it matches.
-use Rattle.std.proofs.Common.{◌≡◌, ℕ, zero, suc, ◌+◌, ◌*◌, ◌%◌, ◌^◌, ◌<◌, ◌==◌, ◌⊎◌, inl, inr, min, Bool, true, false, cond, List, [], ◌∷◌, ◌++◌, length, take, drop, reverse, get_or, IsTrue, fold, refl, sym, ap, ap₂, subst, ◌∙◌, arith, add-one, chars, encode_utf8, length-append, length-drop, ⊎_elim}
+-- Every text that a pattern matches is looked up by the keys of the pattern.
+use Rattle.std.proofs.Common.{◌≡◌, ℕ, zero, suc, ◌+◌, ◌*◌, ◌%◌, ◌^◌, ◌<◌, ◌==◌, ◌⊎◌, inl, inr, min, Bool, true, false}
+use Rattle.std.proofs.Common.{cond, List, [], ◌∷◌, ◌++◌, length, take, drop, reverse, get_or, IsTrue, fold, refl, sym}
+use Rattle.std.proofs.Common.{ap, ap₂, subst, ◌∙◌, arith, add-one, chars, encode_utf8, length-append, length-drop}
+use Rattle.std.proofs.Common.{⊎_elim}
 use Rattle.std.proofs.lemmas.Bool.{or_cases, and_parts, eq-eqb, eqb-true, ltb-true, cases_lt}
 use Rattle.std.proofs.lemmas.List.{append-nil, take-append-drop, drop_all, reverse-append}
 use Rattle.std.proofs.lemmas.List.Folds.{concat-append}
@@ -48,7 +51,8 @@ piece_at o text k (t ∷ ts) (piece ∷ pieces) (took, form, others) (suc number
     let p = piece_at o text (k + length piece) ts pieces others number (omega arith) in
     record { piece = p.piece; place = p.place; more = ap (λ ps. piece ∷ ps) p.more; rest = p.rest; takes = p.takes; form = p.form }
 
-as_many : (o : MatchOptions) (text : Text) (k : ℕ) (tokens : List Token) (pieces : List Text) → AreAllowed o text k tokens pieces → length pieces ≡ length tokens
+as_many : (o : MatchOptions) (text : Text) (k : ℕ) (tokens : List Token) (pieces : List Text) → AreAllowed o text k
+    tokens pieces → length pieces ≡ length tokens
 as_many o text k [] [] allowed = refl
 as_many o text k [] (piece ∷ pieces) allowed = absurd allowed
 as_many o text k (t ∷ ts) [] allowed = absurd allowed
@@ -87,7 +91,8 @@ same_mark mark low case c x same =
     ⊎_elim
     (λ is. ap (λ y. y == mark) (eqb-true c x is))
     (λ both.
-    let lower = eqb-true (to_ascii_lowercase c) (to_ascii_lowercase x) (and_parts _ (to_ascii_lowercase c == to_ascii_lowercase x) both).1 in
+    let lower = eqb-true (to_ascii_lowercase c) (to_ascii_lowercase x) (and_parts _ (to_ascii_lowercase c ==
+    to_ascii_lowercase x) both).1 in
     let own = (lowercase_is mark).1 low in
     same_bools (c == mark) (x == mark)
     (λ is. eq-eqb x mark (lower_mark x mark low (sym lower ∙ ap to_ascii_lowercase (eqb-true c mark is) ∙ own)))
@@ -118,20 +123,23 @@ same_in_ascii case c x low same =
     let other = encode_ascii x low in
     record {
       as_many = ap length one ∙ sym (ap length other);
-      read = λ k. ap (fold after k) one ∙ after_same k c x (same_mark slash (omega arith) case c x same) bits ∙ sym (ap (fold after k) other);
+      read = λ k. ap (fold after k) one ∙ after_same k c x (same_mark slash (omega arith) case c x same) bits ∙ sym
+          (ap (fold after k) other);
       back = λ hash.
           ap (λ bytes. fold hashed hash (reverse bytes)) one ∙ ap (λ r. (hash * 33 + r) % 2 ^ 32) bits
           ∙ sym (ap (λ bytes. fold hashed hash (reverse bytes)) other);
     }
 
-same_piece : (case : Bool) (piece : Text) (x : ℕ) → length piece ≡ 1 → ((i : ℕ) → i < length piece → IsTrue (is_same case (get_or piece i 0) x))
+same_piece : (case : Bool) (piece : Text) (x : ℕ) → length piece ≡ 1 → ((i : ℕ) → i < length piece → IsTrue
+    (is_same case (get_or piece i 0) x))
     → SameCharacter piece x
 same_piece case [] x one same = absurd (omega arith)
 same_piece case (c ∷ d ∷ cs) x one same = absurd (omega arith)
 same_piece case (c ∷ []) x one same =
     ⊎_elim
     (λ is. same_of_bytes (c ∷ []) x (append-nil (encode_utf8 c) ∙ ap encode_utf8 (eqb-true c x is)))
-    (λ both. same_in_ascii case c x (ltb-true x 128 (and_parts _ (is_ascii x) (and_parts _ (to_ascii_lowercase c == to_ascii_lowercase x) both).0).1) (same 0 (omega arith)))
+    (λ both. same_in_ascii case c x (ltb-true x 128 (and_parts _ (is_ascii x) (and_parts _ (to_ascii_lowercase c ==
+    to_ascii_lowercase x) both).0).1) (same 0 (omega arith)))
     (or_cases (c == x) _ (same 0 (omega arith)))
 
 -- the byte of a piece that is a mark
@@ -179,16 +187,19 @@ module _ (o : MatchOptions) (text : Text) (tokens : List Token) (pieces : List T
       → encode_utf8_all (concat (drop number pieces)) ≡ mark ∷ encode_utf8_all (concat (drop (suc number) pieces))
   bytes_from_mark number mark low is =
       let (p, one, takes) = literal_at number mark is in
-      bytes_from number p ∙ ap (λ bs. bs ++ encode_utf8_all (concat (drop (suc number) pieces))) (mark_bytes mark low o.case_sensitive p.piece one takes)
+      bytes_from number p ∙ ap (λ bs. bs ++ encode_utf8_all (concat (drop (suc number) pieces)))
+      (mark_bytes mark low o.case_sensitive p.piece one takes)
 
-  after_literal : (number x : ℕ) → get_or tokens number AnyChar ≡ Literal x → read (take (suc number) pieces) ≡ fold after (read (take number pieces)) (encode_utf8 x)
+  after_literal : (number x : ℕ) → get_or tokens number AnyChar ≡ Literal x → read (take (suc number) pieces) ≡ fold
+      after (read (take number pieces)) (encode_utf8 x)
   after_literal number x is =
       let (p, same) = same_at number x is in
       ap read p.more ∙ read_more (take number pieces) p.piece ∙ same.read (read (take number pieces))
 
   -- the pieces from that of a literal on have its bytes more
   back_literal : (number x hash len : ℕ) → get_or tokens number AnyChar ≡ Literal x
-      → (length (encode_utf8_all (concat (drop (suc number) pieces))) ≡ len) × (hash_back (encode_utf8_all (concat (drop (suc number) pieces))) ≡ hash)
+      → (length (encode_utf8_all (concat (drop (suc number) pieces))) ≡ len) ×
+      (hash_back (encode_utf8_all (concat (drop (suc number) pieces))) ≡ hash)
       → (length (encode_utf8_all (concat (drop number pieces))) ≡ len + length (encode_utf8 x))
       × (hash_back (encode_utf8_all (concat (drop number pieces))) ≡ fold hashed hash (reverse (encode_utf8 x)))
   back_literal number x hash len is (lengths, hashes) =
@@ -196,7 +207,8 @@ module _ (o : MatchOptions) (text : Text) (tokens : List Token) (pieces : List T
       let piece = encode_utf8_all p.piece in
       let rest = encode_utf8_all (concat (drop (suc number) pieces)) in (
         omega (arith, ap length (bytes_from number p), length-append piece rest, same.as_many, lengths),
-        ap hash_back (bytes_from number p) ∙ ap (fold hashed 0) (reverse-append piece rest) ∙ fold-append hashed 0 (reverse rest) (reverse piece)
+        ap hash_back (bytes_from number p) ∙ ap (fold hashed 0) (reverse-append piece rest) ∙ fold-append hashed 0
+            (reverse rest) (reverse piece)
             ∙ ap (λ h. fold hashed h (reverse piece)) hashes ∙ same.back hash,
       )
 
@@ -204,7 +216,8 @@ module _ (o : MatchOptions) (text : Text) (tokens : List Token) (pieces : List T
       → read (take (suc number) pieces) ≡ start
   after_recursive number more is before =
       let p = piece_at o text 0 tokens pieces allowed number (omega arith) in
-      let form : HasForm Recursive (drop (suc number) tokens) p.piece = subst (λ t. HasForm t (drop (suc number) tokens) p.piece) is p.form in
+      let form : HasForm Recursive (drop (suc number) tokens) p.piece = subst (λ t. HasForm t
+      (drop (suc number) tokens) p.piece) is p.form in
       ap read p.more ∙ read_more (take number pieces) p.piece ∙ ap (λ c. fold after c (encode_utf8_all p.piece)) before
       ∙ read_recursive p.piece
       (⊎_elim (λ last. absurd (omega (arith, more, ap length last, length-drop (suc number) tokens))) (λ ends. ends) form)
@@ -224,7 +237,8 @@ unfolding IsReadAt HasLiteral read
 IsReadAt-literal pattern number x component literal before =
     subst (λ n. IsReadAt pattern n (fold after component (encode_utf8 x))) (sym (add-one number))
     (λ o tokens text pieces has allowed.
-    after_literal o text tokens pieces allowed number x (literal tokens has) ∙ ap (λ c. fold after c (encode_utf8 x)) (before o tokens text pieces has allowed))
+    after_literal o text tokens pieces allowed number x (literal tokens has) ∙ ap (λ c. fold after c (encode_utf8 x))
+    (before o tokens text pieces has allowed))
 
 -- after `/` a component starts
 pub IsReadAt-separator : (pattern : Text) (number : ℕ) → HasLiteral (chars pattern) number slash → IsReadAt pattern (number + 1) start
@@ -232,7 +246,8 @@ unfolding IsReadAt HasLiteral read
 IsReadAt-separator pattern number literal =
     subst (λ n. IsReadAt pattern n start) (sym (add-one number))
     (λ o tokens text pieces has allowed.
-    after_literal o text tokens pieces allowed number slash (literal tokens has) ∙ ap (fold after (read (take number pieces))) (encode_ascii slash (omega arith)))
+    after_literal o text tokens pieces allowed number slash (literal tokens has) ∙ ap
+    (fold after (read (take number pieces))) (encode_ascii slash (omega arith)))
 
 pub IsReadAt-recursive : (pattern : Text) (number : ℕ) → IsInnerRecursive (chars pattern) number → IsReadAt pattern number start
     → IsReadAt pattern (number + 1) start
@@ -257,12 +272,14 @@ back_of number pieces = encode_utf8_all (concat (drop number pieces))
 parts : (number : ℕ) (pieces : List Text) (bytes : List ℕ) → IsUtf8 bytes → concat pieces ≡ chars bytes
     → bytes ≡ front_of number pieces ++ back_of number pieces
 parts number pieces bytes utf8 are =
-    sym (encodes-chars bytes utf8) ∙ ap encode_utf8_all (sym are ∙ sym (ap concat (take-append-drop number pieces)) ∙ concat-append (take number pieces) (drop number pieces))
+    sym (encodes-chars bytes utf8) ∙ ap encode_utf8_all (sym are ∙ sym (ap concat (take-append-drop number pieces))
+    ∙ concat-append (take number pieces) (drop number pieces))
     ∙ encodes-append (concat (take number pieces)) (concat (drop number pieces))
 
 -- What is a key of the bytes of all pieces, in two parts at a number, is one of the pattern.
 key_of_parts : (pattern : Text) (number : ℕ) (key : Key)
-    → ((o : MatchOptions) (tokens : List Token) (text : Text) (pieces : List Text) → HasTokens (chars pattern) tokens → AreAllowed o text 0 tokens pieces
+    → ((o : MatchOptions) (tokens : List Token) (text : Text) (pieces : List Text) → HasTokens (chars pattern) tokens
+    → AreAllowed o text 0 tokens pieces
     → IsKeyOf (front_of number pieces ++ back_of number pieces) key)
     → HasKey pattern key
 unfolding HasKey
@@ -272,12 +289,20 @@ key_of_parts pattern number key here =
     let (pieces, are, allowed) = pieces_of_match o tokens (chars bytes) match in
     subst (λ bs. IsKeyOf bs key) (sym (parts number pieces bytes utf8 are)) (here o tokens (chars bytes) pieces has allowed)
 
-pub HasKey-beginning : (pattern : Text) (number : ℕ) (component : Component) → IsReadAt pattern number component → HasKey pattern (Beginning component.hash component.len)
+pub HasKey-beginning : (pattern : Text) (number : ℕ) (component : Component) → IsReadAt pattern number component
+    → HasKey pattern (Beginning component.hash component.len)
 unfolding IsReadAt
 HasKey-beginning pattern number component before =
-    key_of_parts pattern number _ (λ o tokens text pieces has allowed. inl (front_of number pieces, back_of number pieces, refl, before o tokens text pieces has allowed))
+    key_of_parts pattern number _ (λ o tokens text pieces has allowed. inl (
+      front_of number pieces,
+      back_of number
+          pieces,
+      refl,
+      before o tokens text pieces has allowed,
+    ))
 
-pub HasKey-separator : (pattern : Text) (number : ℕ) (component : Component) → HasLiteral (chars pattern) number slash → IsReadAt pattern number component
+pub HasKey-separator : (pattern : Text) (number : ℕ) (component : Component) → HasLiteral (chars pattern) number slash
+    → IsReadAt pattern number component
     → HasKey pattern (variant.Component component.hash)
 unfolding IsReadAt HasLiteral
 HasKey-separator pattern number component literal before =
@@ -287,11 +312,13 @@ HasKey-separator pattern number component literal before =
       front_of number pieces,
       back_of number pieces,
       refl,
-      subst (λ bs. IsTrue (is_end bs)) (sym (bytes_from_mark o text tokens pieces allowed number slash (omega arith) (literal tokens has))) refl,
+      subst (λ bs. IsTrue (is_end bs)) (sym (bytes_from_mark o text tokens pieces allowed number slash (omega arith)
+          (literal tokens has))) refl,
       ap (λ (c : Component). c.hash) (before o tokens text pieces has allowed),
     ))
 
-pub HasKey-end : (pattern : Text) (count : ℕ) (component : Component) → HasCount (chars pattern) count → IsReadAt pattern count component → HasKey pattern (variant.Component component.hash)
+pub HasKey-end : (pattern : Text) (count : ℕ) (component : Component) → HasCount (chars pattern) count
+    → IsReadAt pattern count component → HasKey pattern (variant.Component component.hash)
 unfolding IsReadAt HasCount
 HasKey-end pattern count component counted before =
     key_of_parts pattern count _
@@ -300,7 +327,8 @@ HasKey-end pattern count component counted before =
       front_of count pieces,
       back_of count pieces,
       refl,
-      subst (λ ps. IsTrue (is_end (encode_utf8_all (concat ps)))) (sym (none_from o text tokens pieces allowed count (counted tokens has))) refl,
+      subst (λ ps. IsTrue (is_end (encode_utf8_all (concat ps)))) (sym (none_from o text tokens pieces allowed count
+          (counted tokens has))) refl,
       ap (λ (c : Component). c.hash) (before o tokens text pieces has allowed),
     ))
 
@@ -311,7 +339,8 @@ IsReadBack-end pattern count counted =
     subst (λ ps. (length (encode_utf8_all (concat ps)) ≡ 0) × (hash_back (encode_utf8_all (concat ps)) ≡ 0))
     (sym (none_from o text tokens pieces allowed count (counted tokens has))) (refl, refl)
 
-pub IsReadBack-literal : (pattern : Text) (number hash len x : ℕ) → HasLiteral (chars pattern) number x → IsReadBack pattern (number + 1) hash len
+pub IsReadBack-literal : (pattern : Text) (number hash len x : ℕ) → HasLiteral (chars pattern) number x
+    → IsReadBack pattern (number + 1) hash len
     → IsReadBack pattern number (fold hashed hash (reverse (encode_utf8 x))) (len + length (encode_utf8 x))
 unfolding IsReadBack HasLiteral
 IsReadBack-literal pattern number hash len x literal read =
@@ -327,7 +356,8 @@ HasKey-ending pattern number hash len read =
     let (lengths, hashes) = read o tokens text pieces has allowed in
     inr (front_of number pieces, back_of number pieces, refl, lengths, hashes))
 
-pub HasKey-extension : (pattern : Text) (number hash len : ℕ) → HasLiteral (chars pattern) number dot → IsReadBack pattern (number + 1) hash len
+pub HasKey-extension : (pattern : Text) (number hash len : ℕ) → HasLiteral (chars pattern) number dot
+    → IsReadBack pattern (number + 1) hash len
     → HasKey pattern (Extension hash len)
 unfolding IsReadBack HasLiteral
 HasKey-extension pattern number hash len literal read =
@@ -357,5 +387,6 @@ pub IsInnerRecursive-of : (pattern : Text) (tokens : List Token) (number : ℕ) 
     → kind_of (get_or tokens number AnyChar) ≡ kind.Recursive → IsInnerRecursive pattern number
 unfolding IsInnerRecursive
 IsInnerRecursive-of pattern tokens number has more is =
-    λ others read. subst (λ ts. (number + 1 < length ts) × (get_or ts number AnyChar ≡ Recursive)) (one_reading pattern tokens others has read)
+    λ others read. subst (λ ts. (number + 1 < length ts) × (get_or ts number AnyChar ≡ Recursive))
+    (one_reading pattern tokens others has read)
     (more, kind_recursive (get_or tokens number AnyChar) is)

@@ -1,5 +1,6 @@
--- Patterns by the slots of their keys, and those that are found by a key.
-use Rattle.std.proofs.Common.{◌≡◌, ℕ, ◌+◌, ◌<◌, ◌⊎◌, inl, inr, List, [], ◌∷◌, ◌++◌, length, get_or, Option, Some, None, IsSomeAnd, IsTrue, IsPermutation, Contains, refl, sym, ap, subst, ◌∙◌, arith, ⊎_elim}
+-- Finding patterns in the hash table of their keys.
+use Rattle.std.proofs.Common.{◌≡◌, ℕ, ◌+◌, ◌<◌, ◌⊎◌, inl, inr, List, [], ◌∷◌, ◌++◌, length, get_or, Option, Some, None}
+use Rattle.std.proofs.Common.{IsSomeAnd, IsTrue, IsPermutation, Contains, refl, sym, ap, subst, ◌∙◌, arith, ⊎_elim}
 use Rattle.std.proofs.lemmas.Bool.{cases_eq, cases_lt}
 use Rattle.std.proofs.lemmas.List.Elements.{Contains-append_left, Contains-push}
 use Rattle.std.proofs.lemmas.List.Sorted.{Contains-permutation}
@@ -12,10 +13,12 @@ unfolding KeepsAll
 KeepsAll-same found k keeps = keeps
 
 -- a number is added, or has no room
-pub KeepsAll-pushed : (old new : FoundNumbers) (number : ℕ) → new.items ≡ old.items ++ number ∷ [] → new.is_full ≡ old.is_full → KeepsAll old new
+pub KeepsAll-pushed : (old new : FoundNumbers) (number : ℕ) → new.items ≡ old.items ++ number ∷ [] → new.is_full ≡
+    old.is_full → KeepsAll old new
 unfolding KeepsAll
 KeepsAll-pushed old new number more full k keeps =
-    ⊎_elim (λ is. inl (full ∙ is)) (λ has. inr (subst (λ ks. Contains ks k) (sym more) (Contains-append_left old.items (number ∷ []) k has))) keeps
+    ⊎_elim (λ is. inl (full ∙ is)) (λ has. inr (subst (λ ks. Contains ks k) (sym more) (Contains-append_left old.items
+    (number ∷ []) k has))) keeps
 
 pub Keeps-pushed : (old new : FoundNumbers) (number : ℕ) → new.items ≡ old.items ++ number ∷ [] → Keeps new number
 Keeps-pushed old new number more = inr (subst (λ ks. Contains ks number) (sym more) (Contains-push old.items number))
@@ -45,12 +48,14 @@ KeepsAll-at a b k all keeps = all k keeps
 
 -- each pattern whose key has the hash is found, as far as all of its slot have been looked at
 pub Finds-one : (keys : List (Option Key)) (hash : ℕ) (found : FoundNumbers)
-    → ((number : ℕ) → number < length keys → IsSomeAnd (get_or keys number None) (HasHash hash) → Keeps found number) → Finds keys (HasHash hash) found
+    → ((number : ℕ) → number < length keys → IsSomeAnd (get_or keys number None) (HasHash hash) → Keeps found number)
+    → Finds keys (HasHash hash) found
 unfolding Finds
 Finds-one keys hash found each number key below is has = each number below (subst (λ o. IsSomeAnd o (HasHash hash)) (sym is) has)
 
 -- what has been found stays
-pub keeps_finding : (keys : List (Option Key)) (asked : Key → Type 0) (old new : FoundNumbers) → KeepsAll old new → Finds keys asked old → Finds keys asked new
+pub keeps_finding : (keys : List (Option Key)) (asked : Key → Type 0) (old new : FoundNumbers) → KeepsAll old new
+    → Finds keys asked old → Finds keys asked new
 unfolding Finds
 keeps_finding keys asked old new all finds number key below is has = KeepsAll-at old new number all (finds number key below is has)
 
@@ -75,10 +80,12 @@ seen_next keys slots hash number next found seen here is k below within has =
 
 pub seen_first : (keys : List (Option Key)) (slots hash next : ℕ) (found : FoundNumbers) → IsNext keys slots (slot_of hash slots) 0 next
     → (k : ℕ) → k < next → k < length keys → IsSomeAnd (get_or keys k None) (HasHash hash) → Keeps found k
-seen_first keys slots hash next found is k below within has = absurd (is.between k (omega arith) below (slot_has slots hash (get_or keys k None) has))
+seen_first keys slots hash next found is k below within has = absurd (is.between k (omega arith) below
+    (slot_has slots hash (get_or keys k None) has))
 
 -- what is found for a component or for the extension, in any order
-pub Finds-both : (keys : List (Option Key)) (one other : Key → Type 0) (first second sorted : FoundNumbers) → Finds keys one first → KeepsAll first second
+pub Finds-both : (keys : List (Option Key)) (one other : Key → Type 0) (first second sorted : FoundNumbers)
+    → Finds keys one first → KeepsAll first second
     → Finds keys other second → IsPermutation second.items sorted.items → sorted.is_full ≡ second.is_full
     → Finds keys (λ key. one key ⊎ other key) sorted
 unfolding Finds
@@ -86,4 +93,5 @@ Finds-both keys one other first second sorted finds kept more permutation full n
     ⊎_elim
     (λ room. inl (full ∙ room))
     (λ here. inr (Contains-permutation second.items sorted.items number permutation here))
-    (⊎_elim (λ is_one. KeepsAll-at first second number kept (finds number key below is is_one)) (λ is_other. more number key below is is_other) has)
+    (⊎_elim (λ is_one. KeepsAll-at first second number kept (finds number key below is is_one))
+    (λ is_other. more number key below is is_other) has)

@@ -1,4 +1,4 @@
--- The kinds of keys, as they are gathered.
+-- Collecting the kinds of keys.
 use Rattle.std.proofs.Common.{◌≡◌, ℕ, ◌≤◌, Option, Some, None, IfSome, IsTrue, bit_or, sym, ap, subst, ◌∙◌, arith}
 use Rattle.std.specs.Int.Bits.{or_self}
 use Rattle.std.proofs.lemmas.Nat.{or_comm}
@@ -23,9 +23,11 @@ lengths_more old more len is =
     ∙ ap (λ lengths. bit_or lengths more) is
 
 pub length_added : (old bit len : ℕ) → bit ≡ length_bit len → HasLength (bit_or old bit) len
-length_added old bit len is = subst (λ more. HasLength (bit_or old more) len) (sym is) (or_assoc old (length_bit len) (length_bit len) ∙ ap (bit_or old) (or_self (length_bit len)))
+length_added old bit len is = subst (λ more. HasLength (bit_or old more) len) (sym is) (or_assoc old (length_bit len)
+    (length_bit len) ∙ ap (bit_or old) (or_self (length_bit len)))
 
-pub kinds_grow : (old new : Kinds) → (IsTrue old.components → IsTrue new.components) → KeepsLengths old.beginnings new.beginnings → KeepsLengths old.endings new.endings
+pub kinds_grow : (old new : Kinds) → (IsTrue old.components → IsTrue new.components) → KeepsLengths old.beginnings
+    new.beginnings → KeepsLengths old.endings new.endings
     → old.longest ≤ new.longest → KeepsKinds old new
 unfolding KeepsKinds
 kinds_grow old new components beginnings endings longer = of

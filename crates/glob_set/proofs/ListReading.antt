@@ -1,5 +1,7 @@
--- What a pattern of a list answers, and the first match of the list.
-use Rattle.std.proofs.Common.{◌≡◌, ℕ, suc, ◌<◌, ◌↔◌, Bool, true, false, List, [], ◌∷◌, ◌++◌, length, get_or, Option, Some, None, IfSome, IsSomeAnd, cond, IsTrue, bit_or, Result, Ok, Err, IfOk, sym, ap, subst, ◌∙◌, refl}
+-- The answer of a pattern of a set, and the first match of the set.
+use Rattle.std.proofs.Common.{◌≡◌, ℕ, suc, ◌<◌, ◌↔◌, Bool, true, false, List, [], ◌∷◌, ◌++◌, length, get_or, Option}
+use Rattle.std.proofs.Common.{Some, None, IfSome, IsSomeAnd, cond, IsTrue, bit_or, Result, Ok, Err, IfOk, sym, ap}
+use Rattle.std.proofs.Common.{subst, ◌∙◌, refl}
 use Rattle.std.proofs.lemmas.List.{get_or_default}
 use Rattle.std.proofs.lemmas.Bool.{false≢true}
 use Rattle.std.specs.Option.{is_some}
@@ -18,7 +20,7 @@ not_true true not = absurd (not refl)
 not_true false not = refl
 
 module _ (o : MatchOptions) (patterns : List Text) (text : Text) where
-  -- the pattern of a number that is none does not match
+  -- a number without a pattern has no match
   pub within_patterns : (k : ℕ) → MatchesAt o patterns text k → k < length patterns
   unfolding MatchesAt
   within_patterns k at = at.0
@@ -43,21 +45,27 @@ module _ (o : MatchOptions) (patterns : List Text) (text : Text) where
       )
 
   -- a text that lacks bits of the pattern does not match it
-  pub MatchesAt-not : (needs : List Need) (number : ℕ) (need : Need) (bits : Option ℕ) → AreNeeds patterns needs → IsUtf8 text → need ≡ get_or needs number need
-      → IfSome bits (λ known. known ≡ text_bits text) → IsSomeAnd bits (λ known. ¬ (bit_or need.bits known ≡ known)) → ¬ (MatchesAt o patterns text number)
+  pub MatchesAt-not : (needs : List Need) (number : ℕ) (need : Need) (bits : Option ℕ) → AreNeeds patterns needs
+      → IsUtf8 text → need ≡ get_or needs number need
+      → IfSome bits (λ known. known ≡ text_bits text) → IsSomeAnd bits (λ known. ¬ (bit_or need.bits known ≡ known))
+      → ¬ (MatchesAt o patterns text number)
   unfolding MatchesAt HasBits
   MatchesAt-not needs number need None needed utf8 is are lacks at = absurd lacks
   MatchesAt-not needs number need (Some known) needed utf8 is are lacks at =
-      let own : IsNeed (get_or patterns number []) need = subst (IsNeed (get_or patterns number [])) (sym is) (needed.each number need at.0) in
+      let own : IsNeed (get_or patterns number []) need = subst (IsNeed (get_or patterns number [])) (sym is)
+      (needed.each number need at.0) in
       lacks (subst (λ b. bit_or need.bits b ≡ b) (sym are) (own.bits o text utf8 at.1))
 
   -- the computed matches grow by a number
-  pub matches_below-yes : (n : ℕ) → MatchesAt o patterns text n → matches_below o patterns text (suc n) ≡ matches_below o patterns text n ++ n ∷ []
+  pub matches_below-yes : (n : ℕ) → MatchesAt o patterns text n → matches_below o patterns text (suc n) ≡ matches_below
+      o patterns text n ++ n ∷ []
   unfolding MatchesAt
   matches_below-yes n at =
-      ap (λ b. cond b (matches_below o patterns text n ++ n ∷ []) (matches_below o patterns text n)) ((match_decided o (chars (get_or patterns n [])) (chars text)).1 at.1)
+      ap (λ b. cond b (matches_below o patterns text n ++ n ∷ []) (matches_below o patterns text n))
+      ((match_decided o (chars (get_or patterns n [])) (chars text)).1 at.1)
 
-  pub matches_below-no : (n : ℕ) → n < length patterns → ¬ (MatchesAt o patterns text n) → matches_below o patterns text (suc n) ≡ matches_below o patterns text n
+  pub matches_below-no : (n : ℕ) → n < length patterns → ¬ (MatchesAt o patterns text n) → matches_below o patterns
+      text (suc n) ≡ matches_below o patterns text n
   unfolding MatchesAt
   matches_below-no n below not_at =
       ap (λ b. cond b (matches_below o patterns text n ++ n ∷ []) (matches_below o patterns text n))
@@ -77,4 +85,8 @@ IfOk-follow (Err e) P Q follows known = tt
 pub AnyMatch-iff : (o : MatchOptions) (patterns : List Text) (text : Text) (first : Option ℕ) (b : Bool) → b ≡ is_some first
     → FirstMatch o patterns text first → IsTrue b ↔ AnyMatch o patterns text
 AnyMatch-iff o patterns text (Some number) b is first = (λ _. AnyMatch-Some o patterns text number first, λ _. is)
-AnyMatch-iff o patterns text None b is none = (λ t. absurd (false≢true (sym is ∙ t)), λ any. absurd (AnyMatch-None o patterns text none any))
+AnyMatch-iff o patterns text None b is none = (
+  λ t. absurd (false≢true (sym is ∙ t)),
+  λ any. absurd
+      (AnyMatch-None o patterns text none any),
+)

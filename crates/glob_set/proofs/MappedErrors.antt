@@ -1,4 +1,4 @@
--- What a call says of its result, where `map_err` makes another error of its own.
+-- What `map_err` keeps of a call's result, and what it says of the new error.
 use Rattle.std.proofs.Common.{◌≡◌, Result, Ok, Err, IfOk, IfErr, IsErrAnd, MatchResult}
 
 -- the value is that of the call

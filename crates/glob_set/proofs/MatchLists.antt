@@ -1,8 +1,11 @@
--- Ascending lists with the same numbers are equal, so that the numbers of the matches are known by which they are.
-use Rattle.std.proofs.Common.{◌≡◌, ℕ, zero, suc, ◌<◌, ◌≤◌, ◌⊎◌, ◌↔◌, inl, inr, Bool, true, false, IsTrue, IsPermutation, IsSorted, nat_cmp, nat_eq, chars, List, [], ◌∷◌, ◌++◌, length, take, get_or, Contains, AllPairs, refl, sym, ap₂, subst, ◌∙◌, arith, ⊎_elim}
+-- Ascending lists with the same numbers are equal, so that sorting the numbers of all matches gives the promised list.
+use Rattle.std.proofs.Common.{◌≡◌, ℕ, zero, suc, ◌<◌, ◌≤◌, ◌⊎◌, ◌↔◌, inl, inr, Bool, true, false, IsTrue, IsPermutation}
+use Rattle.std.proofs.Common.{IsSorted, nat_cmp, nat_eq, chars, List, [], ◌∷◌, ◌++◌, length, take, get_or, Contains}
+use Rattle.std.proofs.Common.{AllPairs, refl, sym, ap₂, subst, ◌∙◌, arith, ⊎_elim}
 use Rattle.std.proofs.lemmas.Bool.{cases_lt, false≢true}
 use Rattle.std.proofs.lemmas.List.{take-append-le, take_all}
-use Rattle.std.proofs.lemmas.List.Elements.{All-contains, All-contains_itself, Contains-get_or, Contains-append_left, Contains-push, Contains-push_cases}
+use Rattle.std.proofs.lemmas.List.Elements.{All-contains, All-contains_itself, Contains-get_or, Contains-append_left}
+use Rattle.std.proofs.lemmas.List.Elements.{Contains-push, Contains-push_cases}
 use Rattle.std.proofs.lemmas.List.Kept.{AllPairs-from_increasing, Contains-dedup_nat, Contains-from_dedup}
 use Rattle.std.proofs.lemmas.List.Filters.{dedup_is}
 use Rattle.std.proofs.lemmas.List.Sorted.{All-permutation, Contains-permutation}
@@ -63,8 +66,10 @@ same_members (x ∷ xs) (y ∷ ys) up_x up_y to from =
     (cons_cases y ys x (to x (head_of x xs))) in
     ap₂ (λ h t. h ∷ t) same
     (same_members xs ys (ascends_tail x xs up_x) (ascends_tail y ys up_y)
-    (λ k has. ⊎_elim (λ e. absurd (omega (arith, e, same, above_head x xs up_x k has))) (λ other. other) (cons_cases y ys k (to k (tail_of x xs k has))))
-    (λ k has. ⊎_elim (λ e. absurd (omega (arith, e, same, above_head y ys up_y k has))) (λ other. other) (cons_cases x xs k (from k (tail_of y ys k has)))))
+    (λ k has. ⊎_elim (λ e. absurd (omega (arith, e, same, above_head x xs up_x k has))) (λ other. other)
+    (cons_cases y ys k (to k (tail_of x xs k has))))
+    (λ k has. ⊎_elim (λ e. absurd (omega (arith, e, same, above_head y ys up_y k has))) (λ other. other)
+    (cons_cases x xs k (from k (tail_of y ys k has)))))
 
 -- the numbers below n of the matches, as their list has them
 record MatchesBelow (o : MatchOptions) (patterns : List Text) (text : Text) (n : ℕ) (numbers : List ℕ) : Type 0 where
@@ -76,17 +81,21 @@ record MatchesBelow (o : MatchOptions) (patterns : List Text) (text : Text) (n :
 module _ (o : MatchOptions) (patterns : List Text) (text : Text) where
   decided : (n : ℕ) → n < length patterns → MatchesAt o patterns text n ⊎ ¬ (MatchesAt o patterns text n)
   unfolding MatchesAt
-  decided n below = of (is_match o (chars (get_or patterns n [])) (chars text)) (match_decided o (chars (get_or patterns n [])) (chars text))
+  decided n below = of (is_match o (chars (get_or patterns n [])) (chars text)) (match_decided o
+      (chars (get_or patterns n [])) (chars text))
     where
       of : (b : Bool) → IsTrue b ↔ Matches o (chars (get_or patterns n [])) (chars text)
-          → ((n < length patterns) × Matches o (chars (get_or patterns n [])) (chars text)) ⊎ ¬ ((n < length patterns) × Matches o (chars (get_or patterns n [])) (chars text))
+          → ((n < length patterns) × Matches o (chars (get_or patterns n [])) (chars text)) ⊎ ¬ ((n < length patterns)
+          × Matches o (chars (get_or patterns n [])) (chars text))
       of true answer = inl (below, answer.0 refl)
       of false answer = inr (λ at. false≢true (answer.1 at.1))
 
-  with_next : (n : ℕ) (numbers : List ℕ) → MatchesAt o patterns text n → MatchesBelow o patterns text n numbers → MatchesBelow o patterns text (suc n) (numbers ++ n ∷ [])
+  with_next : (n : ℕ) (numbers : List ℕ) → MatchesAt o patterns text n → MatchesBelow o patterns text n numbers
+      → MatchesBelow o patterns text (suc n) (numbers ++ n ∷ [])
   with_next n numbers at m = record {
     up = all_pairs_push (λ x y. x < y) numbers n m.up (λ k d under. m.below (get_or numbers k d) (Contains-get_or numbers k d under));
-    below = λ k has. ⊎_elim (λ old. let e : k < n = m.below k old in omega (arith, e)) (λ new. omega (arith, new)) (Contains-push_cases numbers n k has);
+    below = λ k has. ⊎_elim (λ old. let e : k < n = m.below k old in omega (arith, e)) (λ new. omega (arith, new))
+        (Contains-push_cases numbers n k has);
     only = λ k has. ⊎_elim (m.only k) (λ new. subst (MatchesAt o patterns text) new at) (Contains-push_cases numbers n k has);
     all = λ k under here.
         ⊎_elim
@@ -95,7 +104,8 @@ module _ (o : MatchOptions) (patterns : List Text) (text : Text) where
         (cases_lt k n);
   }
 
-  without_next : (n : ℕ) (numbers : List ℕ) → ¬ (MatchesAt o patterns text n) → MatchesBelow o patterns text n numbers → MatchesBelow o patterns text (suc n) numbers
+  without_next : (n : ℕ) (numbers : List ℕ) → ¬ (MatchesAt o patterns text n) → MatchesBelow o patterns text n numbers
+      → MatchesBelow o patterns text (suc n) numbers
   without_next n numbers not m = record {
     up = m.up;
     below = λ k has. let e : k < n = m.below k has in omega (arith, e);
@@ -116,22 +126,29 @@ module _ (o : MatchOptions) (patterns : List Text) (text : Text) where
   }
   are_below (suc n) within =
       ⊎_elim
-      (λ at. subst (MatchesBelow o patterns text (suc n)) (sym (matches_below-yes o patterns text n at)) (with_next n (matches_below o patterns text n) at (are_below n (omega (arith, within)))))
-      (λ not. subst (MatchesBelow o patterns text (suc n)) (sym (matches_below-no o patterns text n (omega (arith, within)) not)) (without_next n (matches_below o patterns text n) not (are_below n (omega (arith, within)))))
+      (λ at. subst (MatchesBelow o patterns text (suc n)) (sym (matches_below-yes o patterns text n at))
+      (with_next n (matches_below o patterns text n) at (are_below n (omega (arith, within)))))
+      (λ not. subst (MatchesBelow o patterns text (suc n)) (sym (matches_below-no o patterns text n
+      (omega (arith, within)) not)) (without_next n (matches_below o patterns text n) not
+      (are_below n (omega (arith, within)))))
       (decided n (omega (arith, within)))
 
   -- the numbers of the matches, in any order, after a sort and without repetitions
-  pub all_matches-sorted : (pushed sorted new : List ℕ) → AreMatches o patterns text pushed → IsPermutation pushed sorted → IsSorted nat_cmp sorted
+  pub all_matches-sorted : (pushed sorted new : List ℕ) → AreMatches o patterns text pushed → IsPermutation pushed
+      sorted → IsSorted nat_cmp sorted
       → IsFiltered (DiffersFromLast nat_eq) [] sorted new → new ≡ all_matches o patterns text
   unfolding AreMatches all_matches Among
   all_matches-sorted pushed sorted new are permutation order filtered =
       let m = are_below (length patterns) (omega arith) in
       let deduped : new ≡ dedup nat_eq sorted = dedup_is nat_eq sorted new filtered in
-      let up : Ascends new = subst Ascends (sym deduped) (AllPairs-from_increasing (dedup nat_eq sorted) (IsStrictlyIncreasing-dedup sorted order)) in
+      let up : Ascends new = subst Ascends (sym deduped) (AllPairs-from_increasing (dedup nat_eq sorted)
+      (IsStrictlyIncreasing-dedup sorted order)) in
       let back : (k : ℕ) → Contains sorted k → Contains pushed k =
-      λ k has. All-contains (Contains pushed) sorted k (All-permutation (Contains pushed) pushed sorted permutation (All-contains_itself pushed)) has in
+      λ k has. All-contains (Contains pushed) sorted k (All-permutation (Contains pushed) pushed sorted permutation
+      (All-contains_itself pushed)) has in
       same_members new (matches_below o patterns text (length patterns)) up m.up
       (λ k has.
       let at = are.0 k (back k (Contains-from_dedup nat_eq sorted k (subst (λ ks. Contains ks k) deduped has))) in
       m.all k (within_patterns o patterns text k at) at)
-      (λ k has. subst (λ ks. Contains ks k) (sym deduped) (Contains-dedup_nat sorted k (Contains-permutation pushed sorted k permutation (are.1 k (m.only k has)))))
+      (λ k has. subst (λ ks. Contains ks k) (sym deduped) (Contains-dedup_nat sorted k (Contains-permutation pushed
+      sorted k permutation (are.1 k (m.only k has)))))

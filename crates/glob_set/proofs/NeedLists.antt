@@ -1,5 +1,7 @@
--- The needs of the patterns of a list, as they are gathered.
-use Rattle.std.proofs.Common.{◌≡◌, ◌≢◌, ℕ, ◌+◌, ◌<◌, List, [], ◌∷◌, ◌++◌, length, get_or, Option, Some, None, IfSome, IsSomeAnd, MatchOption, chars, sym, ap, subst, ◌∙◌, arith, below_more, length-append, bit_or}
+-- Collecting what patterns need of a text.
+use Rattle.std.proofs.Common.{◌≡◌, ◌≢◌, ℕ, ◌+◌, ◌<◌, List, [], ◌∷◌, ◌++◌, length, get_or, Option, Some, None, IfSome}
+use Rattle.std.proofs.Common.{IsSomeAnd, MatchOption, chars, sym, ap, subst, ◌∙◌, arith, below_more, length-append}
+use Rattle.std.proofs.Common.{bit_or}
 use Rattle.std.proofs.lemmas.List.{get_or_default, get_or_push, get_or_append_left}
 use Rattle.std.specs.Str.{IsUtf8}
 use Rattle.glob_pattern.specs.Matching.Literals.{HasCount}
@@ -16,7 +18,8 @@ pub needs_more : (patterns : List Text) (needs new : List Need) (i : ℕ) (patte
     → (k : ℕ) (d : Need) → k < i + 1 → IsNeed (get_or patterns k []) (get_or new k d)
 needs_more patterns needs new i pattern need each as_many below is needed more k d =
     below_more (λ k. IsNeed (get_or patterns k []) (get_or new k d)) i
-    (λ k under. subst (IsNeed (get_or patterns k [])) (sym (ap (λ ns. get_or ns k d) more ∙ get_or_append_left needs (need ∷ []) d k (omega arith))) (each k d under))
+    (λ k under. subst (IsNeed (get_or patterns k [])) (sym (ap (λ ns. get_or ns k d) more ∙ get_or_append_left needs
+    (need ∷ []) d k (omega arith))) (each k d under))
     (subst (IsNeed (get_or patterns i [])) (sym (ap (λ ns. get_or ns i d) more ∙ get_or_push needs need d i as_many))
     (subst (λ p. IsNeed p need) (is ∙ get_or_default patterns i pattern [] below) needed)) k
 
@@ -37,16 +40,19 @@ HasBits-none pattern = λ o bytes utf8 matches. within_zero _
 
 pub HasBits-more : (pattern : Text) (bits more : ℕ) → HasBits pattern bits → HasBits pattern more → HasBits pattern (bit_or bits more)
 unfolding HasBits
-HasBits-more pattern bits more first second = λ o bytes utf8 matches. within_both bits more _ (first o bytes utf8 matches) (second o bytes utf8 matches)
+HasBits-more pattern bits more first second = λ o bytes utf8 matches. within_both bits more _
+    (first o bytes utf8 matches) (second o bytes utf8 matches)
 
 -- the bits with those of a pair, if there is one
 pub HasBits-with : (pattern : Text) (number bits new : ℕ) (class : Option ℕ) → HasBits pattern bits → IfSome class (IsPairAt pattern number)
     → MatchOption class (new ≡ bits) (λ k. new ≡ bit_or bits (class_bit k)) → HasBits pattern new
 HasBits-with pattern number bits new None has pair is = subst (HasBits pattern) (sym is) has
-HasBits-with pattern number bits new (Some k) has pair is = subst (HasBits pattern) (sym is) (HasBits-more pattern bits (class_bit k) has pair.bits)
+HasBits-with pattern number bits new (Some k) has pair is = subst (HasBits pattern) (sym is) (HasBits-more pattern bits
+    (class_bit k) has pair.bits)
 
 -- the class of the last pair
-pub HasClass-last : (pattern : Text) (number : ℕ) (class : Option ℕ) → IfSome class (IsPairAt pattern number) → HasCount (chars pattern) (number + 1)
+pub HasClass-last : (pattern : Text) (number : ℕ) (class : Option ℕ) → IfSome class (IsPairAt pattern number)
+    → HasCount (chars pattern) (number + 1)
     → IfSome class (HasClass pattern)
 HasClass-last pattern number None pair count = tt
 HasClass-last pattern number (Some k) pair count = pair.last count

@@ -1,5 +1,6 @@
--- The bits of neighbours in a text.
-use Rattle.std.proofs.Common.{◌≡◌, ℕ, zero, suc, ◌+◌, ◌<◌, List, [], ◌∷◌, ◌++◌, length, get_or, drop, drop-cons, max, bit_or, refl, sym, ap, subst, ◌∙◌, arith, add-one}
+-- The bits of neighbouring bytes of a text.
+use Rattle.std.proofs.Common.{◌≡◌, ℕ, zero, suc, ◌+◌, ◌<◌, List, [], ◌∷◌, ◌++◌, length, get_or, drop, drop-cons, max}
+use Rattle.std.proofs.Common.{bit_or, refl, sym, ap, subst, ◌∙◌, arith, add-one}
 use Rattle.std.specs.Int.{bit_at}
 use Rattle.std.specs.Int.Bits.{or_self, or_zero_l}
 use Rattle.std.proofs.lemmas.Nat.{or_comm}
@@ -33,13 +34,17 @@ within_both a b c h i = or_assoc a b c ∙ ap (bit_or a) i ∙ h
 
 -- the first byte of a text
 pub first_within : (before x : ℕ) (after : List ℕ) → Within (class_bit (pair_class before x)) (pair_bits before (x ∷ after))
-first_within before x after = within_left (class_bit (pair_class before x)) (class_bit (pair_class before x)) (pair_bits x after) (or_self _)
+first_within before x after = within_left (class_bit (pair_class before x)) (class_bit (pair_class before x))
+    (pair_bits x after) (or_self _)
 
 -- two neighbours somewhere in it
-pub pair_within : (before : ℕ) (front : List ℕ) (x y : ℕ) (after : List ℕ) → Within (class_bit (pair_class x y)) (pair_bits before (front ++ (x ∷ y ∷ after)))
-pair_within before [] x y after = within_right (class_bit (pair_class x y)) (class_bit (pair_class before x)) (pair_bits x (y ∷ after)) (first_within x y after)
+pub pair_within : (before : ℕ) (front : List ℕ) (x y : ℕ) (after : List ℕ) → Within (class_bit (pair_class x y))
+    (pair_bits before (front ++ (x ∷ y ∷ after)))
+pair_within before [] x y after = within_right (class_bit (pair_class x y)) (class_bit (pair_class before x))
+    (pair_bits x (y ∷ after)) (first_within x y after)
 pair_within before (z ∷ zs) x y after =
-    within_right (class_bit (pair_class x y)) (class_bit (pair_class before z)) (pair_bits z (zs ++ (x ∷ y ∷ after))) (pair_within z zs x y after)
+    within_right (class_bit (pair_class x y)) (class_bit (pair_class before z)) (pair_bits z (zs ++ (x ∷ y ∷ after)))
+    (pair_within z zs x y after)
 
 -- the last two
 pub class_of_last : (class before : ℕ) (front : List ℕ) (x y : ℕ) → last_class class before (front ++ (x ∷ y ∷ [])) ≡ pair_class x y
@@ -52,7 +57,8 @@ drop_next xs i below = drop-cons xs i 0 below ∙ ap (λ k. get_or xs i 0 ∷ dr
 
 -- one more byte is read
 pub step_bits : (bits last next : ℕ) (bytes : List ℕ) (i : ℕ) → i < length bytes → next ≡ get_or bytes i 0
-    → bit_or (bit_or bits (class_bit (pair_class last next))) (pair_bits next (drop (i + 1) bytes)) ≡ bit_or bits (pair_bits last (drop i bytes))
+    → bit_or (bit_or bits (class_bit (pair_class last next))) (pair_bits next (drop (i + 1) bytes)) ≡ bit_or bits
+    (pair_bits last (drop i bytes))
 step_bits bits last next bytes i below is =
     or_assoc bits (class_bit (pair_class last next)) (pair_bits next (drop (i + 1) bytes))
     ∙ ap (λ b. bit_or bits (bit_or (class_bit (pair_class last b)) (pair_bits b (drop (i + 1) bytes)))) is

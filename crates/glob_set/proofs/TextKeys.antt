@@ -1,5 +1,7 @@
--- What a text is looked up by, before a byte or from its end on.
-use Rattle.std.proofs.Common.{◌≡◌, ℕ, ◌-◌, ◌<◌, ◌≤◌, Bool, false, List, [], ◌∷◌, ◌++◌, length, take, drop, get_or, fold, Option, Some, None, IfSome, IsTrue, refl, sym, ap, subst, ◌∙◌, arith, append-nil, append_assoc, length-append}
+-- Looking a text up, before each byte and from its end.
+use Rattle.std.proofs.Common.{◌≡◌, ℕ, ◌-◌, ◌<◌, ◌≤◌, Bool, false, List, [], ◌∷◌, ◌++◌, length, take, drop, get_or, fold}
+use Rattle.std.proofs.Common.{Option, Some, None, IfSome, IsTrue, refl, sym, ap, subst, ◌∙◌, arith, append-nil}
+use Rattle.std.proofs.Common.{append_assoc, length-append}
 use Rattle.std.proofs.Math.Seq.{drop-append_seam, get_or-append_seam, take-append_seam}
 use Rattle.std.proofs.lemmas.Bool.{eqb-true, true≢false}
 use Rattle.glob_text.specs.Characters.{dot, slash}
@@ -41,9 +43,11 @@ last_of text front back len is lengths =
 module _ (keys : List (Option Key)) where
   -- what is asked for before the first bytes of a text is found
   abbrev pub ComponentsFound : (text : List ℕ) (count : ℕ) → FoundNumbers → Type 0
-  ComponentsFound text count found = (i : ℕ) → i < count → Finds keys (IsReadBefore (fold after start (take i text)) (get_or text i 0)) found
+  ComponentsFound text count found = (i : ℕ) → i < count → Finds keys (IsReadBefore (fold after start (take i text))
+      (get_or text i 0)) found
 
-  pub Finds-components : (text : List ℕ) (last : component.Component) (old new : FoundNumbers) → KeepsAll old new → ComponentsFound text (length text) old
+  pub Finds-components : (text : List ℕ) (last : component.Component) (old new : FoundNumbers) → KeepsAll old new
+      → ComponentsFound text (length text) old
       → last ≡ fold after start text → Finds keys (HasHash last.hash) new → Finds keys (IsComponentOf text) new
   unfolding Finds
   Finds-components text last old new kept so_far last_is finds number key below is has = of key is has
@@ -57,14 +61,17 @@ module _ (keys : List (Option Key)) where
           (subst (λ f. IsReadBefore (fold after start f) (get_or text (length front) 0) key) (sym p.front_is)
           (subst (λ b. IsReadBefore (fold after start front) b key) (sym p.byte_is) asked)))
 
-      at_end : (front : List ℕ) → text ≡ front ++ [] → (key : Key) → get_or keys number None ≡ Some key → (fold after start front).hash ≡ hash_of key → Keeps new number
+      at_end : (front : List ℕ) → text ≡ front ++ [] → (key : Key) → get_or keys number None ≡ Some key →
+          (fold after start front).hash ≡ hash_of key → Keeps new number
       at_end front split key is hash =
-          finds number key below is (sym hash ∙ ap (λ f. (fold after start f).hash) (sym (split ∙ append-nil front)) ∙ ap (λ (c : component.Component). c.hash) (sym last_is))
+          finds number key below is (sym hash ∙ ap (λ f. (fold after start f).hash) (sym (split ∙ append-nil front))
+          ∙ ap (λ (c : component.Component). c.hash) (sym last_is))
 
       of : (key : Key) → get_or keys number None ≡ Some key → IsComponentOf text key → Keeps new number
       of (Component hash) is (front, [], split, ends, same) = at_end front split (Component hash) is same
       of (Component hash) is (front, b ∷ bs, split, ends, same) = here front b bs split (Component hash) is (eqb-true b slash ends, same)
-      of (Beginning hash len) is (front, [], split, same) = at_end front split (Beginning hash len) is (ap (λ (c : component.Component). c.hash) same)
+      of (Beginning hash len) is (front, [], split, same) = at_end front split (Beginning hash len) is
+          (ap (λ (c : component.Component). c.hash) same)
       of (Beginning hash len) is (front, b ∷ bs, split, same) = here front b bs split (Beginning hash len) is same
       of (Ending hash len) is has = absurd has
       of (Extension hash len) is has = absurd has
@@ -79,17 +86,22 @@ module _ (keys : List (Option Key)) where
         finds is_asked number key below is same
 
     pub Finds-before : (c : component.Component) (byte : ℕ) (asked : Bool) (found : FoundNumbers) → (byte ≡ slash → IsTrue asked)
-        → (HasLength kinds.beginnings c.len → IsTrue asked) → (IsTrue asked → Finds keys (HasHash c.hash) found) → Finds keys (IsReadBefore c byte) found
+        → (HasLength kinds.beginnings c.len → IsTrue asked) → (IsTrue asked → Finds keys (HasHash c.hash) found)
+        → Finds keys (IsReadBefore c byte) found
     Finds-before c byte asked found ends begins finds = finds_if asked c.hash (IsReadBefore c byte) found finds follows
       where
         follows : (key : Key) → HasKind kinds key → IsReadBefore c byte key → IsTrue asked × HasHash c.hash key
         follows (Component hash) kind (is, same) = (ends is, sym same)
-        follows (Beginning hash len) (_, used) is =
-            (begins (subst (HasLength kinds.beginnings) (sym (ap (λ (k : component.Component). k.len) is)) used), sym (ap (λ (k : component.Component). k.hash) is))
+        follows (Beginning hash len) (_, used) is = (
+          begins (subst (HasLength kinds.beginnings) (sym (ap (λ (k : component.Component). k.len) is)) used),
+          sym
+              (ap (λ (k : component.Component). k.hash) is),
+        )
         follows (Ending hash len) kind is = absurd is
         follows (Extension hash len) kind is = absurd is
 
-    pub Finds-behind : (text : List ℕ) (len hash : ℕ) (asked : Bool) (found : FoundNumbers) → hash ≡ hash_back (drop (length text - len) text)
+    pub Finds-behind : (text : List ℕ) (len hash : ℕ) (asked : Bool) (found : FoundNumbers) → hash ≡ hash_back
+        (drop (length text - len) text)
         → (len < length text → get_or text (length text - 1 - len) 0 ≡ dot → IsTrue asked) → (HasLength kinds.endings len → IsTrue asked)
         → (IsTrue asked → Finds keys (HasHash hash) found) → Finds keys (IsReadBehind text len) found
     Finds-behind text len hash asked found hash_is dotted ends finds = finds_if asked hash (IsReadBehind text len) found finds follows
@@ -111,17 +123,23 @@ module _ (keys : List (Option Key)) where
         follows (Extension hash len) kind is = absurd is
 
     -- what is asked for by the last bytes is found, for each number of bytes that there is
-    pub Finds-endings : (text : List ℕ) (count : ℕ) (found : FoundNumbers) → ((len : ℕ) → len < count → Finds keys (IsReadBehind text len) found)
+    pub Finds-endings : (text : List ℕ) (count : ℕ) (found : FoundNumbers) → ((len : ℕ) → len < count → Finds keys
+        (IsReadBehind text len) found)
         → ((len : ℕ) → len ≤ kinds.longest → len ≤ length text → len < count) → Finds keys (IsEndingOf text) found
     unfolding Finds AreKinds
-    Finds-endings text count found so_far reach number key below is has = of key is (subst (λ o. IfSome o (HasKind kinds)) is (are number below)) has
+    Finds-endings text count found so_far reach number key below is has = of key is
+        (subst (λ o. IfSome o (HasKind kinds)) is (are number below)) has
       where
         of : (key : Key) → get_or keys number None ≡ Some key → HasKind kinds key → IsEndingOf text key → Keeps found number
         of (Component hash) is kind has = absurd has
         of (Beginning hash len) is kind has = absurd has
         of (Ending hash len) is (most, _) (front, back, split, lengths, same) =
             let within : len ≤ length text = omega (arith, ap length split, length-append front back, lengths) in
-            so_far len (reach len most within) number (Ending hash len) below is (refl, ap hash_back (last_of text front back len split lengths) ∙ same)
+            so_far len (reach len most within) number (Ending hash len) below is (
+              refl,
+              ap hash_back
+                  (last_of text front back len split lengths) ∙ same,
+            )
         of (Extension hash len) is most (front, back, split, lengths, same) =
             let p = parted text front dot back split in
             let long = length-append front (dot ∷ back) in

@@ -1,5 +1,7 @@
--- Neighbouring literals of a pattern are neighbours in each text that it matches.
-use Rattle.std.proofs.Common.{◌≡◌, ℕ, suc, ◌+◌, ◌*◌, ◌%◌, ◌<◌, Bool, not, ◌&&◌, ◌==◌, zero, List, [], ◌∷◌, ◌++◌, length, map, take, drop, drop-cons, get_or, IsTrue, ⊎_elim, refl, sym, ap, ap₂, subst, ◌∙◌, arith, chars}
+-- Neighbouring literals of a pattern are neighbouring bytes in every text that it matches.
+use Rattle.std.proofs.Common.{◌≡◌, ℕ, suc, ◌+◌, ◌*◌, ◌%◌, ◌<◌, Bool, not, ◌&&◌, ◌==◌, zero, List, [], ◌∷◌, ◌++◌, length}
+use Rattle.std.proofs.Common.{map, take, drop, drop-cons, get_or, IsTrue, ⊎_elim, refl, sym, ap, ap₂, subst, ◌∙◌, arith}
+use Rattle.std.proofs.Common.{chars}
 use Rattle.std.proofs.Math.Nat.{add-mod_right}
 use Rattle.std.proofs.lemmas.Bool.{or_cases, and_parts, eqb-true, ltb-true, cases_lt}
 use Rattle.std.proofs.lemmas.List.{take-append-drop, drop_all}
@@ -37,8 +39,11 @@ same_ascii case c x low same =
     (λ is. let e = eqb-true c x is in (subst (λ y. y < 128) (sym e) low, ap (λ y. y % 32) e))
     (λ both.
     let (ascii, small) = and_parts (not case && is_ascii c && is_ascii x) (to_ascii_lowercase c == to_ascii_lowercase x) both in
-    let (first, second) = and_parts (not case && is_ascii c) (is_ascii x) ascii in
-    (ltb-true c 128 (and_parts (not case) (is_ascii c) first).1, sym (lower_same c) ∙ ap (λ y. y % 32) (eqb-true (to_ascii_lowercase c) (to_ascii_lowercase x) small) ∙ lower_same x))
+    let (first, second) = and_parts (not case && is_ascii c) (is_ascii x) ascii in (
+      ltb-true c 128 (and_parts (not case) (is_ascii c) first).1,
+      sym (lower_same c) ∙ ap (λ y. y % 32)
+          (eqb-true (to_ascii_lowercase c) (to_ascii_lowercase x) small) ∙ lower_same x,
+    ))
     (or_cases (c == x) (not case && is_ascii c && is_ascii x && to_ascii_lowercase c == to_ascii_lowercase x) same)
 
 class_same : (a b x y : ℕ) → a % 32 ≡ x % 32 → b % 32 ≡ y % 32 → pair_class a b ≡ pair_class x y
@@ -85,7 +90,8 @@ two_of case (a ∷ b ∷ []) x y low_x low_y (lengths, each) =
 two_of case (a ∷ b ∷ c ∷ cs) x y low_x low_y (lengths, each) = absurd (omega arith)
 
 -- the bytes of a text that literals are in
-split_bytes : (case : Bool) (front back : List Token) (plain : Text) (bytes : List ℕ) → IsUtf8 bytes → (stands : StandsIn case front plain back (chars bytes))
+split_bytes : (case : Bool) (front back : List Token) (plain : Text) (bytes : List ℕ) → IsUtf8 bytes →
+    (stands : StandsIn case front plain back (chars bytes))
     → bytes ≡ encode_utf8_all stands.before ++ (encode_utf8_all stands.here ++ encode_utf8_all stands.after)
 split_bytes case front back plain bytes utf8 stands =
     sym (encodes-chars bytes utf8) ∙ ap encode_utf8_all stands.split ∙ encodes-append stands.before (stands.here ++ stands.after)
@@ -107,7 +113,8 @@ module _ (o : MatchOptions) (tokens : List Token) (bytes : List ℕ) (utf8 : IsU
       let one = one_of o.case_sensitive stands.here y low stands.same in
       let after = encode_utf8_all stands.after in
       let whole : bytes ≡ one.b ∷ after =
-      split_bytes o.case_sensitive [] back (y ∷ []) bytes utf8 stands ∙ ap₂ (λ p q. encode_utf8_all p ++ (q ++ after)) (stands.first refl) one.is in
+      split_bytes o.case_sensitive [] back (y ∷ []) bytes utf8 stands ∙ ap₂ (λ p q. encode_utf8_all p ++ (q ++ after))
+      (stands.first refl) one.is in
       record {
         bits = subst (λ k. Within (class_bit k) (text_bits bytes)) one.class
             (subst (λ bs. Within (class_bit (pair_class 0 one.b)) (pair_bits 0 bs)) (sym whole) (first_within 0 one.b after));
@@ -123,7 +130,8 @@ module _ (o : MatchOptions) (tokens : List Token) (bytes : List ℕ) (utf8 : IsU
       let back = drop (suc (suc i)) tokens in
       let split : tokens ≡ take i tokens ++ (map Literal (x ∷ y ∷ []) ++ back) =
       sym (take-append-drop i tokens)
-      ∙ ap (λ ts. take i tokens ++ ts) (drop-cons tokens i AnyChar (omega (arith, below)) ∙ ap₂ (λ t ts. t ∷ ts) first (drop-cons tokens (suc i) AnyChar below ∙ ap (λ t. t ∷ back) second)) in
+      ∙ ap (λ ts. take i tokens ++ ts) (drop-cons tokens i AnyChar (omega (arith, below)) ∙ ap₂ (λ t ts. t ∷ ts) first
+      (drop-cons tokens (suc i) AnyChar below ∙ ap (λ t. t ∷ back) second)) in
       let stands : StandsIn o.case_sensitive (take i tokens) (x ∷ y ∷ []) back (chars bytes) =
       plain_tokens_stand o (take i tokens) (x ∷ y ∷ []) back (chars bytes) (subst (λ ts. TokensMatch o ts (chars bytes)) split match) in
       let two = two_of o.case_sensitive stands.here x y low_x low_y stands.same in
@@ -133,14 +141,17 @@ module _ (o : MatchOptions) (tokens : List Token) (bytes : List ℕ) (utf8 : IsU
       split_bytes o.case_sensitive (take i tokens) back (x ∷ y ∷ []) bytes utf8 stands ∙ ap (λ q. before ++ (q ++ after)) two.is in
       record {
         bits = subst (λ k. Within (class_bit k) (text_bits bytes)) two.class
-            (subst (λ bs. Within (class_bit (pair_class two.a two.b)) (pair_bits 0 bs)) (sym whole) (pair_within 0 before two.a two.b after));
+            (subst (λ bs. Within (class_bit (pair_class two.a two.b)) (pair_bits 0 bs)) (sym whole)
+            (pair_within 0 before two.a two.b after));
         ends = λ end.
             let none : stands.after ≡ [] = stands.last (drop_all (suc (suc i)) tokens (omega (arith, end))) in
-            ap text_class (whole ∙ ap (λ xs. before ++ (two.a ∷ two.b ∷ encode_utf8_all xs)) none) ∙ class_of_last 0 0 before two.a two.b ∙ two.class;
+            ap text_class (whole ∙ ap (λ xs. before ++ (two.a ∷ two.b ∷ encode_utf8_all xs)) none) ∙ class_of_last 0 0
+            before two.a two.b ∙ two.class;
       }
 
 -- the pair of a byte 0 and the first byte
-pub IsPairAt-first : (pattern : Text) (y : ℕ) → pair_class 0 y < 128 → y < 128 → HasLiteral (chars pattern) 0 y → IsPairAt pattern 0 (pair_class 0 y)
+pub IsPairAt-first : (pattern : Text) (y : ℕ) → pair_class 0 y < 128 → y < 128 → HasLiteral (chars pattern) 0 y
+    → IsPairAt pattern 0 (pair_class 0 y)
 unfolding HasBits HasClass HasLiteral HasCount
 IsPairAt-first pattern y small low literal = record {
   small = small;
@@ -153,7 +164,8 @@ IsPairAt-first pattern y small low literal = record {
 }
 
 -- the pair of two literals
-pub IsPairAt-next : (pattern : Text) (i x y : ℕ) → pair_class x y < 128 → x < 128 → y < 128 → HasLiteral (chars pattern) i x → HasLiteral (chars pattern) (suc i) y
+pub IsPairAt-next : (pattern : Text) (i x y : ℕ) → pair_class x y < 128 → x < 128 → y < 128 → HasLiteral
+    (chars pattern) i x → HasLiteral (chars pattern) (suc i) y
     → IsPairAt pattern (suc i) (pair_class x y)
 unfolding HasBits HasClass HasLiteral HasCount
 IsPairAt-next pattern i x y small low_x low_y first second = record {

@@ -1,4 +1,4 @@
--- Texts escaped: patterns that match the text they are made from, with braces that are expanded.
+-- Escaped texts: patterns with braces that match the text they are made from.
 use Rattle.std.specs.Prelude.{◌≡◌, ℕ, Bool, ◌||◌, ◌==◌, if◌then◌else◌, [], ◌∷◌, chars, IsTrue, ◌↔◌}
 use Rattle.std.specs.List.{flat_map}
 use Rattle.glob_text.specs.Text.{Text}
@@ -12,15 +12,15 @@ use Rattle.glob_set.specs.Braces.{AreAlternatives, open_brace, close_brace}
 abbrev pub is_special : ℕ → Bool
 is_special c = pattern.is_special c || (c == open_brace || c == close_brace)
 
--- a special character in a bracket of its own, and every other as it is
+-- a special character in a bracket of its own, any other as it is
 abbrev pub escaped_character : ℕ → Text
 escaped_character c = if is_special c then open_bracket ∷ c ∷ close_bracket ∷ [] else c ∷ []
 
--- the escaped characters, one after another
+-- each character, escaped
 abbrev pub escaped_text : Text → Text
 escaped_text text = flat_map escaped_character text
 
--- Its only alternative is the escaped text itself, which case-sensitively matches the text alone.
+-- the escaped text is its own only alternative, and case-sensitively it matches only the original
 unfoldable pub StandsFor : (escaped text : Text) → Type 0
 StandsFor escaped text =
     AreAlternatives (chars escaped) (escaped ∷ [])

@@ -1,4 +1,4 @@
--- Sets of the alternatives of texts with braces.
+-- Sets of all alternatives of texts with braces.
 use Rattle.std.specs.Prelude.{◌≡◌, ℕ, ◌<◌, List, [], ◌∷◌, ◌++◌, length, slice_index_or, ⊤}
 use Rattle.std.specs.Str.{chars}
 use Rattle.glob_text.specs.Text.{Text}
@@ -14,31 +14,31 @@ use Rattle.glob_set.specs.declared.error.SetRefusal.TheVariants as set
 use Rattle.glob_set.specs.declared.error.BraceSetRefusal.{BraceSetRefusal}
 use Rattle.glob_set.specs.declared.error.BraceSetRefusal.TheVariants.{Braces, Pattern, Memory}
 
--- the alternatives of texts: those of the first text first
+-- the alternatives of all texts, those of the first text first
 abbrev pub AreAlternativesOf : (texts alternatives : List Text) → Type 0
 AreAlternativesOf [] alternatives = alternatives ≡ []
 AreAlternativesOf (text ∷ texts) alternatives =
     (first : List Text) × (rest : List Text) × AreAlternatives (chars text) first
     × AreAlternativesOf texts rest × (alternatives ≡ first ++ rest)
 
--- one of the alternatives of one of the texts matches the text
+-- an alternative of one of the texts matches the text
 unfoldable pub AnyAlternativeMatches : MatchOptions → (texts : List Text) → (text : Text) → Type 0
 AnyAlternativeMatches o texts text =
     (number : ℕ) × (alternative : Text) × (number < length texts)
     × IsAlternative (chars (slice_index_or texts number [])) alternative
     × Matches o (chars alternative) (chars text)
 
--- each of the texts is accepted
+-- all texts are accepted
 unfoldable pub AreAccepted : (texts : List Text) → Type 0
 AreAccepted texts = (number : ℕ) → number < length texts → IsAccepted (chars (slice_index_or texts number []))
 
--- the braces of the text are balanced, and each of its alternatives is accepted
+-- the braces of the text are balanced, and its alternatives are accepted
 unfoldable pub HasPatterns : (text : Text) → Type 0
 HasPatterns text =
     (alternatives : List Text) × AreAlternatives (chars text) alternatives × AreAccepted alternatives
 
--- What a refusal of the text of a number reports: the fault of its braces, or the number and the fault of its first
--- alternative that is not accepted; or a failed allocation.
+-- What a refusal reports for the text at index `number`: the fault of its braces, or the number and the fault of its
+-- first alternative that is not accepted, or a failed allocation.
 unfoldable pub RefusesText : (text : Text) → (number : ℕ) → BraceSetRefusal → Type 0
 RefusesText text number (Braces n fault) = (n ≡ number) × IsBraceFault (lexemes (chars text)) fault
 RefusesText text number (Pattern n alternative e) =
@@ -46,7 +46,7 @@ RefusesText text number (Pattern n alternative e) =
     × RefusesTexts alternatives (set.Syntax alternative e))
 RefusesText text number Memory = ⊤
 
--- what a refusal of the texts reports: that of the first one that has a fault, or a failed allocation
+-- what a refusal of the texts reports: the fault of the first text that has one, or a failed allocation
 unfoldable pub RefusesBraceTexts : (texts : List Text) → BraceSetRefusal → Type 0
 RefusesBraceTexts texts Memory = ⊤
 RefusesBraceTexts texts (Braces number fault) =
@@ -58,12 +58,12 @@ RefusesBraceTexts texts (Pattern number alternative e) =
     × ((before : ℕ) → before < number → HasPatterns (slice_index_or texts before []))
     × RefusesText (slice_index_or texts number []) number (Pattern number alternative e)
 
--- the refusal of texts of which that of a number has braces that are refused
+-- the error for the braces of the text at index `number`
 abbrev pub of_braces : (number : ℕ) → BraceRefusal → BraceSetRefusal
 of_braces number (braces.Syntax fault) = Braces number fault
 of_braces number braces.Memory = Memory
 
--- the refusal of texts of which that of a number has alternatives that are refused
+-- the error for an alternative of the text at index `number`
 abbrev pub of_alternatives : (number : ℕ) → SetRefusal → BraceSetRefusal
 of_alternatives number (set.Syntax alternative e) = Pattern number alternative e
 of_alternatives number set.Memory = Memory

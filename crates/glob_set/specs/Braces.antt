@@ -24,16 +24,16 @@ close_brace = 125
 abbrev pub comma : ℕ
 comma = 44
 
--- the end of a unit, or a place if there is none
+-- the end of a unit, or else the place f
 abbrev pub end_or : ℕ → Option (Token × ℕ) → ℕ
 end_or f None = f
 end_or f (Some unit) = unit.1
 
--- the place after the bracket that a pattern has at place f, or f if there is none
+-- the place after the bracket of a pattern at place f, or f if none begins there
 abbrev pub bracket_end : Text → ℕ → ℕ
 bracket_end text f = if has text f open_bracket then end_or f (bracket_at text f) else f
 
--- what a character is outside of brackets
+-- what a character means outside brackets
 abbrev pub lexeme_of : ℕ → Lexeme
 lexeme_of c =
     if c == open_brace then Open
@@ -41,35 +41,36 @@ lexeme_of c =
     else if c == close_brace then Close
     else Literal c
 
--- what the character at place p is, where those before place e are in a bracket
+-- what the character at place p means, if a bracket goes up to place e
 abbrev pub lexeme_at : (p e c : ℕ) → Lexeme
 lexeme_at p e c = if nat_lt p e then Literal c else lexeme_of c
 
--- the end of the bracket that place p is in, or p: e is the end of the last bracket that begins before p
+-- the end of the bracket that contains place p, or p if none does; e is the end of the last bracket that begins before
+-- p
 abbrev pub end_at : Text → (p e : ℕ) → ℕ
 end_at text p e = if nat_lt p e then e else bracket_end text p
 
--- the lexemes of the characters from place p on, where e is the end of the last bracket before
+-- the lexemes of the characters from place p on; e is the end of the last bracket that begins before it
 abbrev pub lexemes_from : Text → (p e : ℕ) → Text → List Lexeme
 lexemes_from text p e [] = []
 lexemes_from text p e (c ∷ rest) =
     lexeme_at p (end_at text p e) c ∷ lexemes_from text (p + 1) (end_at text p e) rest
 
--- the lexemes of a text, one for each character
+-- the lexemes of a text, one per character
 unfoldable pub lexemes : Text → List Lexeme
 lexemes text = lexemes_from text 0 0 text
 
--- each of the texts, with the same at its end
+-- each text with the same end appended
 abbrev pub each_with : List Text → Text → List Text
 each_with texts end = map (λ text. text ++ end) texts
 
--- each of the first texts with each of the second ones behind it, in order of the first
+-- each of the first texts followed by each of the second ones, in the order of the first
 abbrev pub joined : List Text → List Text → List Text
 joined firsts seconds = flat_map (λ first. map (λ second. first ++ second) seconds) firsts
 
 mutual
-  -- The lexemes are balanced, and these are their alternatives, in bytes and in the order of their choices from left to
-  -- right. Outside of all braces a comma is itself.
+  -- The lexemes are balanced, and these are their alternatives, as bytes, in the order of their choices from left to
+  -- right. A comma outside all braces is literal.
   pub data HasAlternatives : (outside : Bool) → List Lexeme → List Text → Type 0 where
     at_start : (outside : Bool) → HasAlternatives outside [] ([] ∷ [])
     literal : (outside : Bool) (l : List Lexeme) (ts : List Text) (c : ℕ)
@@ -78,12 +79,12 @@ mutual
     comma_outside : (l : List Lexeme) (ts : List Text)
         → HasAlternatives true l ts
         → HasAlternatives true (l ++ Comma ∷ []) (each_with ts (encode_utf8 comma))
-    -- `{`, some ended by commas, one more, and `}`
+    -- `{`, branches that end in commas, a last branch, and `}`
     braces : (outside : Bool) (l b x : List Lexeme) (ts bs xs : List Text)
         → HasAlternatives outside l ts → HasEnded b bs → HasAlternatives false x xs
         → HasAlternatives outside (l ++ Open ∷ (b ++ x ++ Close ∷ [])) (joined ts (bs ++ xs))
 
-  -- the lexemes are those of some alternatives, each with a comma behind it
+  -- the lexemes are branches, each ended by a comma, with these alternatives in all
   pub data HasEnded : List Lexeme → List Text → Type 0 where
     no_branch : HasEnded [] []
     one_more : (b x : List Lexeme) (bs xs : List Text)
@@ -99,26 +100,26 @@ abbrev pub IsAmong : (texts : List Text) → (text : Text) → Type 0
 IsAmong texts text =
     (number : ℕ) × (number < length texts) × (slice_index_or texts number [] ≡ text)
 
--- the text is balanced, and this is one of its alternatives
+-- the text is balanced, with this alternative
 unfoldable pub IsAlternative : Text → (alternative : Text) → Type 0
 IsAlternative text alternative =
     (alternatives : List Text) × AreAlternatives text alternatives × IsAmong alternatives alternative
 
--- the `}` at a place is behind what is balanced
+-- the `}` at this place comes after balanced lexemes
 unfoldable pub IsUnmatched : List Lexeme → (place : ℕ) → Type 0
 IsUnmatched lexemes place =
     (l : List Lexeme) × (r : List Lexeme) × (ts : List Text)
     × (lexemes ≡ l ++ Close ∷ r) × (length l ≡ place) × HasAlternatives true l ts
 
--- The lexemes are what is within a `{` that is not closed: some ended by commas, and one more, perhaps with braces that
--- are not closed either.
+-- The lexemes come after a `{` that is not closed: branches that end in commas, and a last one, perhaps with more open
+-- braces.
 pub data IsOpenEnded : List Lexeme → Type 0 where
   at_end : (b x : List Lexeme) (bs xs : List Text)
       → HasEnded b bs → HasAlternatives false x xs → IsOpenEnded (b ++ x)
   deeper : (r b x : List Lexeme) (bs xs : List Text)
       → IsOpenEnded r → HasEnded b bs → HasAlternatives false x xs → IsOpenEnded (r ++ Open ∷ (b ++ x))
 
--- the `{` at a place is behind what is balanced, and is not closed
+-- the `{` at this place comes after balanced lexemes, and is not closed
 unfoldable pub IsUnclosed : List Lexeme → (place : ℕ) → Type 0
 IsUnclosed lexemes place =
     (l : List Lexeme) × (r : List Lexeme) × (ts : List Text)

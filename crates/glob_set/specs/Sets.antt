@@ -13,12 +13,12 @@ use Rattle.glob_pattern.specs.declared.error.PatternRefusal.TheVariants as patte
 use Rattle.glob_set.specs.declared.error.SetRefusal.{SetRefusal}
 use Rattle.glob_set.specs.declared.error.SetRefusal.TheVariants.{Syntax, Memory}
 
--- the texts of a set's patterns, and the options that they match by
+-- the texts of the patterns of a set, and the options that they match by
 pub record Set : Type 0 where
   pub patterns : List Text
   pub options : MatchOptions
 
--- there is a pattern of this number, and it matches the text
+-- pattern `number` exists and matches the text
 unfoldable pub MatchesAt : MatchOptions → (patterns : List Text) → (text : Text) → (number : ℕ) → Type 0
 MatchesAt o patterns text number =
     (number < length patterns) × Matches o (chars (slice_index_or patterns number [])) (chars text)
@@ -27,14 +27,14 @@ MatchesAt o patterns text number =
 unfoldable pub AnyMatch : MatchOptions → (patterns : List Text) → (text : Text) → Type 0
 AnyMatch o patterns text = (number : ℕ) × MatchesAt o patterns text number
 
--- the number of the first pattern that matches the text, or none matches it
+-- the number of the first pattern that matches the text, or `None` if none does
 unfoldable pub FirstMatch : MatchOptions → (patterns : List Text) → (text : Text) → Option ℕ → Type 0
 FirstMatch o patterns text None = ¬ (AnyMatch o patterns text)
 FirstMatch o patterns text (Some number) =
     MatchesAt o patterns text number
     × ((before : ℕ) → before < number → ¬ (MatchesAt o patterns text before))
 
--- the number of the last pattern that matches the text, or none matches it
+-- the number of the last pattern that matches the text, or `None` if none does
 unfoldable pub LastMatch : MatchOptions → (patterns : List Text) → (text : Text) → Option ℕ → Type 0
 LastMatch o patterns text None = ¬ (AnyMatch o patterns text)
 LastMatch o patterns text (Some number) =
@@ -53,12 +53,12 @@ matches_below o patterns text (suc n) =
 unfoldable pub all_matches : MatchOptions → (patterns : List Text) → (text : Text) → List ℕ
 all_matches o patterns text = matches_below o patterns text (length patterns)
 
--- each of the patterns has at most 63 tokens
+-- all patterns have at most 63 tokens
 unfoldable pub AreShort : (patterns : List Text) → Type 0
 AreShort patterns =
     (number : ℕ) → number < length patterns → IsShort (chars (slice_index_or patterns number []))
 
--- What a refusal of the texts reports: the number and the fault of the first that is not accepted, or a failed
+-- What a refusal of the texts reports: the number and the fault of the first text that is not accepted, or a failed
 -- allocation.
 unfoldable pub RefusesTexts : (texts : List Text) → SetRefusal → Type 0
 RefusesTexts texts (Syntax number e) =
@@ -67,7 +67,7 @@ RefusesTexts texts (Syntax number e) =
     × IsFault (chars (slice_index_or texts number [])) (record { place = e.pos; message = e.msg.now })
 RefusesTexts texts Memory = ⊤
 
--- the refusal of texts of which that of a number is refused
+-- the error for the text at index `number`
 abbrev pub refusal_of : (number : ℕ) → PatternRefusal → SetRefusal
 refusal_of number (pattern.Syntax e) = Syntax number e
 refusal_of number pattern.Memory = Memory

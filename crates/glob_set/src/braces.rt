@@ -6,10 +6,10 @@
 //! | `{a,b{1,2}}c` | `ac`, `b1c`, `b2c` |
 //! | `{a,b}{1,2}` | `a1`, `a2`, `b1`, `b2` |
 //! | `a{,b}`, `{a}` | `a` and `ab`, `a` |
-//! | `a,b`, `[{,}]` | themselves: outside of braces a comma is itself, in a bracket each character is |
+//! | `a,b`, `[{,}]` | themselves: a comma outside braces and any character in a bracket are literal |
 //!
-//! A bracket is one of a pattern: `[`, perhaps `!`, one character, further ones that are not `]`, and `]`. A `[` that
-//! no such bracket begins with is itself.
+//! Brackets are those of patterns: `[`, perhaps `!`, a character, any others up to `]`, and `]`. A `[` that begins no
+//! bracket is literal.
 ghost use Rattle.std.specs.Prelude.{◌≤◌, ◌↔◌, ℕ, List, IfOk, IfErr, chars, length, map, string_bytes};
 ghost use Rattle.glob_set.specs.Braces.{AreAlternatives, IsAlternative, IsAmong, RefusesBraces};
 
@@ -26,11 +26,11 @@ use expanding::expand_all;
 use lexemes::lexemes_of;
 use std::alloc::Allocator;
 
-/// The most alternatives that a text may have.
+/// The greatest number of alternatives that a text may have.
 pub const MOST_ALTERNATIVES: usize = 1000;
 
-/// The alternatives of a text, in the order of their choices from left to right: of `{a,b}{1,2}`, `a1`, `a2`, `b1` and
-/// `b2`. A text without braces is its only alternative. They are counted before any is made.
+/// The alternatives of a text, in the order of its choices from left to right: `a1`, `a2`, `b1` and `b2` for
+/// `{a,b}{1,2}`. A text without braces is its only alternative. They are counted before any is made.
 ///
 /// The error is [`Syntax`](BraceRefusal::Syntax) with the first brace from the left that has no partner, or with
 /// [`TooMany`](BraceError::TooMany) if there are more than [`MOST_ALTERNATIVES`], or [`Memory`](BraceRefusal::Memory)

@@ -1,15 +1,16 @@
-//! Lists of the patterns without a key that may match a text, by the class of its last two bytes.
-ghost use Rattle.std.specs.Prelude.{◌≡◌, ◌≢◌, ◌<◌, Option, ℕ, false, [], length, slice_index_or, IfOk, IfSome, IsSome, IsSomeAnd, ◌⊎◌};
-ghost use Rattle.glob_set.specs.Private.Buckets.{IsAll, IsBucket, IsOwnBucket, IsUnused, AreBuckets};
+//! The patterns without a key that may match a text, listed by the class of the text's last two bytes.
+ghost use Rattle.std.specs.Prelude.{◌≡◌, ◌<◌, ◌++◌, ◌∷◌, [], length, replicate, slice_index_or, None, IfOk, IfSome, OnOk, All};
+ghost use Rattle.glob_set.specs.Private.Buckets.{AreBuckets, IsAll, with_another, with_number};
 ghost use Rattle.glob_set.specs.Private.Keyed.{few_or_many};
+ghost use Rattle.glob_set.specs.Private.Pairs.{HasSmallClass};
 
 use crate::key::Key;
 use crate::pairs::Need;
 use std::alloc::{AllocError, Allocator, Global};
 use std::marker::Model;
 
-/// How many classes there are.
-pub const CLASSES: u8 = 128;
+/// The number of classes.
+const CLASSES: usize = 128;
 
 /// Numbers of patterns, in ascending order.
 #[derive(Drop)]
@@ -26,99 +27,139 @@ impl<A: Allocator> Model for Bucket<A> {
 }
 
 impl<A: Allocator> Bucket<A> {
-    /// The numbers, as 1 and 4.
+    /// No numbers.
+    fn new(alloc: A) -> Self
+        ensures { result ≡ [] }
+    {
+        Bucket {
+            numbers: Vec::new(alloc),
+        }
+    }
+
+    /// The numbers, such as 1 and 4.
     #[inline(always)]
     pub fn numbers(&self) -> &[usize]
         ensures { result.now ≡ self.now }
     {
         self.numbers.as_slice()
     }
-}
 
-/// For each class the numbers of the patterns without a key that may match a text of it. Where no such pattern is of the
-/// class, its bucket is empty, and the last one serves: that of the patterns of no class.
-pub fn buckets_of<A: Allocator + Copy>(
-    alloc: A,
-    needs: &[Need],
-    keys: &[Option<Key>],
-) -> Result<Vec<Bucket<A>, A>, AllocError>
-    requires { length keys.now ≡ length needs.now }
-    ensures { IfOk result (λ buckets. AreBuckets needs.now keys.now buckets.items) }
-{
-    let mut buckets = Vec::new(alloc);
-    for class in 0..CLASSES {
-        buckets.push(own_bucket(alloc, needs, keys, class)?)?;
+    /// Adds a number.
+    fn push(&mut self, number: usize) -> Result<(), AllocError>
+        ensures { OnOk result (self.new ≡ self.old ++ number ∷ []) }
+    {
+        self.numbers.push(number)?;
+        Ok(())
     }
-    buckets.push(bucket_of(alloc, needs, keys, CLASSES)?)?;
-    Ok(buckets)
-}
 
-/// The bucket of a class if it has one of its own, or an empty one.
-fn own_bucket<A: Allocator + Copy>(
-    alloc: A,
-    needs: &[Need],
-    keys: &[Option<Key>],
-    class: u8,
-) -> Result<Bucket<A>, AllocError>
-    requires { length keys.now ≡ length needs.now }
-    ensures { IfOk result (IsOwnBucket needs.now keys.now class) }
-{
-    if !is_used(needs, keys, class) {
-        return Ok(Bucket {
-            numbers: Vec::new(alloc),
-        });
+    /// Adds a number, after the numbers of `others` if this is the first.
+    fn push_behind(&mut self, others: &Bucket<A>, number: usize) -> Result<(), AllocError>
+        ensures { OnOk result (self.new ≡ few_or_many others.now self.old ++ number ∷ []) }
+    {
+        if self.numbers.is_empty() {
+            self.numbers.extend_from_slice(others.numbers())?;
+        }
+        self.push(number)
     }
-    bucket_of(alloc, needs, keys, class)
+
+    /// Adds a number, unless it would be the first.
+    fn push_another(&mut self, number: usize) -> Result<(), AllocError>
+        ensures { OnOk result (self.new ≡ with_another number self.old) }
+    {
+        if !self.numbers.is_empty() {
+            self.push(number)?;
+        }
+        Ok(())
+    }
 }
 
-/// Whether a pattern without a key is of the class.
-fn is_used(needs: &[Need], keys: &[Option<Key>], class: u8) -> bool
-    requires { length keys.now ≡ length needs.now }
-    ensures { result ≡ false → IsUnused needs.now keys.now class (length needs.now) }
-{
-    for number in 0..needs.len() {
-        if is_own(keys[number], &needs[number], class) {
-            return true;
+/// The numbers of the patterns without a key, by the class of the texts that they may match.
+#[derive(Drop)]
+pub struct Buckets<A: Allocator = Global> {
+    // for each class that a pattern needs, the patterns that need it or no class; empty for other classes
+    classes: Vec<Bucket<A>, A>,
+    // the patterns that need no class, which are the list of the other classes
+    rest: Bucket<A>,
+}
+
+impl<A: Allocator> Model for Buckets<A> {
+    ghost use Rattle.std.specs.Prelude.{◌≡◌, List, ℕ, length, map};
+    ghost use Rattle.glob_set.specs.Private.Keyed.{few_or_many};
+
+    ghost Value = { List (List ℕ) };
+
+    ghost view = { λ buckets. map (few_or_many buckets.rest) buckets.classes.items };
+
+    ghost invariant = { λ buckets. length buckets.classes.items ≡ 128 };
+}
+
+impl<A: Allocator> Buckets<A> {
+    /// The patterns that may match a text of the class.
+    #[inline(always)]
+    pub fn of_class(&self, class: u8) -> &[usize]
+        requires { class < 128 }
+        ensures { result.now ≡ slice_index_or self.now class [] }
+    {
+        let own = self.classes[class as usize].numbers();
+        if own.is_empty() {
+            return self.rest.numbers();
+        }
+        own
+    }
+
+    /// Adds a pattern, which needs the class, or none.
+    fn push(&mut self, number: usize, class: Option<u8>) -> Result<(), AllocError>
+        requires { IfSome class (λ k. k < 128) }
+        ensures { OnOk result (self.new ≡ with_number number class self.old) }
+    {
+        match class {
+            Some(class) => self.classes[class as usize].push_behind(&self.rest, number),
+            None => self.push_to_all(number),
         }
     }
-    false
-}
 
-/// The numbers of the patterns without a key that may match a text of the class.
-fn bucket_of<A: Allocator + Copy>(
-    alloc: A,
-    needs: &[Need],
-    keys: &[Option<Key>],
-    class: u8,
-) -> Result<Bucket<A>, AllocError>
-    requires { length keys.now ≡ length needs.now }
-    ensures { IfOk result (IsBucket needs.now keys.now class (length needs.now)) }
-{
-    let mut numbers = Vec::new(alloc);
-    for number in 0..needs.len() {
-        if is_listed(keys[number], &needs[number], class) {
-            numbers.push(number)?;
+    /// Adds a pattern that needs no class.
+    fn push_to_all(&mut self, number: usize) -> Result<(), AllocError>
+        ensures { OnOk result (self.new ≡ with_number number None self.old) }
+    {
+        for bucket in self.classes.iter_mut() {
+            bucket.push_another(number)?;
         }
+        self.rest.push(number)
     }
-    Ok(Bucket { numbers })
 }
 
-/// The numbers for a text of the class.
-#[inline(always)]
-pub fn bucket_at<A: Allocator>(buckets: &[Bucket<A>], class: u8) -> &[usize]
-    requires class { class < 128 }
-    requires buckets { length buckets.now ≡ 129 }
-    ensures { result.now ≡ few_or_many
-        (slice_index_or buckets.now 128 []) (slice_index_or buckets.now class []) }
-{
-    let own = buckets[class as usize].numbers();
-    if own.is_empty() {
-        return buckets[CLASSES as usize].numbers();
+impl<A: Allocator + Copy> Buckets<A> {
+    /// Lists the patterns without a key by what they need.
+    pub fn new(alloc: A, needs: &[Need], keys: &[Option<Key>]) -> Result<Self, AllocError>
+        requires keys { length keys.now ≡ length needs.now }
+        requires classes { All HasSmallClass needs.now }
+        ensures { IfOk result (AreBuckets needs.now keys.now (length needs.now)) }
+    {
+        let mut buckets = Buckets::empty(alloc)?;
+        for number in 0..needs.len() {
+            if keys[number].is_none() {
+                buckets.push(number, needs[number].class)?;
+            }
+        }
+        Ok(buckets)
     }
-    own
+
+    /// No patterns.
+    fn empty(alloc: A) -> Result<Self, AllocError>
+        ensures { IfOk result (λ buckets. buckets ≡ replicate 128 []) }
+    {
+        let mut classes = Vec::new(alloc);
+        for _class in 0..CLASSES {
+            let own = Bucket::new(alloc);
+            classes.push(own)?;
+        }
+        let rest = Bucket::new(alloc);
+        Ok(Buckets { classes, rest })
+    }
 }
 
-/// All numbers of so many patterns.
+/// The numbers of all `count` patterns.
 pub fn bucket_of_all<A: Allocator + Copy>(alloc: A, count: usize) -> Result<Bucket<A>, AllocError>
     ensures { IfOk result (IsAll count) }
 {
@@ -127,40 +168,4 @@ pub fn bucket_of_all<A: Allocator + Copy>(alloc: A, count: usize) -> Result<Buck
         numbers.push(number)?;
     }
     Ok(Bucket { numbers })
-}
-
-/// Whether a pattern with this key and this need is listed under the class.
-fn is_listed(key: Option<Key>, need: &Need, class: u8) -> bool
-    ensures { result ≡ false
-        → IsSome key ⊎ IsSomeAnd need.now.class (λ known. known ≢ class) }
-{
-    key.is_none() && may_be_of(need, class)
-}
-
-/// Whether a pattern with this key and this need has no key, and is of the class.
-fn is_own(key: Option<Key>, need: &Need, class: u8) -> bool
-    ensures { result ≡ false
-        → IsSome key ⊎ IfSome need.now.class (λ known. known ≢ class) }
-{
-    key.is_none() && is_of(need, class)
-}
-
-/// Whether each text that has what is needed is of the class.
-fn is_of(need: &Need, class: u8) -> bool
-    ensures { result ≡ false → IfSome need.now.class (λ known. known ≢ class) }
-{
-    match need.class {
-        Some(known) => known == class,
-        None => false,
-    }
-}
-
-/// Whether a text of the class may have what is needed.
-fn may_be_of(need: &Need, class: u8) -> bool
-    ensures { result ≡ false → IsSomeAnd need.now.class (λ known. known ≢ class) }
-{
-    match need.class {
-        Some(known) => known == class,
-        None => true,
-    }
 }

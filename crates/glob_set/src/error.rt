@@ -1,4 +1,4 @@
-//! Why texts make no set.
+//! Why texts are refused as a set.
 ghost use Rattle.std.specs.Prelude.{Some};
 ghost use Rattle.glob_set.specs.Words.{refusal_words, brace_set_refusal_words};
 
@@ -8,12 +8,12 @@ use std::alloc::{AllocError, AllocFailed};
 use std::error::Error;
 use std::fmt;
 
-/// Why texts were refused as the patterns of a set, by [`PatternSet::from_texts`](crate::PatternSet::from_texts). So
-/// `*.o` and `[a` are refused with `Syntax`, the number 1 and the place 0, and that prints as
-/// `pattern 1: Pattern syntax error near position 0: invalid range pattern`.
+/// Why [`PatternSet::from_texts`](crate::PatternSet::from_texts) refused texts. `*.o` and `[a` are refused with
+/// `Syntax`, the number 1 and the place 0, which prints as `pattern 1: Pattern syntax error near position 0: invalid
+/// range pattern`.
 #[derive(Debug, Drop)]
 pub enum SetRefusal {
-    /// The first text that is not accepted: its number, counted from 0, and its first fault from the left.
+    /// The number of the first text that is not accepted, counted from 0, and its first fault from the left.
     Syntax(usize, PatternError),
     /// Out of memory: an allocation failed.
     Memory,
@@ -59,15 +59,13 @@ impl<T: Drop> From<AllocFailed<T>> for SetRefusal {
     }
 }
 
-/// Why texts with braces were refused as the patterns of a set, by
-/// [`PatternSet::from_braces`](crate::PatternSet::from_braces). Numbers are counted from 0.
+/// Why [`PatternSet::from_braces`](crate::PatternSet::from_braces) refused texts. Numbers count from 0.
 #[derive(Debug, Drop)]
 pub enum BraceSetRefusal {
-    /// The first text with a fault, by its number, and the fault of its braces: of `*.o` and `{a`, 1 and that the `{`
-    /// at place 0 is not closed.
+    /// The number of the first text with a fault, and the fault of its braces: for `*.o` and `{a`, 1 and `Unclosed(0)`.
     Braces(usize, BraceError),
-    /// The first text with a fault, by its number, the first of its alternatives that is not accepted, by its number
-    /// among them, and that one's first fault from the left: of `*.o` and `{a,[}`, 1, 1 and the place 0 in `[`.
+    /// The number of the first text with a fault, the number of its first alternative that is not accepted, and that
+    /// one's first fault from the left: for `*.o` and `{a,[}`, 1, 1 and the place 0 in `[`.
     Pattern(usize, usize, PatternError),
     /// Out of memory: an allocation failed.
     Memory,

@@ -1,4 +1,4 @@
-//! Numbers, the first few of which take no allocation.
+//! Numbers, the first few without an allocation.
 ghost use Rattle.std.specs.Prelude.{◌≡◌, ◌≤◌, ◌<◌, ◌++◌, ◌∷◌, ℕ, [], false, length, All, OnErr, OnOk, IsPermutation};
 ghost use Rattle.std.specs.List.Sorted.{IsNonDecreasing};
 ghost use Rattle.glob_set.specs.Private.Keyed.{Keeps, KeepsAll};
@@ -6,17 +6,17 @@ ghost use Rattle.glob_set.specs.Private.Keyed.{Keeps, KeepsAll};
 use std::alloc::{AllocError, Allocator, Global};
 use std::marker::Model;
 
-/// How many numbers are kept without an allocation.
+/// The number of numbers that need no allocation.
 const ROOM: usize = 16;
 
-/// Numbers, and whether one more had no room since an allocation failed. The first few differ; beyond these a number may
-/// come again, so that each is added at once.
+/// Numbers, and whether one was left out because an allocation failed. The first few are distinct; later ones may
+/// repeat, so that adding one stays fast.
 #[derive(Drop)]
 pub struct Found<A: Allocator = Global> {
-    // the first `len`, until there are more than these have room for
+    // the first `len` of these, until there are more than fit
     few: [usize; ROOM],
     len: usize,
-    // all, once there are more
+    // all numbers, once there are more
     many: Vec<usize, A>,
     is_full: bool,
 }
@@ -36,7 +36,7 @@ impl<A: Allocator> Model for Found<A> {
 }
 
 impl<A: Allocator> Found<A> {
-    /// No number.
+    /// No numbers.
     #[inline(always)]
     pub fn new(alloc: A) -> Self
         ensures { result ≡ record { items = []; is_full = false } }
@@ -60,7 +60,7 @@ impl<A: Allocator> Found<A> {
         self.many.as_slice()
     }
 
-    /// Whether a number had no room.
+    /// Whether a number was left out.
     #[inline(always)]
     pub fn is_full(&self) -> bool
         ensures { result ≡ self.now.is_full }
@@ -68,7 +68,7 @@ impl<A: Allocator> Found<A> {
         self.is_full
     }
 
-    /// Adds the number, unless it is one of the first few, or has no room.
+    /// Adds the number, unless it is among the first few. If it has no room, `is_full` becomes true.
     pub fn push(&mut self, number: usize)
         ensures kept { KeepsAll self.old self.new }
         ensures pushed { Keeps self.new number }
@@ -84,7 +84,7 @@ impl<A: Allocator> Found<A> {
         }
     }
 
-    /// Adds the number. The error is a failed allocation; then the numbers are as they were.
+    /// Adds the number. The error is a failed allocation, which leaves the numbers as they were.
     fn push_new(&mut self, number: usize) -> Result<(), AllocError>
         ensures pushed { OnOk result (self.new.items ≡ self.old.items ++ number ∷ []) }
         ensures kept { OnErr result (self.new.items ≡ self.old.items) }
@@ -102,7 +102,7 @@ impl<A: Allocator> Found<A> {
         Ok(())
     }
 
-    /// Puts the numbers in ascending order.
+    /// Sorts the numbers in ascending order.
     pub fn sort(&mut self)
         ensures permutation { IsPermutation self.old.items self.new.items }
         ensures order { IsNonDecreasing self.new.items }

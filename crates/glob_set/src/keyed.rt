@@ -1,4 +1,4 @@
-//! Patterns by their keys.
+//! Patterns by their keys, in a hash table.
 ghost use Rattle.std.specs.Prelude.{◌≡◌, ◌+◌, ◌-◌, ◌^◌, ◌<◌, ◌↔◌, ◌⊎◌, false, [], length, slice_index_or, replicate, None, All, IfOk, IsTrue, IsSomeAnd};
 ghost use Rattle.std.specs.List.Sorted.{IsNonDecreasing};
 ghost use Rattle.glob_set.specs.Private.Keyed.{AreLinked, Finds, HasHash, IsReadBefore, Keeps, KeepsAll, key_slot};
@@ -14,11 +14,11 @@ use std::marker::Model;
 #[derive(Drop)]
 pub struct Keyed<A: Allocator = Global> {
     keys: Vec<Option<Key>, A>,
-    // For each slot its first pattern, and for each pattern the next in its slot, or the count of patterns. In the last
-    // slot are those without a key.
+    // The first pattern of each slot, and for each pattern the next one in its slot. The number of patterns stands for
+    // none. The last slot has the patterns without a key.
     first: Vec<usize, A>,
     next: Vec<usize, A>,
-    // the kinds of keys that patterns have: texts are looked up by no others
+    // the kinds of keys that occur; texts are looked up only by these
     kinds: Kinds,
 }
 
@@ -37,7 +37,7 @@ impl<A: Allocator> Model for Keyed<A> {
 }
 
 impl<A: Allocator + Copy> Keyed<A> {
-    /// The patterns that have these keys, in a table of so many slots.
+    /// The table of the patterns with these keys, with `slots` slots for keys. Fails only if allocation fails.
     pub fn new(alloc: A, keys: Vec<Option<Key>, A>, slots: usize) -> Result<Self, AllocError>
         requires some { 0 < slots }
         requires few { slots < 2 ^ 64 - 1 }
@@ -56,7 +56,8 @@ impl<A: Allocator + Copy> Keyed<A> {
         })
     }
 
-    /// Puts the patterns with a key by which the text is looked up into `found`, in ascending order.
+    /// Puts the patterns that have a key of the text into `found`, perhaps with others of the same hash, in ascending
+    /// order.
     #[inline(always)]
     pub fn find_in(&self, text: &[u8], found: &mut Found<A>)
         requires { found.old.items ≡ [] }
@@ -69,7 +70,7 @@ impl<A: Allocator + Copy> Keyed<A> {
         found.sort();
     }
 
-    /// Adds the patterns that are found by a component of the text or the beginning of one.
+    /// Adds the patterns that a component of the text or the beginning of one finds.
     #[inline(always)]
     fn find_components(&self, text: &[u8], found: &mut Found<A>)
         requires { All (λ k. k < length self.now) found.old.items }
@@ -81,7 +82,7 @@ impl<A: Allocator + Copy> Keyed<A> {
         }
     }
 
-    /// Adds the patterns that are found by the last bytes of the text.
+    /// Adds the patterns that the last bytes of the text find.
     #[inline(always)]
     fn find_endings(&self, text: &[u8], found: &mut Found<A>)
         requires { All (λ k. k < length self.now) found.old.items }
@@ -104,7 +105,7 @@ impl<A: Allocator + Copy> Keyed<A> {
         self.find_if(has_length(self.kinds.endings, len), hash, found);
     }
 
-    /// Adds the patterns that are found by each component of the text and the beginnings of each.
+    /// Adds the patterns that the components of the text and their beginnings find.
     fn find_each(&self, text: &[u8], found: &mut Found<A>)
         requires { All (λ k. k < length self.now) found.old.items }
         ensures within { All (λ k. k < length self.now) found.new.items }
@@ -118,7 +119,7 @@ impl<A: Allocator + Copy> Keyed<A> {
         self.find(component.hash, found);
     }
 
-    /// Adds the patterns that are found before this byte, where this component has been read.
+    /// Adds the patterns that are found right before this byte, after this part of a component.
     #[inline(always)]
     fn find_before(&self, byte: u8, component: Component, found: &mut Found<A>)
         requires { All (λ k. k < length self.now) found.old.items }
@@ -130,7 +131,7 @@ impl<A: Allocator + Copy> Keyed<A> {
         self.find_if(is_asked(byte, b'/', is_used), component.hash, found);
     }
 
-    /// Adds the patterns whose keys have this hash, if it is asked for.
+    /// Adds the patterns whose keys have this hash, if `is_asked`.
     #[inline(always)]
     fn find_if(&self, is_asked: bool, hash: u32, found: &mut Found<A>)
         requires { All (λ k. k < length self.now) found.old.items }
@@ -157,7 +158,7 @@ impl<A: Allocator + Copy> Keyed<A> {
         }
     }
 
-    /// Adds the pattern of this number if its key has this hash.
+    /// Adds the pattern if its key has this hash.
     fn push_if(&self, number: usize, hash: u32, found: &mut Found<A>)
         requires within { number < length self.now }
         requires found { All (λ k. k < length self.now) found.old.items }
@@ -172,7 +173,8 @@ impl<A: Allocator + Copy> Keyed<A> {
     }
 }
 
-/// Whether a text is looked up before a byte: at a mark, and where keys have as many bytes as have been read.
+/// Whether a text is looked up right before a byte: before a mark, and if there are keys with as many bytes as were
+/// read.
 #[inline(always)]
 fn is_asked(byte: u8, mark: u8, is_used: bool) -> bool
     ensures { IsTrue result ↔ (byte ≡ mark) ⊎ IsTrue is_used }
@@ -180,7 +182,7 @@ fn is_asked(byte: u8, mark: u8, is_used: bool) -> bool
     byte == mark || is_used
 }
 
-/// Whether there is a key, and it has this hash.
+/// Whether there is a key with this hash.
 fn has_hash(key: Option<Key>, hash: u32) -> bool
     ensures { IsTrue result ↔ IsSomeAnd key (HasHash hash) }
 {
@@ -190,7 +192,7 @@ fn has_hash(key: Option<Key>, hash: u32) -> bool
     }
 }
 
-/// Links the patterns in each slot, from the last one on.
+/// Links the patterns of each slot, starting with the last one.
 fn link(keys: &[Option<Key>], first: &mut [usize], next: &mut [usize])
     requires some { 1 < length first.old }
     requires first { first.old ≡ replicate (length first.old) (length keys.now) }
@@ -206,7 +208,7 @@ fn link(keys: &[Option<Key>], first: &mut [usize], next: &mut [usize])
     }
 }
 
-/// The slot of a key in a table of so many, or that of patterns without one.
+/// The slot of a key in a table of `slots`. Patterns without a key have the slot after these.
 fn key_slot(key: Option<Key>, slots: usize) -> usize
     requires { 0 < slots }
     ensures slot { result ≡ key_slot key slots }
@@ -218,7 +220,7 @@ fn key_slot(key: Option<Key>, slots: usize) -> usize
     }
 }
 
-/// How many slots so many keys get.
+/// The number of slots for this many keys.
 pub fn slots_for(keys: usize) -> usize
     ensures some { 0 < result }
     ensures few { result < 2 ^ 64 - 1 }

@@ -1,6 +1,6 @@
-//! Sets of patterns: which of many patterns match a text, where few of them are asked about it.
+//! Sets of patterns: which of many patterns match a text, usually without trying most of them.
 //!
-//! A [`PatternSet`] of `*.o`, `target/**` and `!*` says of `a.o` that number 0 is the first pattern that matches it.
+//! For a [`PatternSet`] of `*.o`, `target/**` and `!*`, the first pattern that matches `a.o` is number 0.
 #![tactic(auto)]
 
 pub mod braces;
@@ -13,6 +13,7 @@ mod keyed;
 mod needs;
 mod pairs;
 mod pattern_keys;
+mod rarest;
 mod reading;
 mod set;
 

@@ -1,18 +1,19 @@
-//! What a text needs so that a pattern may match it.
-ghost use Rattle.std.specs.Prelude.{◌≡◌, ◌<◌, IfOk, IfSome, MatchOption, bit_or, chars};
+//! What a text needs for a pattern to match it.
+ghost use Rattle.std.specs.Prelude.{◌≡◌, ◌<◌, All, IfOk, IfSome, MatchOption, bit_or, chars};
 ghost use Rattle.glob_pattern.specs.Matching.Literals.{HasLiteral};
-ghost use Rattle.glob_set.specs.Private.Pairs.{class_bit, IsPairAt, IsNeed, AreNeeds};
+ghost use Rattle.glob_set.specs.Private.Pairs.{class_bit, IsPairAt, IsNeed, AreNeeds, HasSmallClass};
 
 use crate::pairs::{Need, class_bit, pair_class};
 use glob_pattern::{Pattern, literal_at, tokens_len};
 use std::alloc::{AllocError, Allocator};
 
-/// For each of the patterns what each text has that it matches.
+/// For each pattern, what every text has that it matches. Fails only if allocation fails.
 pub fn needs_of<A: Allocator + Copy>(
     alloc: A,
     patterns: &[Pattern<A>],
 ) -> Result<Vec<Need, A>, AllocError>
-    ensures { IfOk result (λ needs. AreNeeds patterns.now needs.items) }
+    ensures needs { IfOk result (λ needs. AreNeeds patterns.now needs.items) }
+    ensures small { IfOk result (λ needs. All HasSmallClass needs.items) }
 {
     let mut needs = Vec::new(alloc);
     for pattern in patterns {
@@ -21,10 +22,11 @@ pub fn needs_of<A: Allocator + Copy>(
     Ok(needs)
 }
 
-/// What each text has that the pattern matches: of `src/*.rs` the neighbours in `src/` and `.rs`, with `s` at the start
-/// and `rs` at the end.
+/// What every text has that the pattern matches. For `src/*.rs` that is the neighbours in `src/` and `.rs`, `s` at the
+/// start and `rs` at the end.
 fn need_of<A: Allocator>(pattern: &Pattern<A>) -> Need
-    ensures { IsNeed pattern.now result }
+    ensures need { IsNeed pattern.now result }
+    ensures small { HasSmallClass result }
 {
     let mut bits = 0;
     let mut class = None;
@@ -35,7 +37,7 @@ fn need_of<A: Allocator>(pattern: &Pattern<A>) -> Need
     Need { bits, class }
 }
 
-/// The bits, and that of the class if there is one.
+/// The bits, with that of the class if there is one.
 fn with_class(bits: u128, class: Option<u8>) -> u128
     requires { IfSome class (λ k. k < 128) }
     ensures { MatchOption class (result ≡ bits) (λ k. result ≡ bit_or bits (class_bit k)) }
@@ -46,7 +48,7 @@ fn with_class(bits: u128, class: Option<u8>) -> u128
     }
 }
 
-/// The class of the byte that the token of this number is and of the byte before it, if these are known.
+/// The class of the byte of token `number` and the byte before it, if both are known.
 fn pair_at<A: Allocator>(pattern: &Pattern<A>, number: usize) -> Option<u8>
     ensures pair { IfSome result (IsPairAt pattern.now number) }
     ensures small { IfSome result (λ class. class < 128) }
@@ -59,7 +61,7 @@ fn pair_at<A: Allocator>(pattern: &Pattern<A>, number: usize) -> Option<u8>
     Some(pair_class(before, byte))
 }
 
-/// The byte that the token of this number is, if it is a literal of ASCII.
+/// The byte of token `number`, if that is an ASCII literal.
 pub fn byte_at<A: Allocator>(pattern: &Pattern<A>, number: usize) -> Option<u8>
     ensures literal { IfSome result (HasLiteral (chars pattern.now) number) }
     ensures ascii { IfSome result (λ b. b < 128) }

@@ -1,17 +1,17 @@
-//! Neighbouring bytes as bits of one word.
+//! Pairs of neighbouring bytes, as bits of one word.
 ghost use Rattle.std.specs.Prelude.{◌≡◌, ◌<◌};
 ghost use Rattle.glob_set.specs.Private.Pairs.{pair_class, class_bit, text_bits, text_class};
 
-/// What each text has that a pattern matches.
+/// What every text has that a pattern matches.
 #[derive(Clone, Copy)]
 pub struct Need {
-    /// Bits of neighbouring bytes.
+    /// The bits of neighbouring bytes.
     pub bits: u128,
-    /// The class of the last two bytes, if the pattern ends in literals.
+    /// The class of the last two bytes, if the pattern ends in two ASCII literals or is a single one.
     pub class: Option<u8>,
 }
 
-/// The class of two neighbouring bytes, below 128: that of `.o` is that of `.O`.
+/// The class of two neighbouring bytes, below 128. `.o` and `.O` have the same.
 #[inline(always)]
 pub fn pair_class(a: u8, b: u8) -> u8
     ensures class { result ≡ pair_class a b }
@@ -29,7 +29,7 @@ pub fn class_bit(class: u8) -> u128
     1 << class
 }
 
-/// The class of a text, by its last two bytes. A byte 0 is before the first.
+/// The class of a text's last two bytes, as if a byte 0 preceded the text.
 #[inline(always)]
 pub fn text_class(bytes: &[u8]) -> u8
     ensures class { result ≡ text_class bytes.now }
@@ -42,7 +42,7 @@ pub fn text_class(bytes: &[u8]) -> u8
     }
 }
 
-/// The bits of a text. A byte 0 is before the first.
+/// The bits of all neighbouring bytes of a text, as if a byte 0 preceded it.
 #[inline(always)]
 pub fn text_bits(bytes: &[u8]) -> u128
     ensures { result ≡ text_bits bytes.now }

@@ -1,149 +1,25 @@
-//! The keys of patterns: what each text has that they match, by which few patterns are found for a text.
-ghost use Rattle.std.specs.Prelude.{◌≡◌, ◌+◌, ◌<◌, length, chars, All, Contains, IfOk, IfSome, IsTrue, OnOk};
+//! The keys of patterns: what every text has that they match, by which a text finds few patterns.
+ghost use Rattle.std.specs.Prelude.{◌≡◌, ◌+◌, ◌<◌, length, chars, All, IfSome, IsTrue, OnOk};
 ghost use Rattle.glob_text.specs.Characters.{slash};
 ghost use Rattle.glob_pattern.specs.Computing.Tokens.{tokens_of};
 ghost use Rattle.glob_pattern.specs.Matching.Literals.{HasLiteral};
 ghost use Rattle.glob_set.specs.Private.Components.{IsInnerRecursive, IsReadAt};
-ghost use Rattle.glob_set.specs.Private.Keys.{AreKeys, HasKey};
+ghost use Rattle.glob_set.specs.Private.Keys.{HasKey};
 
-use crate::components::{Component, hash_before, slot_of};
+use crate::components::{Component, hash_before};
 use crate::key::Key;
-use crate::keyed::slots_for;
 use glob_pattern::{Pattern, TokenKind, literal_at, token_kind, tokens_len};
 use std::alloc::{AllocError, Allocator};
 
-/// How many patterns have keys at least, if any does: fewer are asked faster than keys are looked up.
-const MANY: usize = 64;
-
-/// A key is common from so many of them in its slot on.
-const COMMON: u8 = 32;
-
-/// How many bytes a beginning or an ending has at most: texts are looked up by each number of bytes that a key has.
+/// The greatest length of a beginning or an ending in bytes. A text is looked up by each length that occurs.
 const LONGEST: u8 = 8;
 
-/// How many slots there are for each pattern, so that few rare keys are counted with a common one.
-const SLOTS: usize = 16;
-
-/// For each of the patterns its rarest key, if that is rare, as that of `mod17` for `src/mod17/*.rs`. If few patterns
-/// have one, none has.
-pub fn keys_of<A: Allocator + Copy>(
-    alloc: A,
-    patterns: &[Pattern<A>],
-) -> Result<Vec<Option<Key>, A>, AllocError>
-    ensures { IfOk result (λ keys. AreKeys patterns.now keys.items) }
-{
-    if patterns.len() < MANY {
-        return no_keys(alloc, patterns);
-    }
-    let slots = slots_for(patterns.len().saturating_mul(SLOTS));
-    let counts = counts_of(alloc, patterns, slots)?;
-    let mut found = Vec::new(alloc);
-    let mut keys = Vec::new(alloc);
-    for pattern in patterns {
-        find_keys(pattern, &mut found)?;
-        keys.push(rarest(found.as_slice(), counts.as_slice()))?;
-    }
-    if count_some(keys.as_slice()) < MANY {
-        return no_keys(alloc, patterns);
-    }
-    Ok(keys)
-}
-
-/// No key for any of the patterns.
-fn no_keys<A: Allocator + Copy>(
-    alloc: A,
-    patterns: &[Pattern<A>],
-) -> Result<Vec<Option<Key>, A>, AllocError>
-    ensures { IfOk result (λ keys. AreKeys patterns.now keys.items) }
-{
-    vec![in alloc; None; patterns.len()]
-}
-
-/// How many keys there are.
-fn count_some(keys: &[Option<Key>]) -> usize {
-    let mut count = 0;
-    for key in keys {
-        if key.is_some() {
-            count += 1;
-        }
-    }
-    count
-}
-
-/// For each slot how many keys of patterns are in it, 255 at most.
-fn counts_of<A: Allocator + Copy>(
-    alloc: A,
-    patterns: &[Pattern<A>],
-    slots: usize,
-) -> Result<Vec<u8, A>, AllocError>
-    requires { 0 < slots }
-    ensures { IfOk result (λ counts. length counts.items ≡ slots) }
-{
-    let mut counts = vec![in alloc; 0; slots]?;
-    let mut keys = Vec::new(alloc);
-    for pattern in patterns {
-        find_keys(pattern, &mut keys)?;
-        count_keys(keys.as_slice(), counts.as_mut_slice());
-    }
-    Ok(counts)
-}
-
-/// Counts each of the keys in its slot.
-fn count_keys(keys: &[Key], counts: &mut [u8])
-    requires { 0 < length counts.old }
-    ensures { length counts.new ≡ length counts.old }
-{
-    for key in keys {
-        let slot = count_slot(*key, counts.len());
-        counts[slot] = counts[slot].saturating_add(1);
-    }
-}
-
-/// The key with the fewest in its slot and what it costs texts, if that is little.
-fn rarest(keys: &[Key], counts: &[u8]) -> Option<Key>
-    requires { 0 < length counts.now }
-    ensures { IfSome result (Contains keys.now) }
-{
-    let mut rarest = None;
-    let mut least = COMMON;
-    for key in keys {
-        let count = counts[count_slot(*key, counts.len())];
-        let cost = count.saturating_add(cost_of(*key));
-        if cost < least {
-            rarest = Some(*key);
-            least = cost;
-        }
-    }
-    rarest
-}
-
-/// The slot of a key in so many counts: another for a component than for the beginning of another one.
-fn count_slot(key: Key, slots: usize) -> usize
-    requires { 0 < slots }
-    ensures { result < slots }
-{
-    let salt = match key {
-        Key::Component(_) => 0,
-        Key::Beginning(..) => 0x5555_5555,
-        Key::Ending(..) => 0xAAAA_AAAA,
-        Key::Extension(..) => 0xFFFF_FFFF,
-    };
-    slot_of(key.hash() ^ salt, slots)
-}
-
-/// What looking a key up costs each text, counted in patterns that are asked: a text is looked up by each number of bytes
-/// that a beginning or an ending has.
-fn cost_of(key: Key) -> u8 {
-    match key {
-        Key::Component(_) => 0,
-        Key::Extension(..) => 1,
-        Key::Beginning(..) | Key::Ending(..) => 16,
-    }
-}
-
-/// Replaces the content of `keys` by the keys of the pattern: its endings, and each component without wildcards and
-/// each beginning of a component. All are made of literals.
-fn find_keys<A: Allocator>(pattern: &Pattern<A>, keys: &mut Vec<Key, A>) -> Result<(), AllocError>
+/// Replaces the content of `keys` with the keys of the pattern: its endings, its components without wildcards, and the
+/// beginnings of its components. All are made of literals.
+pub fn find_keys<A: Allocator>(
+    pattern: &Pattern<A>,
+    keys: &mut Vec<Key, A>,
+) -> Result<(), AllocError>
     ensures { OnOk result (All (HasKey pattern.now) keys.new.items) }
 {
     keys.clear();
@@ -151,7 +27,8 @@ fn find_keys<A: Allocator>(pattern: &Pattern<A>, keys: &mut Vec<Key, A>) -> Resu
     push_components(pattern, keys)
 }
 
-/// Adds the endings and extensions: of `*1.js` the endings `s`, `js`, `.js` and `1.js`, and the extension `js`.
+/// Adds the endings and extensions. For `*1.js` these are the endings `s`, `js`, `.js` and `1.js` and the extension
+/// `js`.
 fn push_endings<A: Allocator>(
     pattern: &Pattern<A>,
     keys: &mut Vec<Key, A>,
@@ -199,7 +76,7 @@ fn push_components<A: Allocator>(
     Ok(())
 }
 
-/// Adds the key before the token of this number, if there is one.
+/// Adds the key right before this token, if there is one.
 fn push_key<A: Allocator>(
     pattern: &Pattern<A>,
     token: usize,
@@ -216,7 +93,7 @@ fn push_key<A: Allocator>(
     Ok(())
 }
 
-/// The key before the token of this number, where a component has been read.
+/// The key right before this token, given the part of the component before it.
 fn key_before<A: Allocator>(
     pattern: &Pattern<A>,
     token: usize,
@@ -235,7 +112,7 @@ fn key_before<A: Allocator>(
     Some(Key::Beginning(component.hash, component.len))
 }
 
-/// The component after the token of this number, if it is known.
+/// The component after this token, if it is known.
 fn read_token<A: Allocator>(
     pattern: &Pattern<A>,
     token: usize,
@@ -255,14 +132,15 @@ fn read_token<A: Allocator>(
     }
 }
 
-/// Whether the token of this number is `/`.
+/// Whether this token is a `/`.
 fn is_separator<A: Allocator>(pattern: &Pattern<A>, token: usize) -> bool
     ensures { IsTrue result → HasLiteral (chars pattern.now) token slash }
 {
     matches!(literal_at(pattern, token), Some('/'))
 }
 
-/// The component after the wildcard of this number, if it is known: after `**` one of which nothing has been read.
+/// The component after this wildcard, if it is known: an inner `**` at the start of a component leads to the start of
+/// one.
 fn read_wildcard<A: Allocator>(
     pattern: &Pattern<A>,
     token: usize,
@@ -278,7 +156,7 @@ fn read_wildcard<A: Allocator>(
     None
 }
 
-/// Whether the token of this number is `**`, and not the last one.
+/// Whether this token is a `**` that is not the last token.
 fn is_inner_recursive<A: Allocator>(pattern: &Pattern<A>, token: usize) -> bool
     requires { token < length (tokens_of (chars pattern.now)) }
     ensures { IsTrue result → IsInnerRecursive (chars pattern.now) token }

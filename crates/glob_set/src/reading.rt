@@ -1,4 +1,4 @@
-//! Lists of patterns from texts.
+//! Patterns parsed from lists of texts.
 ghost use Rattle.std.specs.Prelude.{◌≡◌, map, string_bytes, chars, IfOk, IfErr};
 ghost use Rattle.glob_set.specs.Braces.{AreAlternatives};
 ghost use Rattle.glob_set.specs.BraceSets.{AreAccepted, AreAlternativesOf, HasPatterns, RefusesText, RefusesBraceTexts, of_alternatives, of_braces};
@@ -9,7 +9,7 @@ use crate::error::{BraceSetRefusal, SetRefusal};
 use glob_pattern::{Pattern, PatternRefusal};
 use std::alloc::{AllocError, Allocator};
 
-/// Parses each of the texts. The error is the fault of the first that is not accepted, or a failed allocation.
+/// Parses the texts. The error is the fault of the first text that is not accepted, or a failed allocation.
 pub fn read_patterns<A: Allocator + Copy>(
     alloc: A,
     texts: &[&str],
@@ -26,7 +26,7 @@ pub fn read_patterns<A: Allocator + Copy>(
     Ok(patterns)
 }
 
-/// The refusal of texts of which that of this number is refused.
+/// The error for the text at index `number`.
 fn refusal_of(number: usize, refusal: PatternRefusal) -> SetRefusal
     ensures { result ≡ refusal_of number refusal }
 {
@@ -36,8 +36,7 @@ fn refusal_of(number: usize, refusal: PatternRefusal) -> SetRefusal
     }
 }
 
-/// Parses each of the alternatives of each of the texts. The error is the fault of the first text that has one, or a
-/// failed allocation.
+/// Parses all alternatives of all texts. The error is the fault of the first text that has one, or a failed allocation.
 pub fn read_braces<A: Allocator + Copy>(
     alloc: A,
     texts: &[&str],
@@ -54,7 +53,7 @@ pub fn read_braces<A: Allocator + Copy>(
     Ok(patterns)
 }
 
-/// Parses each of the alternatives of the text of this number. The error is its fault, or a failed allocation.
+/// Parses all alternatives of the text at index `number`. The error is the fault of that text, or a failed allocation.
 fn read_alternatives<A: Allocator + Copy>(
     alloc: A,
     number: usize,
@@ -81,7 +80,7 @@ fn strs_of<A: Allocator + Copy>(alloc: A, texts: &[String<A>]) -> Result<Vec<&st
     Ok(strs)
 }
 
-/// The refusal of texts of which that of this number has braces that are refused.
+/// The error for the braces of the text at index `number`.
 fn of_braces(number: usize, refusal: BraceRefusal) -> BraceSetRefusal
     ensures { result ≡ of_braces number refusal }
 {
@@ -91,7 +90,7 @@ fn of_braces(number: usize, refusal: BraceRefusal) -> BraceSetRefusal
     }
 }
 
-/// The refusal of texts of which that of this number has alternatives that are refused.
+/// The error for an alternative of the text at index `number`.
 fn of_alternatives(number: usize, refusal: SetRefusal) -> BraceSetRefusal
     ensures { result ≡ of_alternatives number refusal }
 {

@@ -6,13 +6,13 @@ ghost use Rattle.glob_set.specs.Sets.{AnyMatch, FirstMatch, LastMatch, all_match
 
 mod asking;
 
-use crate::buckets::{Bucket, bucket_of_all, buckets_of};
+use crate::buckets::{Bucket, Buckets, bucket_of_all};
 use crate::error::{BraceSetRefusal, SetRefusal};
 use crate::found::Found;
 use crate::keyed::{Keyed, slots_for};
 use crate::needs::needs_of;
 use crate::pairs::Need;
-use crate::pattern_keys::keys_of;
+use crate::rarest::keys_of;
 use crate::reading::{read_braces, read_patterns};
 use asking::{bits_for, earlier, later};
 use glob_pattern::{MatchOptions, Pattern};
@@ -20,10 +20,10 @@ use std::alloc::{AllocError, Allocator, Global};
 use std::marker::Model;
 use std::path::Path;
 
-/// Patterns in order, and the options that they match by. It reports which of them match a text by their **numbers**,
-/// counted from 0. Most patterns are rejected untried, since the text lacks bytes that each text has that they match.
-/// Of many patterns, those with a component, a beginning of one, or last bytes that few of them have are looked up by
-/// those of the text.
+/// A list of patterns with the options that they match by. The set reports patterns by their **numbers**, counted from
+/// 0. It rejects most patterns untried, because the text lacks bytes that every match has. In a large set it finds
+/// patterns with a rare component, beginning of a component, or ending by looking up those of the text. No clause says
+/// how many patterns are tried.
 ///
 /// ```text
 /// let ignored = PatternSet::from_texts(alloc, &["**/*.o", "**/target/**"], options)?;
@@ -35,13 +35,13 @@ use std::path::Path;
 #[derive(Drop)]
 pub struct PatternSet<A: Allocator = Global> {
     patterns: Vec<Pattern<A>, A>,
-    // for each pattern what each text has that it matches
+    // for each pattern, what every text has that it matches
     needs: Vec<Need, A>,
-    // the keys of those that are found by one
+    // the keys of the patterns that are found by one
     keyed: Keyed<A>,
-    // by the classes of texts the numbers of the other patterns that may match one
-    buckets: Vec<Bucket<A>, A>,
-    // the numbers of all patterns, for a text by which many are found where an allocation fails
+    // the numbers of the other patterns, by the class of the texts that they may match
+    buckets: Buckets<A>,
+    // the numbers of all patterns, for a text that finds many while an allocation fails
     all: Bucket<A>,
     options: MatchOptions,
 }
@@ -59,12 +59,12 @@ impl<A: Allocator> Model for PatternSet<A> {
 
     ghost invariant = { λ set. AreNeeds set.patterns.items set.needs.items
         × AreKeys set.patterns.items set.keyed
-        × AreBuckets set.needs.items set.keyed set.buckets.items
+        × AreBuckets set.needs.items set.keyed (length set.needs.items) set.buckets
         × IsAll (length set.patterns.items) set.all };
 }
 
 impl<A: Allocator> PatternSet<A> {
-    /// The patterns, in order: that of number 0 first.
+    /// The patterns in order, number 0 first.
     pub fn patterns(&self) -> &[Pattern<A>]
         ensures { result.now ≡ self.now.patterns }
     {
@@ -78,14 +78,14 @@ impl<A: Allocator> PatternSet<A> {
         self.options
     }
 
-    /// How many patterns there are: 2 of `*.o` and `target/**`.
+    /// The number of patterns: 2 for `*.o` and `target/**`.
     pub fn len(&self) -> usize
         ensures { result ≡ length self.now.patterns }
     {
         self.patterns.len()
     }
 
-    /// Whether there are no patterns, so that nothing is matched.
+    /// Whether the set has no patterns, and so matches nothing.
     pub fn is_empty(&self) -> bool
         ensures { IsTrue result ↔ (length self.now.patterns ≡ 0) }
     {
@@ -94,7 +94,7 @@ impl<A: Allocator> PatternSet<A> {
 }
 
 impl<A: Allocator + Copy> PatternSet<A> {
-    /// A set of these patterns, in this order. Fails only if allocation fails.
+    /// A set of these patterns, numbered in this order. Fails only if allocation fails.
     pub fn new(
         alloc: A,
         patterns: Vec<Pattern<A>, A>,
@@ -105,7 +105,7 @@ impl<A: Allocator + Copy> PatternSet<A> {
     {
         let needs = needs_of(alloc, patterns.as_slice())?;
         let keys = keys_of(alloc, patterns.as_slice())?;
-        let buckets = buckets_of(alloc, needs.as_slice(), keys.as_slice())?;
+        let buckets = Buckets::new(alloc, needs.as_slice(), keys.as_slice())?;
         let keyed = Keyed::new(alloc, keys, slots_for(patterns.len()))?;
         let all = bucket_of_all(alloc, patterns.len())?;
         Ok(PatternSet {
@@ -118,7 +118,7 @@ impl<A: Allocator + Copy> PatternSet<A> {
         })
     }
 
-    /// [`new`](Self::new) of the patterns that are parsed from the texts, as from `*.o` and `target/**`.
+    /// Parses the texts, such as `*.o` and `target/**`, and makes a set of the patterns, in this order.
     ///
     /// The error is [`Syntax`](SetRefusal::Syntax) with the number and the fault of the first text that is not
     /// accepted, or [`Memory`](SetRefusal::Memory) if an allocation fails.
@@ -132,9 +132,9 @@ impl<A: Allocator + Copy> PatternSet<A> {
         Ok(Self::new(alloc, patterns, options)?)
     }
 
-    /// [`new`](Self::new) of all alternatives of all texts, as from `src/*.{c,h}`: those of the first text first, as
-    /// [`expand`](crate::braces::expand) returns them. A text matches exactly if one of the alternatives of one of the
-    /// texts matches it.
+    /// Parses all alternatives of all texts, such as `src/*.{c,h}`, and makes a set of the patterns: those of the first
+    /// text first, in the order of [`expand`](crate::braces::expand). The set matches a text exactly if an alternative
+    /// of one of the texts does.
     ///
     /// The error is that of the first text with a fault, [`Braces`](BraceSetRefusal::Braces) or
     /// [`Pattern`](BraceSetRefusal::Pattern), or [`Memory`](BraceSetRefusal::Memory) if an allocation fails.
@@ -154,10 +154,10 @@ impl<A: Allocator + Copy> PatternSet<A> {
         Ok(Self::new(alloc, patterns, options)?)
     }
 
-    /// Whether any of the patterns matches the text: by `*.o` and `target/**`, `a.o` is matched, and `a.rs` is not.
+    /// Whether a pattern of the set matches the text: for `*.o` and `target/**`, `a.o` is matched, and `a.rs` is not.
     ///
-    /// The error is a failed allocation. With patterns of at most 63 tokens (characters, wildcards and brackets) the
-    /// call succeeds.
+    /// The error is a failed allocation. If each pattern has at most 63 tokens (characters, wildcards and brackets),
+    /// the call succeeds.
     pub fn is_match(&self, text: &str) -> Result<bool, AllocError>
         ensures answer { IfOk result
             (λ yes. IsTrue yes ↔ AnyMatch self.now.options self.now.patterns text.now) }
@@ -166,7 +166,8 @@ impl<A: Allocator + Copy> PatternSet<A> {
         Ok(self.first_match(text)?.is_some())
     }
 
-    /// The number of the first pattern that matches the text, or `None`: by `a*` and `*b`, 0 of `ab`, and 1 of `b`.
+    /// The number of the first pattern that matches the text, or `None`. For `a*` and `*b` it is 0 for `ab` and 1 for
+    /// `b`.
     ///
     /// The error is that of [`is_match`](Self::is_match).
     pub fn first_match(&self, text: &str) -> Result<Option<usize>, AllocError>
@@ -182,7 +183,8 @@ impl<A: Allocator + Copy> PatternSet<A> {
         Ok(earlier(listed, found))
     }
 
-    /// The number of the last pattern that matches the text, or `None`: by `a*` and `*b`, 1 of `ab`, and 0 of `a`.
+    /// The number of the last pattern that matches the text, or `None`. For `a*` and `*b` it is 1 for `ab` and 0 for
+    /// `a`.
     ///
     /// The error is that of [`is_match`](Self::is_match).
     pub fn last_match(&self, text: &str) -> Result<Option<usize>, AllocError>
@@ -198,10 +200,10 @@ impl<A: Allocator + Copy> PatternSet<A> {
         Ok(later(listed, found))
     }
 
-    /// Replaces the content of `numbers` by the numbers of all patterns that match the text, in ascending order: by
-    /// `a*` and `*b`, 0 and 1 for `ab`, and none for `c`.
+    /// Replaces the content of `numbers` with the numbers of all patterns that match the text, in ascending order. For
+    /// `a*` and `*b` these are 0 and 1 for `ab`, and none for `c`.
     ///
-    /// The error is a failed allocation, for `numbers` or a match. Then `numbers` is empty.
+    /// The error is a failed allocation, for `numbers` or for a match, after which `numbers` is empty.
     pub fn matches_into<B: Allocator>(
         &self,
         text: &str,
@@ -213,7 +215,7 @@ impl<A: Allocator + Copy> PatternSet<A> {
     {
         match self.find_matches(text, numbers) {
             Ok(()) => {
-                // Those with a key come after the others, and twice where all patterns were asked.
+                // Patterns with a key come after the others, and twice if all patterns were asked.
                 numbers.as_mut_slice().sort_unstable();
                 numbers.dedup();
                 Ok(())
@@ -225,7 +227,7 @@ impl<A: Allocator + Copy> PatternSet<A> {
         }
     }
 
-    /// [`is_match`](Self::is_match) of the path's text, with its error.
+    /// [`is_match`](Self::is_match) for the path's text, with the same error.
     pub fn is_match_path(&self, path: Path<'_>) -> Result<bool, AllocError>
         ensures answer { IfOk result (λ yes. IsTrue yes
             ↔ AnyMatch self.now.options self.now.patterns (path_bytes path.entry)) }
@@ -234,7 +236,7 @@ impl<A: Allocator + Copy> PatternSet<A> {
         self.is_match(path.as_str())
     }
 
-    /// [`first_match`](Self::first_match) of the path's text, with its error.
+    /// [`first_match`](Self::first_match) for the path's text, with the same error.
     pub fn first_match_path(&self, path: Path<'_>) -> Result<Option<usize>, AllocError>
         ensures answer { IfOk result
             (FirstMatch self.now.options self.now.patterns (path_bytes path.entry)) }
@@ -243,7 +245,7 @@ impl<A: Allocator + Copy> PatternSet<A> {
         self.first_match(path.as_str())
     }
 
-    /// [`last_match`](Self::last_match) of the path's text, with its error.
+    /// [`last_match`](Self::last_match) for the path's text, with the same error.
     pub fn last_match_path(&self, path: Path<'_>) -> Result<Option<usize>, AllocError>
         ensures answer { IfOk result
             (LastMatch self.now.options self.now.patterns (path_bytes path.entry)) }
@@ -252,7 +254,7 @@ impl<A: Allocator + Copy> PatternSet<A> {
         self.last_match(path.as_str())
     }
 
-    /// [`matches_into`](Self::matches_into) of the path's text, with its error.
+    /// [`matches_into`](Self::matches_into) for the path's text, with the same error.
     pub fn matches_path_into<B: Allocator>(
         &self,
         path: Path<'_>,

@@ -1,4 +1,4 @@
--- The two characters that texts, names and paths all give a meaning.
+-- The two characters with a special meaning in texts, names and paths.
 use Rattle.std.specs.Prelude.{ℕ}
 
 -- `/`, the only separator

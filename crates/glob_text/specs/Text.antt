@@ -1,4 +1,4 @@
--- Places of a text. A text is a list of characters, and a place is a number of them from the start.
+-- Texts and places in them. A text is a list of characters, and a place is the number of characters before it.
 use Rattle.std.specs.Prelude.{◌≡◌, ℕ, ◌-◌, ◌<◌, Bool, ◌&&◌, ◌||◌, nat_lt, ◌==◌, List, length, take, drop, slice_index}
 use Rattle.glob_text.specs.Characters.{slash}
 
@@ -9,11 +9,11 @@ Text = List ℕ
 abbrev pub Has : Text → ℕ → ℕ → Type 0
 Has text k c = (k < length text) × (slice_index text k ≡ c)
 
--- the test of the same
+-- the same, as a test
 abbrev pub has : Text → ℕ → ℕ → Bool
 has text k c = nat_lt k (length text) && slice_index text k == c
 
--- place k opens: it is the start, or `/` stands right before it
+-- place k opens a component: it is the start, or comes right after `/`
 abbrev pub opens : Text → ℕ → Bool
 opens text k = k == 0 || slice_index text (k - 1) == slash
 

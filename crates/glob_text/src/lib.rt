@@ -1,2 +1,2 @@
-//! What texts are to the crates above: characters, places, and pieces between separators. It has definitions alone.
+//! Definitions about texts that the other crates share: characters, places, and the pieces between separators.
 #![tactic(auto)]

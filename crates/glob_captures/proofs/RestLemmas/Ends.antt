@@ -1,5 +1,7 @@
 -- The first place where a piece may end is the end of its shortest piece.
-use Rattle.std.proofs.Common.{◌≡◌, ◌≢◌, ℕ, ◌+◌, ◌<◌, ◌≤◌, ◌↔◌, inl, inr, ⊎_elim, Bool, true, false, ◌||◌, ◌==◌, not, List, [], ◌∷◌, ◌++◌, length, get_or, map, IsTrue, refl, sym, subst, ◌∙◌, arith, append_assoc}
+use Rattle.std.proofs.Common.{◌≡◌, ◌≢◌, ℕ, ◌+◌, ◌<◌, ◌≤◌, ◌↔◌, inl, inr, ⊎_elim, Bool, true, false, ◌||◌, ◌==◌, not}
+use Rattle.std.proofs.Common.{List, [], ◌∷◌, ◌++◌, length, get_or, map, IsTrue, refl, sym, subst, ◌∙◌, arith}
+use Rattle.std.proofs.Common.{append_assoc}
 use Rattle.std.proofs.lemmas.Bool.{cases_lt, false≢true, or_cases, or_left, or_right, eqb-true, eq-eqb, and_parts, and_from}
 use Rattle.std.proofs.lemmas.List.{drop_all, length-map, append-nil}
 use Rattle.glob_text.specs.Text.{Text, opens}
@@ -14,11 +16,13 @@ use Rattle.glob_captures.specs.declared.steps.Form.{Form}
 use Rattle.glob_captures.specs.declared.piece.Piece.{Piece}
 use Rattle.glob_captures.specs.Writing.{byte_place}
 use Rattle.glob_captures.specs.Private.Rests.{grows, closes, shape_at, shapes_from, IsFormAt, TakesRest, AreRests}
-use Rattle.glob_captures.specs.Private.Ends.{IsShortestEnd, AreShortestEnds, places_between, HasShortestEnds, LacksOnly, may_end, IsFirstEnd}
+use Rattle.glob_captures.specs.Private.Ends.{IsShortestEnd, AreShortestEnds, places_between, HasShortestEnds, LacksOnly}
+use Rattle.glob_captures.specs.Private.Ends.{may_end, IsFirstEnd}
 use Rattle.glob_captures.proofs.RestLemmas.Rows.{shapes-at}
 
 -- where a piece reaches, by a test
-reach-test : (table : Table) (shape : Shape) (others : List Shape) (i j : ℕ) → IsTrue (grows shape) → MayReach table shape others i j → IsTrue (j == i || (not (closes shape others) || table.opens j))
+reach-test : (table : Table) (shape : Shape) (others : List Shape) (i j : ℕ) → IsTrue (grows shape) → MayReach table
+    shape others i j → IsTrue (j == i || (not (closes shape others) || table.opens j))
 reach-test table One others i j more reach = absurd (false≢true more)
 reach-test table Run others i j more reach = or_right (j == i) true refl
 reach-test table Deep [] i j more reach = or_right (j == i) true refl
@@ -26,7 +30,8 @@ reach-test table Deep (s ∷ ss) i j more (low, ends) =
     ⊎_elim (λ e. let none : s ∷ ss ≢ [] = λ h. cc in absurd (none e))
     (⊎_elim (λ e. or_left (j == i) (table.opens j) (eq-eqb j i e)) (λ h. or_right (j == i) (table.opens j) h)) ends
 
-test-reach : (table : Table) (shape : Shape) (others : List Shape) (i j : ℕ) → IsTrue (grows shape) → i ≤ j → IsTrue (j == i || (not (closes shape others) || table.opens j)) → MayReach table shape others i j
+test-reach : (table : Table) (shape : Shape) (others : List Shape) (i j : ℕ) → IsTrue (grows shape) → i ≤ j → IsTrue
+    (j == i || (not (closes shape others) || table.opens j)) → MayReach table shape others i j
 test-reach table One others i j more low test = absurd (false≢true more)
 test-reach table Run others i j more low test = low
 test-reach table Deep [] i j more low test = (low, inl refl)
@@ -52,7 +57,8 @@ shortest-growing table n shape others text next ends i end more same opening man
 
     low : (j : ℕ) → MayReach table shape others i j → TakesAll table n i j → SplitsFrom table (n + 1) others j → end ≤ j
     low j may all split =
-        ⊎_elim (λ early. absurd (first.before j (MayReach-le table shape others i j may) early (fits j may split))) (λ h. h) (cases_lt j end)
+        ⊎_elim (λ early. absurd (first.before j (MayReach-le table shape others i j may) early (fits j may split)))
+        (λ h. h) (cases_lt j end)
 
     short : end ≤ m
     short = low m reach took rest
@@ -77,20 +83,29 @@ shortest-growing table n shape others text next ends i end more same opening man
         (and_parts (get_or next end false) (end == i || (not ends || opens text end)) here).1))
 
 -- the shortest piece of a token that takes one character
-shortest-one : (table : Table) (n : ℕ) (shape : Shape) (others : List Shape) (i : ℕ) → grows shape ≡ false → SplitsFrom table n (shape ∷ others) i → IsShortestEnd table n shape others i (i + 1)
+shortest-one : (table : Table) (n : ℕ) (shape : Shape) (others : List Shape) (i : ℕ) → grows shape ≡ false
+    → SplitsFrom table n (shape ∷ others) i → IsShortestEnd table n shape others i (i + 1)
 shortest-one table n One others i fixed (m, reach, took, rest) =
-    record { reach = refl; took = subst (TakesAll table n i) reach took; rest = subst (SplitsFrom table (n + 1) others) reach rest; least = λ j may all split. omega arith }
+    record {
+      reach = refl;
+      took = subst (TakesAll table n i) reach took;
+      rest = subst (SplitsFrom table (n + 1) others)
+          reach rest;
+      least = λ j may all split. omega arith;
+    }
 shortest-one table n Run others i fixed split = absurd (false≢true (sym fixed))
 shortest-one table n Deep others i fixed split = absurd (false≢true (sym fixed))
 
 -- a token that takes one character has one to take
-room-one : (table : Table) (n : ℕ) (shape : Shape) (others : List Shape) (i : ℕ) → grows shape ≡ false → SplitsFrom table n (shape ∷ others) i → i < table.characters
+room-one : (table : Table) (n : ℕ) (shape : Shape) (others : List Shape) (i : ℕ) → grows shape ≡ false
+    → SplitsFrom table n (shape ∷ others) i → i < table.characters
 room-one table n One others i fixed (m, reach, took, rest) = omega (arith, SplitsFrom-within table (n + 1) others m rest)
 room-one table n Run others i fixed split = absurd (false≢true (sym fixed))
 room-one table n Deep others i fixed split = absurd (false≢true (sym fixed))
 
 -- where the tokens from number n on take the rest
-module _ (o : MatchOptions) (tokens : List Token) (text : Text) (n i : ℕ) (form : Form) (below : n < length tokens) (is : IsFormAt tokens n form) where
+module _ (o : MatchOptions) (tokens : List Token) (text : Text) (n i : ℕ) (form : Form) (below : n < length tokens)
+    (is : IsFormAt tokens n form) where
   abbrev table : Table
   table = table_of o tokens text
 
@@ -104,27 +119,35 @@ module _ (o : MatchOptions) (tokens : List Token) (text : Text) (n i : ℕ) (for
   room fixed rest = room-one table n (shape_at tokens n) (shapes_from tokens (n + 1)) i (sym is.many ∙ fixed) (split-at rest)
 
   -- which ends at the next place
-  pub shortest_one : form.grows ≡ false → TakesRest o tokens text n i → IsShortestEnd table n (shape_at tokens n) (shapes_from tokens (n + 1)) i (i + 1)
+  pub shortest_one : form.grows ≡ false → TakesRest o tokens text n i → IsShortestEnd table n (shape_at tokens n)
+      (shapes_from tokens (n + 1)) i (i + 1)
   shortest_one fixed rest = shortest-one table n (shape_at tokens n) (shapes_from tokens (n + 1)) i (sym is.many ∙ fixed) (split-at rest)
 
   -- a longer piece ends at the first place where it may
-  pub shortest_first : (next : List Bool) (end : ℕ) → form.grows ≡ true → AreRests o tokens text (n + 1) 0 next → IsFirstEnd form.closes text next i end → TakesRest o tokens text n i → IsShortestEnd table n (shape_at tokens n) (shapes_from tokens (n + 1)) i end
+  pub shortest_first : (next : List Bool) (end : ℕ) → form.grows ≡ true → AreRests o tokens text (n + 1) 0 next
+      → IsFirstEnd form.closes text next i end → TakesRest o tokens text n i → IsShortestEnd table n
+      (shape_at tokens n) (shapes_from tokens (n + 1)) i end
   unfolding TakesRest table_of
   shortest_first next end more rests first rest =
-      shortest-growing table n (shape_at tokens n) (shapes_from tokens (n + 1)) text next form.closes i end (sym is.many ∙ more) is.ends (λ j. refl) refl
+      shortest-growing table n (shape_at tokens n) (shapes_from tokens (n + 1)) text next form.closes i end
+      (sym is.many ∙ more) is.ends (λ j. refl) refl
       (λ j within. rests.rest j (omega arith) within) first (split-at rest)
 
 -- where the piece of the token of number n ends
 module _ (o : MatchOptions) (tokens : List Token) (text : Text) (n i : ℕ) (below : n < length tokens) where
   -- one piece more
-  pub LacksOnly-more : (found : List Piece) (end : ℕ) → IsShortestEnd (table_of o tokens text) n (shape_at tokens n) (shapes_from tokens (n + 1)) i end → LacksOnly o tokens text n i found → LacksOnly o tokens text (n + 1) end (found ++ record { start = byte_place text i; end = byte_place text end } ∷ [])
+  pub LacksOnly-more : (found : List Piece) (end : ℕ) → IsShortestEnd (table_of o tokens text) n (shape_at tokens n)
+      (shapes_from tokens (n + 1)) i end → LacksOnly o tokens text n i found → LacksOnly o tokens text (n + 1) end
+      (found ++ record { start = byte_place text i; end = byte_place text end } ∷ [])
   unfolding LacksOnly
   LacksOnly-more found end shortest lacks = λ ends are.
       subst (HasShortestEnds o tokens text) (sym (append_assoc found _ (places_between text end ends)))
-      (lacks (end ∷ ends) (subst (λ ss. AreShortestEnds (table_of o tokens text) n ss i (end ∷ ends)) (sym (shapes-at tokens n below)) (shortest, are)))
+      (lacks (end ∷ ends) (subst (λ ss. AreShortestEnds (table_of o tokens text) n ss i (end ∷ ends))
+      (sym (shapes-at tokens n below)) (shortest, are)))
 
   -- and the tokens after it take the rest from its end on
-  pub TakesRest-after : (end : ℕ) → IsShortestEnd (table_of o tokens text) n (shape_at tokens n) (shapes_from tokens (n + 1)) i end → TakesRest o tokens text (n + 1) end
+  pub TakesRest-after : (end : ℕ) → IsShortestEnd (table_of o tokens text) n (shape_at tokens n) (shapes_from tokens
+      (n + 1)) i end → TakesRest o tokens text (n + 1) end
   unfolding TakesRest
   TakesRest-after end shortest = shortest.rest
 
@@ -134,10 +157,13 @@ unfolding LacksOnly HasShortestEnds
 LacksOnly-start o tokens text = λ ends are. (ends, are, refl)
 
 -- at last nothing is
-pub HasShortestEnds-all : (o : MatchOptions) (tokens : List Token) (text : Text) (i : ℕ) (found : List Piece) → TakesRest o tokens text (length tokens) i → LacksOnly o tokens text (length tokens) i found → HasShortestEnds o tokens text found
+pub HasShortestEnds-all : (o : MatchOptions) (tokens : List Token) (text : Text) (i : ℕ) (found : List Piece)
+    → TakesRest o tokens text (length tokens) i → LacksOnly o tokens text (length tokens) i found → HasShortestEnds o
+    tokens text found
 unfolding LacksOnly TakesRest
 HasShortestEnds-all o tokens text i found rest lacks =
-    let none : shapes_from tokens (length tokens) ≡ [] = drop_all (length tokens) (map shape_of tokens) (omega (arith, length-map tokens shape_of)) in
+    let none : shapes_from tokens (length tokens) ≡ [] = drop_all (length tokens) (map shape_of tokens)
+    (omega (arith, length-map tokens shape_of)) in
     let at : i ≡ (table_of o tokens text).characters = subst (λ ss. SplitsFrom (table_of o tokens text) (length tokens) ss i) none rest in
     subst (HasShortestEnds o tokens text) (append-nil found)
     (lacks [] (subst (λ ss. AreShortestEnds (table_of o tokens text) (length tokens) ss i []) (sym none) at))

@@ -1,5 +1,6 @@
 -- A row of answers, one for each place, from the row of the tokens after the first.
-use Rattle.std.proofs.Common.{◌≡◌, ℕ, ◌+◌, ◌<◌, ◌↔◌, ⊎_elim, Bool, false, ◌&&◌, ◌||◌, not, List, ◌∷◌, length, get_or, set, map, IsTrue, refl, sym, ap₂, subst, ◌∙◌, arith, add-one, drop-cons}
+use Rattle.std.proofs.Common.{◌≡◌, ℕ, ◌+◌, ◌<◌, ◌↔◌, ⊎_elim, Bool, false, ◌&&◌, ◌||◌, not, List, ◌∷◌, length, get_or}
+use Rattle.std.proofs.Common.{set, map, IsTrue, refl, sym, ap₂, subst, ◌∙◌, arith, add-one, drop-cons}
 use Rattle.std.proofs.lemmas.Bool.{cases_eq, false≢true}
 use Rattle.std.proofs.lemmas.Bool.Decides.{Decides-like, Decides-and, Decides-or}
 use Rattle.std.proofs.lemmas.List.{length-set, length-map, get_or-set_same, get_or-set_other}
@@ -41,7 +42,8 @@ TakesMore-step o tokens text n k rest more ended took form is rests mores opened
 
 -- whether the rest is taken from a place on
 pub TakesRest-step : (o : MatchOptions) (tokens : List Token) (text : Text) (n k : ℕ) (rest more : Bool) (form : Form)
-    → n < length tokens → IsFormAt tokens n form → (IsTrue rest ↔ TakesRest o tokens text (n + 1) k) → (IsTrue more ↔ TakesMore o tokens text n k)
+    → n < length tokens → IsFormAt tokens n form → (IsTrue rest ↔ TakesRest o tokens text (n + 1) k) →
+    (IsTrue more ↔ TakesMore o tokens text n k)
     → IsTrue (more || (form.grows && rest)) ↔ TakesRest o tokens text n k
 unfolding TakesRest TakesMore
 TakesRest-step o tokens text n k rest more form below is rests mores =
@@ -56,10 +58,14 @@ TakesRest-step o tokens text n k rest more form below is rests mores =
     (Decides-or more (form.grows && rest) mores (Decides-and form.grows rest ((λ h. sym many ∙ h), (λ h. many ∙ h)) rests))
 
 -- at the end nothing more is taken
-pub TakesMore-at_end : (o : MatchOptions) (tokens : List Token) (text : Text) (n : ℕ) → IsTrue false ↔ TakesMore o tokens text n (length text)
+pub TakesMore-at_end : (o : MatchOptions) (tokens : List Token) (text : Text) (n : ℕ) → IsTrue false ↔ TakesMore o
+    tokens text n (length text)
 unfolding TakesRest TakesMore table_of
-TakesMore-at_end o tokens text n =
-    ((λ e. absurd (false≢true e)), (λ more. absurd (More-at_end (table_of o tokens text) n (shape_at tokens n) (shapes_from tokens (n + 1)) more)))
+TakesMore-at_end o tokens text n = (
+  (λ e. absurd (false≢true e)),
+  (λ more. absurd (More-at_end (table_of o tokens text) n (shape_at tokens n)
+      (shapes_from tokens (n + 1)) more)),
+)
 
 -- the row at the end
 pub AreRests-start : (o : MatchOptions) (tokens : List Token) (text : Text) (n : ℕ) (form : Form) (next : List Bool)
@@ -70,7 +76,8 @@ AreRests-start o tokens text n form next below is rests =
     let b : Bool = form.grows && get_or next e false in
     let room : e < length next = omega (arith, rests.many) in
     let here : IsTrue (false || b) ↔ TakesRest o tokens text n e =
-    TakesRest-step o tokens text n e (get_or next e false) false form below is (rests.rest e (omega arith) (omega arith)) (TakesMore-at_end o tokens text n) in
+    TakesRest-step o tokens text n e (get_or next e false) false form below is (rests.rest e (omega arith)
+    (omega arith)) (TakesMore-at_end o tokens text n) in
     record {
       many = length-set next e b ∙ rests.many;
       rest = λ k from to.
@@ -89,7 +96,8 @@ AreRests-more o tokens text n k places b below rests here =
       many = length-set places k b ∙ rests.many;
       rest = λ i from to.
           ⊎_elim
-          (λ e. subst (λ j. IsTrue (get_or (set places k b) j false) ↔ TakesRest o tokens text n j) (sym e) (rw (get_or-set_same places k b false room) here))
+          (λ e. subst (λ j. IsTrue (get_or (set places k b) j false) ↔ TakesRest o tokens text n j) (sym e)
+          (rw (get_or-set_same places k b false room) here))
           (λ other. rw (get_or-set_other places k i b false other) (rests.rest i (omega arith) to))
           (cases_eq i k);
     }

@@ -1,7 +1,9 @@
 -- The tokens after the last wildcard take one character each: so the place from which they take the rest is known.
-use Rattle.std.proofs.Common.{◌≡◌, ◌≢◌, ℕ, zero, suc, ◌+◌, ◌-◌, ◌<◌, ◌≤◌, ⊎_elim, Bool, true, false, List, [], ◌∷◌, length, get_or, set, map, drop, replicate, IsTrue, sym, ap, subst, ◌∙◌, arith}
+use Rattle.std.proofs.Common.{◌≡◌, ◌≢◌, ℕ, zero, suc, ◌+◌, ◌-◌, ◌<◌, ◌≤◌, ⊎_elim, Bool, true, false, List, [], ◌∷◌}
+use Rattle.std.proofs.Common.{length, get_or, set, map, drop, replicate, IsTrue, sym, ap, subst, ◌∙◌, arith}
 use Rattle.std.proofs.lemmas.Bool.{cases_eq, cases_lt, false≢true}
-use Rattle.std.proofs.lemmas.List.{length-set, length-map, length-drop, length-replicate, get_or-replicate, get_or-set_same, get_or-set_other, get_or-drop}
+use Rattle.std.proofs.lemmas.List.{length-set, length-map, length-drop, length-replicate, get_or-replicate}
+use Rattle.std.proofs.lemmas.List.{get_or-set_same, get_or-set_other, get_or-drop}
 use Rattle.glob_text.specs.Text.{Text}
 use Rattle.glob_pattern.specs.Grammar.Tokens.{Token, shape_of}
 use Rattle.glob_pattern.specs.Matching.Splits.{Table, SplitsFrom}
@@ -28,7 +30,8 @@ ones-from (Run ∷ ss) h = absurd (false≢true (sym (h 0 (omega arith))))
 ones-from (Deep ∷ ss) h = absurd (false≢true (sym (h 0 (omega arith))))
 
 -- where they take the rest from
-ones-place : (table : Table) (n : ℕ) (shapes : List Shape) (k : ℕ) → AreOnes shapes → SplitsFrom table n shapes k → k + length shapes ≡ table.characters
+ones-place : (table : Table) (n : ℕ) (shapes : List Shape) (k : ℕ) → AreOnes shapes → SplitsFrom table n shapes k
+    → k + length shapes ≡ table.characters
 ones-place table n [] k ones at = omega (arith, at)
 ones-place table n (One ∷ shapes) k ones (j, reach, took, rest) =
     let later : j + length shapes ≡ table.characters = ones-place table (n + 1) shapes j ones rest in
@@ -37,7 +40,8 @@ ones-place table n (Run ∷ shapes) k ones split = absurd ones
 ones-place table n (Deep ∷ shapes) k ones split = absurd ones
 
 -- the piece before them ends there
-last-end : (table : Table) (n : ℕ) (shape : Shape) (others : List Shape) (i end : ℕ) → AreOnes others → end + length others ≡ table.characters → SplitsFrom table n (shape ∷ others) i → IsShortestEnd table n shape others i end
+last-end : (table : Table) (n : ℕ) (shape : Shape) (others : List Shape) (i end : ℕ) → AreOnes others → end + length
+    others ≡ table.characters → SplitsFrom table n (shape ∷ others) i → IsShortestEnd table n shape others i end
 last-end table n shape others i end ones is (j, reach, took, rest) =
     let at : j + length others ≡ table.characters = ones-place table (n + 1) others j ones rest in
     let same : j ≡ end = omega arith in
@@ -46,11 +50,13 @@ last-end table n shape others i end ones is (j, reach, took, rest) =
       reach = reach;
       took = took;
       rest = rest;
-      least = λ k may all split. let other : k + length others ≡ table.characters = ones-place table (n + 1) others k ones split in omega arith;
+      least = λ k may all split. let other : k + length others ≡ table.characters = ones-place table (n + 1) others k
+          ones split in omega arith;
     })
 
 -- the tokens after a wildcard, where it is the last one
-module _ (o : MatchOptions) (tokens : List Token) (text : Text) (span : Span) (is : IsSpan tokens span) (n : ℕ) (from : span.last ≤ n) (below : n < length tokens) where
+module _ (o : MatchOptions) (tokens : List Token) (text : Text) (span : Span) (is : IsSpan tokens span) (n : ℕ)
+    (from : span.last ≤ n) (below : n < length tokens) where
   pub ones-after : AreOnes (shapes_from tokens (n + 1))
   ones-after =
       let shapes : List Shape = map shape_of tokens in
@@ -62,14 +68,16 @@ module _ (o : MatchOptions) (tokens : List Token) (text : Text) (span : Span) (i
   pub length-after : length (shapes_from tokens (n + 1)) ≡ length tokens - 1 - n
   length-after =
       let many : length (map shape_of tokens) ≡ length tokens = length-map tokens shape_of in
-      let left : length (drop (n + 1) (map shape_of tokens)) ≡ length (map shape_of tokens) - (n + 1) = length-drop (n + 1) (map shape_of tokens) in
+      let left : length (drop (n + 1) (map shape_of tokens)) ≡ length (map shape_of tokens) - (n + 1) = length-drop
+      (n + 1) (map shape_of tokens) in
       omega arith
 
   -- where the tokens after it take the rest from
   pub rest-place : (k : ℕ) → TakesRest o tokens text (n + 1) k → k + (length tokens - 1 - n) ≡ length text
   unfolding TakesRest table_of
   rest-place k rest =
-      let at : k + length (shapes_from tokens (n + 1)) ≡ length text = ones-place (table_of o tokens text) (n + 1) (shapes_from tokens (n + 1)) k ones-after rest in
+      let at : k + length (shapes_from tokens (n + 1)) ≡ length text = ones-place (table_of o tokens text) (n + 1)
+      (shapes_from tokens (n + 1)) k ones-after rest in
       let many = length-after in
       omega arith
 
@@ -77,37 +85,45 @@ module _ (o : MatchOptions) (tokens : List Token) (text : Text) (span : Span) (i
   pub rest-room : (i : ℕ) → TakesRest o tokens text n i → length tokens - 1 - n ≤ length text
   unfolding TakesRest
   rest-room i rest =
-      let split : SplitsFrom (table_of o tokens text) n (shape_at tokens n ∷ shapes_from tokens (n + 1)) i = subst (λ ss. SplitsFrom (table_of o tokens text) n ss i) (shapes-at tokens n below) rest in
+      let split : SplitsFrom (table_of o tokens text) n (shape_at tokens n ∷ shapes_from tokens (n + 1)) i = subst
+      (λ ss. SplitsFrom (table_of o tokens text) n ss i) (shapes-at tokens n below) rest in
       let at : split.0 + (length tokens - 1 - n) ≡ length text = rest-place split.0 split.3 in
       omega arith
 
   -- so its own piece ends there
-  pub shortest_last : (i : ℕ) → TakesRest o tokens text n i → IsShortestEnd (table_of o tokens text) n (shape_at tokens n) (shapes_from tokens (n + 1)) i (length text - (length tokens - 1 - n))
+  pub shortest_last : (i : ℕ) → TakesRest o tokens text n i → IsShortestEnd (table_of o tokens text) n
+      (shape_at tokens n) (shapes_from tokens (n + 1)) i (length text - (length tokens - 1 - n))
   unfolding TakesRest table_of
   shortest_last i rest =
       let room : length tokens - 1 - n ≤ length text = rest-room i rest in
       let many = length-after in
-      last-end (table_of o tokens text) n (shape_at tokens n) (shapes_from tokens (n + 1)) i (length text - (length tokens - 1 - n)) ones-after (omega arith)
+      last-end (table_of o tokens text) n (shape_at tokens n) (shapes_from tokens (n + 1)) i (length text -
+      (length tokens - 1 - n)) ones-after (omega arith)
       (subst (λ ss. SplitsFrom (table_of o tokens text) n ss i) (shapes-at tokens n below) rest)
 
 -- the tokens after one take the rest from some place on
-next-rest : (o : MatchOptions) (tokens : List Token) (text : Text) (n k : ℕ) → n < length tokens → TakesRest o tokens text n k → (j : ℕ) × TakesRest o tokens text (suc n) j
+next-rest : (o : MatchOptions) (tokens : List Token) (text : Text) (n k : ℕ) → n < length tokens → TakesRest o tokens
+    text n k → (j : ℕ) × TakesRest o tokens text (suc n) j
 unfolding TakesRest
 next-rest o tokens text n k below rest =
     let next : n + 1 ≡ suc n = omega arith in
-    let split : SplitsFrom (table_of o tokens text) n (shape_at tokens n ∷ shapes_from tokens (n + 1)) k = subst (λ ss. SplitsFrom (table_of o tokens text) n ss k) (shapes-at tokens n below) rest in
+    let split : SplitsFrom (table_of o tokens text) n (shape_at tokens n ∷ shapes_from tokens (n + 1)) k = subst
+    (λ ss. SplitsFrom (table_of o tokens text) n ss k) (shapes-at tokens n below) rest in
     (split.0, subst (λ m. SplitsFrom (table_of o tokens text) m (shapes_from tokens m) split.0) next split.3)
 
 -- so where all take the text, those from any number on do
-pub later-rest : (o : MatchOptions) (tokens : List Token) (text : Text) (n : ℕ) → n ≤ length tokens → TakesRest o tokens text 0 0 → (j : ℕ) × TakesRest o tokens text n j
+pub later-rest : (o : MatchOptions) (tokens : List Token) (text : Text) (n : ℕ) → n ≤ length tokens
+    → TakesRest o tokens text 0 0 → (j : ℕ) × TakesRest o tokens text n j
 later-rest o tokens text zero within rest = (0, rest)
 later-rest o tokens text (suc n) within rest =
     let before : (j : ℕ) × TakesRest o tokens text n j = later-rest o tokens text n (omega arith) rest in
     next-rest o tokens text n before.0 (omega arith) before.1
 
 -- the row of the tokens after the last wildcard
-pub AreRests-after_span : (o : MatchOptions) (tokens : List Token) (text : Text) (span : Span) (places : List Bool) → IsSpan tokens span → span.last < length tokens → TakesRest o tokens text 0 0
-    → places ≡ set (replicate (length text + 1) false) (length text - (length tokens - 1 - span.last)) true → AreRests o tokens text (span.last + 1) 0 places
+pub AreRests-after_span : (o : MatchOptions) (tokens : List Token) (text : Text) (span : Span) (places : List Bool)
+    → IsSpan tokens span → span.last < length tokens → TakesRest o tokens text 0 0
+    → places ≡ set (replicate (length text + 1) false) (length text - (length tokens - 1 - span.last)) true
+    → AreRests o tokens text (span.last + 1) 0 places
 AreRests-after_span o tokens text span places is below all e =
     let l : ℕ = length text in
     let n : ℕ = span.last in
@@ -127,19 +143,26 @@ AreRests-after_span o tokens text span places is below all e =
             (λ _. ap (λ i. get_or (set falses p true) i false) at ∙ get_or-set_same falses p true false (omega (arith, many))),
           ))
           (λ (other : k ≢ p).
-          let no : get_or (set falses p true) k false ≡ false = get_or-set_other falses p k true false other ∙ get_or-replicate (l + 1) k false false (omega arith) in
-          ((λ h. absurd (false≢true (sym no ∙ h))), (λ taken. let at : k + (length tokens - 1 - n) ≡ l = rest-place o tokens text span is n (omega arith) below k taken in absurd (omega arith))))
+          let no : get_or (set falses p true) k false ≡ false = get_or-set_other falses p k true false other
+          ∙ get_or-replicate (l + 1) k false false (omega arith) in (
+            (λ h. absurd (false≢true (sym no ∙ h))),
+            (λ taken. let at : k + (length tokens - 1 - n) ≡ l = rest-place o
+                tokens text span is n (omega arith) below k taken in absurd (omega arith)),
+          ))
           (cases_eq k p);
     })
 
 -- a wildcard that is not the last one
-module _ (tokens : List Token) (span : Span) (n : ℕ) (is : IsSpan tokens span) (below : n < length tokens) (more : grows (shape_at tokens n) ≡ true) (other : n ≢ span.last) where
+module _ (tokens : List Token) (span : Span) (n : ℕ) (is : IsSpan tokens span) (below : n < length tokens)
+    (more : grows (shape_at tokens n) ≡ true) (other : n ≢ span.last) where
   not-before : span.first ≤ n
-  not-before = ⊎_elim (λ (early : n < span.first). absurd (false≢true (sym (is.before n early below) ∙ more))) (λ h. h) (cases_lt n span.first)
+  not-before = ⊎_elim (λ (early : n < span.first). absurd (false≢true (sym (is.before n early below) ∙ more))) (λ h. h)
+      (cases_lt n span.first)
 
   not-after : n < span.last
   not-after =
-      ⊎_elim (λ (late : span.last < n). absurd (false≢true (sym (is.after n late below) ∙ more))) (λ (h : n ≤ span.last). let least : n < span.last = omega arith in least)
+      ⊎_elim (λ (late : span.last < n). absurd (false≢true (sym (is.after n late below) ∙ more)))
+      (λ (h : n ≤ span.last). let least : n < span.last = omega arith in least)
       (cases_lt span.last n)
 
   -- has a row
@@ -147,7 +170,8 @@ module _ (tokens : List Token) (span : Span) (n : ℕ) (is : IsSpan tokens span)
   inner-index = omega (arith, not-before, not-after)
 
   -- which is that of the tokens after it
-  pub inner-row : (o : MatchOptions) (text : Text) (rows : List (List Bool)) → AreInnerRests o tokens text span rows → AreRests o tokens text (n + 1) 0 (get_or rows (span.last - 1 - n) [])
+  pub inner-row : (o : MatchOptions) (text : Text) (rows : List (List Bool)) → AreInnerRests o tokens text span rows
+      → AreRests o tokens text (n + 1) 0 (get_or rows (span.last - 1 - n) [])
   inner-row o text rows rests =
       let i : ℕ = span.last - 1 - n in
       let late : n < span.last = not-after in

@@ -1,4 +1,4 @@
--- Splits of a text as the places at which the pieces end, and the one with the shortest pieces.
+-- Splits of a text, given by where each piece ends, and the split with the shortest pieces.
 use Rattle.std.specs.Prelude.{◌≡◌, ℕ, ◌+◌, ◌<◌, ◌≤◌, Bool, ◌&&◌, ◌||◌, not, ◌==◌, false, List, [], ◌∷◌, ◌++◌, length, slice_index_or, IsTrue}
 use Rattle.glob_text.specs.Text.{Text, opens}
 use Rattle.glob_pattern.specs.Grammar.Tokens.{Token}
@@ -10,14 +10,15 @@ use Rattle.glob_captures.specs.declared.piece.Piece.{Piece}
 use Rattle.glob_captures.specs.Writing.{byte_place}
 use Rattle.glob_captures.specs.Private.Rests.{shapes_from}
 
--- The piece of token n, of the shape `shape`, from place i on ends at the first place from which on the others take the rest.
+-- The piece of token n, of shape `shape`, begins at place i and ends at the first place from which the others take the
+-- rest.
 pub record IsShortestEnd (table : Table) (n : ℕ) (shape : Shape) (others : List Shape) (i end : ℕ) : Type 0 where
   pub reach : MayReach table shape others i end
   pub took : TakesAll table n i end
   pub rest : SplitsFrom table (n + 1) others end
   pub least : (j : ℕ) → MayReach table shape others i j → TakesAll table n i j → SplitsFrom table (n + 1) others j → end ≤ j
 
--- so does each piece, from token n on
+-- so does each piece from token n on
 abbrev pub AreShortestEnds : Table → (n : ℕ) → List Shape → (i : ℕ) → (ends : List ℕ) → Type 0
 AreShortestEnds table n [] i [] = i ≡ table.characters
 AreShortestEnds table n [] i (end ∷ ends) = ⊥
@@ -25,7 +26,7 @@ AreShortestEnds table n (shape ∷ others) i [] = ⊥
 AreShortestEnds table n (shape ∷ others) i (end ∷ ends) =
     IsShortestEnd table n shape others i end × AreShortestEnds table (n + 1) others end ends
 
--- the pieces from place i on that end at these places, in bytes
+-- where the pieces are, in bytes, that begin at place i and end at these places
 abbrev pub places_between : Text → (i : ℕ) → (ends : List ℕ) → List Piece
 places_between text i [] = []
 places_between text i (end ∷ ends) =
@@ -37,18 +38,19 @@ HasShortestEnds o tokens text found =
     (ends : List ℕ) × AreShortestEnds (table_of o tokens text) 0 (shapes_from tokens 0) 0 ends
     × (found ≡ places_between text 0 ends)
 
--- Whatever the shortest pieces of the tokens from number n on are, from place i on, those that were found before make up
--- all with them.
+-- The pieces found lack only those of the tokens from n on: with the shortest pieces from place i on, whatever these
+-- are, they are the shortest pieces of the whole text.
 unfoldable pub LacksOnly : MatchOptions → List Token → Text → (n i : ℕ) → List Piece → Type 0
 LacksOnly o tokens text n i found =
     (ends : List ℕ) → AreShortestEnds (table_of o tokens text) n (shapes_from tokens n) i ends
     → HasShortestEnds o tokens text (found ++ places_between text i ends)
 
--- a piece from place i on may end at place j, by the row of the tokens after it: `closes` says that it is empty or ends in `/`
+-- Whether a piece that begins at place i may end at place j, where `next` is the row of the tokens after it, and
+-- `closes` says that it must be empty or end in `/`.
 abbrev pub may_end : (closes : Bool) → Text → (next : List Bool) → (i j : ℕ) → Bool
 may_end closes text next i j = slice_index_or next j false && (j == i || (not closes || opens text j))
 
--- a piece from place i on ends at the first place where it may, or at the end of the text
+-- a piece that begins at place i ends at the first place where it may, or at the end of the text
 pub record IsFirstEnd (closes : Bool) (text : Text) (next : List Bool) (i end : ℕ) : Type 0 where
   pub low : i ≤ end
   pub high : end ≤ length text

@@ -1,4 +1,4 @@
--- What is left of a pattern's text after some of its tokens, in characters.
+-- The rest of a pattern's text after some of its tokens. Places are in characters.
 use Rattle.std.specs.Prelude.{◌≡◌, ℕ, ◌+◌, ◌⊎◌, false, List, ◌∷◌, length}
 use Rattle.glob_text.specs.Characters.{slash}
 use Rattle.glob_text.specs.Text.{Text, Has}
@@ -9,30 +9,30 @@ use Rattle.glob_pattern.specs.declared.pattern.tokens.TokenKind.{TokenKind}
 use Rattle.glob_pattern.specs.declared.token.Token.TheVariants.{Recursive}
 use Rattle.glob_captures.specs.Writing.{TokenBetween}
 
--- from place f on the text has these tokens
+-- the text from place f on has these tokens
 abbrev pub TokensFrom : Text → ℕ → List Token → Type 0
 TokensFrom text f tokens =
     (units : List Token) × UnitsBetween text f units (length text) × (tokens_of_units units ≡ tokens)
 
--- the same, and its first unit is no `**`
+-- the same, and its first unit is not `**`
 abbrev pub OthersFrom : Text → ℕ → List Token → Type 0
 OthersFrom text f tokens =
     (units : List Token) × UnitsBetween text f units (length text) × (tokens_of_units units ≡ tokens)
     × (begins_recursive units ≡ false)
 
--- The token of this kind at place f, whatever it is, ends at place e.
+-- Whichever token of this kind is at place f, it ends at place e.
 unfoldable pub IsTokenEnd : Text → ℕ → TokenKind → ℕ → Type 0
 IsTokenEnd text f kind e =
     (token : Token) (tokens : List Token) → kind ≡ kind_of token → TokensFrom text f (token ∷ tokens)
     → TokenBetween text f token e × TokensFrom text e tokens
 
--- Units of the `**` at place f are read up to place e.
+-- Some of the neighbouring `**` at place f are read, up to place e.
 unfoldable pub IsRead : Text → ℕ → ℕ → Type 0
 IsRead text f e =
     (tokens : List Token) → TokensFrom text f (Recursive ∷ tokens)
     → ((e ≡ f) × TokensFrom text e (Recursive ∷ tokens))
     ⊎ (TokenBetween text f Recursive e × (TokensFrom text e (Recursive ∷ tokens) ⊎ OthersFrom text e tokens))
 
--- a `**` ends two characters on, or after a `/` that follows
+-- a `**` at place f ends after its two stars, or after the `/` that follows them
 abbrev pub IsAfterStars : Text → ℕ → ℕ → Type 0
 IsAfterStars text f e = ((e ≡ f + 2) × (¬ (Has text (f + 2) slash))) ⊎ ((e ≡ f + 3) × Has text (f + 2) slash)

@@ -1,12 +1,15 @@
 -- The records of an input copied as they come: what was read, and what was written of it.
-use Rattle.std.proofs.Common.{◌≡◌, ℕ, ◌+◌, ◌-◌, ◌^◌, inl, min, List, [], ◌++◌, Option, None, Some, length, take, drop, refl, sym, ap, ◌∙◌, subst, append-nil, append_assoc, take-append-drop, length-append, arith}
+use Rattle.std.proofs.Common.{◌≡◌, ℕ, ◌+◌, ◌-◌, ◌^◌, inl, min, List, [], ◌++◌, Option, None, Some, length, take, drop}
+use Rattle.std.proofs.Common.{refl, sym, ap, ◌∙◌, subst, append-nil, append_assoc, take-append-drop, length-append}
+use Rattle.std.proofs.Common.{arith}
 use Rattle.std.specs.Prelude.{IfSome, ◌⊎◌, ◌≢◌}
 use lib.Seq.{take-add, take-append_seam}
 use Rattle.std.specs.Io.KnownBytes.{Appends, Consumes, IsAtEnd, Keeps}
 use Rattle.std.proofs.KnownBytes.{Appends-nil, Appends-trans, Consumes-nil, Consumes-trans, Consumes-kept}
 use Rattle.std.proofs.lemmas.List.Concat.{flat_map-append}
 use Rattle.std.proofs.lemmas.List.Elements.{All-nil}
-use Rattle.glob_lines.specs.Lines.{records_of, ended_record, with_ends, AreKept, AreWhole, HasNoEnd, WritesKept, WritesSomeKept, WritesKeptBytes}
+use Rattle.glob_lines.specs.Lines.{records_of, ended_record, with_ends, AreKept, AreWhole, HasNoEnd, WritesKept}
+use Rattle.glob_lines.specs.Lines.{WritesSomeKept, WritesKeptBytes}
 use Rattle.glob_lines.specs.Private.Fronts.{WritesFrontRecords, WritesFrontBytes}
 use Rattle.glob_lines.proofs.LineLemmas.FilteredLines.{cut_after}
 use Rattle.glob_lines.proofs.LineLemmas.KeptLines.{AreKept-append, AreKept-exists}
@@ -46,7 +49,8 @@ module _ (end : ℕ) (P : List ℕ → Type 0) where
   IsBlock-whole now now' held items bytes filled len w same read is whole = record {
     piece = take len (drop filled items);
     read = read;
-    split = ap (λ l. l ++ take len (drop filled items)) (sym same) ∙ sym (take-add filled len items) ∙ sym is ∙ sym (take-append-drop w bytes);
+    split = ap (λ l. l ++ take len (drop filled items)) (sym same) ∙ sym (take-add filled len items) ∙ sym is ∙ sym
+        (take-append-drop w bytes);
     apart = apart_whole now' (take w bytes) (drop w bytes) whole;
   }
 
@@ -58,7 +62,8 @@ module _ (end : ℕ) (P : List ℕ → Type 0) where
       (ap (records_of end) (append-nil front) ∙ sym (append-nil (records_of end front)))
 
   -- A read gave nothing, so what came before is last.
-  pub IsBlock-last : (now now' : Option (List ℕ)) (held items : List ℕ) (filled len : ℕ) → Consumes now now' (take len (drop filled items)) → len ≡ 0 → IsAtEnd now'
+  pub IsBlock-last : (now now' : Option (List ℕ)) (held items : List ℕ) (filled len : ℕ) → Consumes now now'
+      (take len (drop filled items)) → len ≡ 0 → IsAtEnd now'
       → IsBlock now now' (take filled held) (take filled held) []
   IsBlock-last now now' held items filled len read none at_end = record {
     piece = [];
@@ -75,19 +80,24 @@ module _ (end : ℕ) (P : List ℕ → Type 0) where
   counted_both a b m n first second = omega (arith, length-append a b, first, second)
 
   -- what was read in all
-  read_all : (left now now' : Option (List ℕ)) (whole partial front rest : List ℕ) → Consumes left now (whole ++ partial) → IsBlock now now' partial front rest
+  read_all : (left now now' : Option (List ℕ)) (whole partial front rest : List ℕ) → Consumes left now
+      (whole ++ partial) → IsBlock now now' partial front rest
       → Consumes left now' ((whole ++ front) ++ rest)
   read_all left now now' whole partial front rest before block =
-      subst (Consumes left now') (append_assoc whole partial block.piece ∙ ap (λ l. whole ++ l) block.split ∙ sym (append_assoc whole front rest))
+      subst (Consumes left now') (append_assoc whole partial block.piece ∙ ap (λ l. whole ++ l) block.split ∙ sym
+      (append_assoc whole front rest))
       (Consumes-trans left now now' (whole ++ partial) block.piece before block.read)
 
-  kept_both : (whole front : List ℕ) (kept others : List (List ℕ)) → AreWhole end whole → AreKept P (records_of end whole) kept → AreKept P (records_of end front) others
+  kept_both : (whole front : List ℕ) (kept others : List (List ℕ)) → AreWhole end whole → AreKept P
+      (records_of end whole) kept → AreKept P (records_of end front) others
       → AreKept P (records_of end (whole ++ front)) (kept ++ others)
   kept_both whole front kept others ended are later =
-      subst (λ l. AreKept P l (kept ++ others)) (sym (records_of-whole end whole front ended)) (AreKept-append P (records_of end whole) (records_of end front) kept others are later)
+      subst (λ l. AreKept P l (kept ++ others)) (sym (records_of-whole end whole front ended)) (AreKept-append P
+      (records_of end whole) (records_of end front) kept others are later)
 
   with_block : (left now now' : Option (List ℕ)) (partial front rest : List ℕ) (old new new' : Option (List ℕ)) (m n : ℕ)
-      → AreCopied left now partial old new m → IsBlock now now' partial front rest → AreWhole end front → HasNoEnd end rest → WritesKept end P front new new' n
+      → AreCopied left now partial old new m → IsBlock now now' partial front rest → AreWhole end front → HasNoEnd end
+      rest → WritesKept end P front new new' n
       → AreCopied left now' rest old new' (min (m + n) (2 ^ 64 - 1))
   with_block left now now' partial front rest old new new' m n before block whole none (others, later, wrote, counted) = record {
     whole = before.whole ++ front;
@@ -102,19 +112,23 @@ module _ (end : ℕ) (P : List ℕ → Type 0) where
 
   -- One more block, of whole records: `sent`. What is after them is now `moved`.
   pub AreCopied-more : (left now now' : Option (List ℕ)) (partial front rest : List ℕ) (old new new' : Option (List ℕ)) (m n : ℕ)
-      → AreCopied left now partial old new m → IsBlock now now' partial front rest → AreWhole end front → HasNoEnd end rest → (sent : List ℕ) → sent ≡ front
+      → AreCopied left now partial old new m → IsBlock now now' partial front rest → AreWhole end front → HasNoEnd end
+      rest → (sent : List ℕ) → sent ≡ front
       → WritesKept end P sent new new' n → (moved : List ℕ) → moved ≡ rest → AreCopied left now' moved old new' (min (m + n) (2 ^ 64 - 1))
   AreCopied-more left now now' partial front rest old new new' m n before block whole none sent same wrote_sent moved is =
       subst (λ l. AreCopied left now' l old new' (min (m + n) (2 ^ 64 - 1))) (sym is)
-      (with_block left now now' partial front rest old new new' m n before block whole none (subst (λ l. WritesKept end P l new new' n) same wrote_sent))
+      (with_block left now now' partial front rest old new new' m n before block whole none
+      (subst (λ l. WritesKept end P l new new' n) same wrote_sent))
 
   -- the last block
   pub AreCopied-last : (left now now' : Option (List ℕ)) (partial front : List ℕ) (old new new' : Option (List ℕ)) (m n : ℕ)
-      → AreCopied left now partial old new m → IsBlock now now' partial front [] → IsAtEnd now' → (sent : List ℕ) → sent ≡ front → WritesKept end P sent new new' n
+      → AreCopied left now partial old new m → IsBlock now now' partial front [] → IsAtEnd now' → (sent : List ℕ)
+      → sent ≡ front → WritesKept end P sent new new' n
       → IfSome left (λ bytes. WritesKept end P bytes old new' (min (m + n) (2 ^ 64 - 1)))
   AreCopied-last left now now' partial front old new new' m n before block at_end sent same wrote_sent =
       let (others, later, wrote, counted) = subst (λ l. WritesKept end P l new new' n) same wrote_sent in
-      IfSome-all_read left now' ((before.whole ++ front) ++ []) (read_all left now now' before.whole partial front [] before.read block) at_end
+      IfSome-all_read left now' ((before.whole ++ front) ++ []) (read_all left now now' before.whole partial front []
+      before.read block) at_end
       (λ bytes. WritesKept end P bytes old new' (min (m + n) (2 ^ 64 - 1)))
       (subst (λ bytes. WritesKept end P bytes old new' (min (m + n) (2 ^ 64 - 1))) (sym (append-nil (before.whole ++ front))) (
         before.kept ++ others,
@@ -124,16 +138,27 @@ module _ (end : ℕ) (P : List ℕ → Type 0) where
       ))
 
   -- all that was written are the records that P keeps of the whole ones
-  pub AreCopied-whole : (left now now' : Option (List ℕ)) (partial : List ℕ) (old new : Option (List ℕ)) (count : ℕ) → AreCopied left now partial old new count → Keeps now now'
+  pub AreCopied-whole : (left now now' : Option (List ℕ)) (partial : List ℕ) (old new : Option (List ℕ)) (count : ℕ)
+      → AreCopied left now partial old new count → Keeps now now'
       → (whole : List ℕ) × ((rest : List ℕ) × Consumes left now' (whole ++ rest) × AreWhole end whole × HasNoEnd end rest
       × ((kept : List (List ℕ)) × AreKept P (records_of end whole) kept × Appends old new (with_ends end kept)))
-  AreCopied-whole left now now' partial old new count before same =
-      (before.whole, (partial, Consumes-kept left now now' (before.whole ++ partial) before.read same, before.ended, before.none, (before.kept, before.are, before.wrote)))
+  AreCopied-whole left now now' partial old new count before same = (
+    before.whole,
+    (
+      partial,
+      Consumes-kept left now now' (before.whole ++ partial) before.read same,
+      before.ended,
+      before.none,
+      (before.kept, before.are, before.wrote),
+    ),
+  )
 
   module _ (decided : (one : List ℕ) → P one ⊎ (¬ (P one))) where
     -- they are the first ones
-    pub some_by_whole : (left now : Option (List ℕ)) (whole partial : List ℕ) (kept : List (List ℕ)) (old new : Option (List ℕ)) → Consumes left now (whole ++ partial)
-        → AreWhole end whole → AreKept P (records_of end whole) kept → Appends old new (with_ends end kept) → IfSome left (λ bytes. WritesSomeKept end P bytes old new)
+    pub some_by_whole : (left now : Option (List ℕ)) (whole partial : List ℕ) (kept : List (List ℕ)) (old new : Option
+        (List ℕ)) → Consumes left now (whole ++ partial)
+        → AreWhole end whole → AreKept P (records_of end whole) kept → Appends old new (with_ends end kept)
+        → IfSome left (λ bytes. WritesSomeKept end P bytes old new)
     some_by_whole None now whole partial kept old new read ended are wrote = tt
     some_by_whole (Some bytes) None whole partial kept old new read ended are wrote = absurd read
     some_by_whole (Some bytes) (Some more) whole partial kept old new read ended are wrote =
@@ -144,7 +169,8 @@ module _ (end : ℕ) (P : List ℕ → Type 0) where
           (length kept, subst (λ l. Appends old new (with_ends end l)) (sym (take-append_seam kept others)) wrote),
         )
 
-    pub AreCopied-some : (left now : Option (List ℕ)) (partial : List ℕ) (old new : Option (List ℕ)) (count : ℕ) → AreCopied left now partial old new count
+    pub AreCopied-some : (left now : Option (List ℕ)) (partial : List ℕ) (old new : Option (List ℕ)) (count : ℕ)
+        → AreCopied left now partial old new count
         → IfSome left (λ bytes. WritesSomeKept end P bytes old new)
     AreCopied-some left now partial old new count before =
         some_by_whole left now before.whole partial before.kept old new before.read before.ended before.are before.wrote
@@ -157,69 +183,90 @@ module _ (end : ℕ) (P : List ℕ → Type 0) where
       in_all : AreKept P (records_of end bytes) (kept ++ (of_front ++ of_after))
 
     all_kept : (bytes whole front after : List ℕ) (kept : List (List ℕ)) → AreWhole end whole → AreKept P (records_of end whole) kept
-        → records_of end (front ++ after) ≡ records_of end front ++ records_of end after → bytes ≡ whole ++ (front ++ after) → AllKept bytes whole front after kept
+        → records_of end (front ++ after) ≡ records_of end front ++ records_of end after → bytes ≡ whole ++
+        (front ++ after) → AllKept bytes whole front after kept
     all_kept bytes whole front after kept ended are apart is =
         let (of_front, in_front) = AreKept-exists P decided (records_of end front) in
         let (of_after, in_after) = AreKept-exists P decided (records_of end after) in
         let later : AreKept P (records_of end (front ++ after)) (of_front ++ of_after) =
-        subst (λ l. AreKept P l (of_front ++ of_after)) (sym apart) (AreKept-append P (records_of end front) (records_of end after) of_front of_after in_front in_after) in
+        subst (λ l. AreKept P l (of_front ++ of_after)) (sym apart) (AreKept-append P (records_of end front)
+        (records_of end after) of_front of_after in_front in_after) in
         record {
           of_front = of_front;
           of_after = of_after;
           in_front = in_front;
-          in_all = subst (λ l. AreKept P (records_of end l) (kept ++ (of_front ++ of_after))) (sym is) (kept_both whole (front ++ after) kept (of_front ++ of_after) ended are later);
+          in_all = subst (λ l. AreKept P (records_of end l) (kept ++ (of_front ++ of_after))) (sym is) (kept_both whole
+              (front ++ after) kept (of_front ++ of_after) ended are later);
         }
 
     -- the first of the block's records were written, too
-    first_records : (bytes whole front after : List ℕ) (old new new' : Option (List ℕ)) (kept : List (List ℕ)) → AllKept bytes whole front after kept
+    first_records : (bytes whole front after : List ℕ) (old new new' : Option (List ℕ)) (kept : List (List ℕ))
+        → AllKept bytes whole front after kept
         → Appends old new (with_ends end kept) → WritesFrontRecords end P front new new' → WritesSomeKept end P bytes old new'
     first_records bytes whole front after old new new' kept all wrote fronts =
         let (n, appended) = fronts all.of_front all.in_front in
         let some = take n all.of_front in
         let split : kept ++ (all.of_front ++ all.of_after) ≡ (kept ++ some) ++ (drop n all.of_front ++ all.of_after) =
-        ap (λ l. kept ++ (l ++ all.of_after)) (sym (take-append-drop n all.of_front)) ∙ ap (λ l. kept ++ l) (append_assoc some (drop n all.of_front) all.of_after)
+        ap (λ l. kept ++ (l ++ all.of_after)) (sym (take-append-drop n all.of_front)) ∙ ap (λ l. kept ++ l)
+        (append_assoc some (drop n all.of_front) all.of_after)
         ∙ sym (append_assoc kept some (drop n all.of_front ++ all.of_after)) in
         let first : take (length (kept ++ some)) (kept ++ (all.of_front ++ all.of_after)) ≡ kept ++ some =
         ap (take (length (kept ++ some))) split ∙ take-append_seam (kept ++ some) (drop n all.of_front ++ all.of_after) in (
           kept ++ (all.of_front ++ all.of_after),
           all.in_all,
-          (length (kept ++ some), subst (Appends old new') (sym (ap (with_ends end) first ∙ with_ends-append kept some)) (Appends-trans old new new' _ _ wrote appended)),
+          (
+            length (kept ++ some),
+            subst (Appends old new') (sym (ap (with_ends end) first ∙ with_ends-append kept
+                some)) (Appends-trans old new new' _ _ wrote appended),
+          ),
         )
 
     -- the first of the block's bytes were written, too
-    first_bytes : (bytes whole front after : List ℕ) (old new new' : Option (List ℕ)) (kept : List (List ℕ)) → AllKept bytes whole front after kept
+    first_bytes : (bytes whole front after : List ℕ) (old new new' : Option (List ℕ)) (kept : List (List ℕ))
+        → AllKept bytes whole front after kept
         → Appends old new (with_ends end kept) → WritesFrontBytes end P front new new' → WritesKeptBytes end P bytes old new'
     first_bytes bytes whole front after old new new' kept all wrote fronts =
         let (n, appended) = fronts all.of_front all.in_front in
-        let split : with_ends end (kept ++ (all.of_front ++ all.of_after)) ≡ with_ends end kept ++ (with_ends end all.of_front ++ with_ends end all.of_after) =
-        with_ends-append kept (all.of_front ++ all.of_after) ∙ ap (λ l. with_ends end kept ++ l) (with_ends-append all.of_front all.of_after) in (
+        let split : with_ends end (kept ++ (all.of_front ++ all.of_after)) ≡ with_ends end kept ++
+        (with_ends end all.of_front ++ with_ends end all.of_after) =
+        with_ends-append kept (all.of_front ++ all.of_after) ∙ ap (λ l. with_ends end kept ++ l)
+        (with_ends-append all.of_front all.of_after) in (
           kept ++ (all.of_front ++ all.of_after),
           all.in_all,
-          cut_after end old new new' (with_ends end (kept ++ (all.of_front ++ all.of_after))) (with_ends end kept) (with_ends end all.of_front) (with_ends end all.of_after) n split wrote appended,
+          cut_after end old new new' (with_ends end (kept ++ (all.of_front ++ all.of_after))) (with_ends end kept)
+              (with_ends end all.of_front) (with_ends end all.of_after) n split wrote appended,
         )
 
-    in_input : (left now' : Option (List ℕ)) (whole front rest : List ℕ) (kept : List (List ℕ)) → Consumes left now' ((whole ++ front) ++ rest)
+    in_input : (left now' : Option (List ℕ)) (whole front rest : List ℕ) (kept : List (List ℕ)) → Consumes left now'
+        ((whole ++ front) ++ rest)
         → AreWhole end whole → AreKept P (records_of end whole) kept
         → IfSome now' (λ more. records_of end (front ++ (rest ++ more)) ≡ records_of end front ++ records_of end (rest ++ more))
         → (Q : List ℕ → Type 0) → ((bytes after : List ℕ) → AllKept bytes whole front after kept → Q bytes) → IfSome left Q
     in_input None now' whole front rest kept read ended are apart Q each = tt
     in_input (Some bytes) None whole front rest kept read ended are apart Q each = absurd read
     in_input (Some bytes) (Some more) whole front rest kept read ended are apart Q each =
-        each bytes (rest ++ more) (all_kept bytes whole front (rest ++ more) kept ended are apart (read ∙ append_assoc (whole ++ front) rest more ∙ append_assoc whole front (rest ++ more)))
+        each bytes (rest ++ more) (all_kept bytes whole front (rest ++ more) kept ended are apart (read ∙ append_assoc
+        (whole ++ front) rest more ∙ append_assoc whole front (rest ++ more)))
 
     module _ (left now now' : Option (List ℕ)) (partial front rest : List ℕ) (old new new' : Option (List ℕ)) (count : ℕ) where
       -- some of the block's records were written, too
-      pub AreCopied-some_more : AreCopied left now partial old new count → IsBlock now now' partial front rest → (sent : List ℕ) → sent ≡ front → WritesFrontRecords end P sent new new'
+      pub AreCopied-some_more : AreCopied left now partial old new count → IsBlock now now' partial front rest →
+          (sent : List ℕ) → sent ≡ front → WritesFrontRecords end P sent new new'
           → IfSome left (λ bytes. WritesSomeKept end P bytes old new')
       AreCopied-some_more before block sent same fronts =
-          in_input left now' before.whole front rest before.kept (read_all left now now' before.whole partial front rest before.read block) before.ended before.are block.apart
+          in_input left now' before.whole front rest before.kept (read_all left now now' before.whole partial front
+          rest before.read block) before.ended before.are block.apart
           (λ bytes. WritesSomeKept end P bytes old new')
-          (λ bytes after all. first_records bytes before.whole front after old new new' before.kept all before.wrote (subst (λ l. WritesFrontRecords end P l new new') same fronts))
+          (λ bytes after all. first_records bytes before.whole front after old new new' before.kept all before.wrote
+          (subst (λ l. WritesFrontRecords end P l new new') same fronts))
 
       -- some of the block's bytes were written, too
-      pub AreCopied-bytes_more : AreCopied left now partial old new count → IsBlock now now' partial front rest → (sent : List ℕ) → sent ≡ front → WritesFrontBytes end P sent new new'
+      pub AreCopied-bytes_more : AreCopied left now partial old new count → IsBlock now now' partial front rest →
+          (sent : List ℕ) → sent ≡ front → WritesFrontBytes end P sent new new'
           → IfSome left (λ bytes. WritesKeptBytes end P bytes old new')
       AreCopied-bytes_more before block sent same fronts =
-          in_input left now' before.whole front rest before.kept (read_all left now now' before.whole partial front rest before.read block) before.ended before.are block.apart
+          in_input left now' before.whole front rest before.kept (read_all left now now' before.whole partial front
+          rest before.read block) before.ended before.are block.apart
           (λ bytes. WritesKeptBytes end P bytes old new')
-          (λ bytes after all. first_bytes bytes before.whole front after old new new' before.kept all before.wrote (subst (λ l. WritesFrontBytes end P l new new') same fronts))
+          (λ bytes after all. first_bytes bytes before.whole front after old new new' before.kept all before.wrote
+          (subst (λ l. WritesFrontBytes end P l new new') same fronts))

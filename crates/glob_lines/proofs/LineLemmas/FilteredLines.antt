@@ -1,5 +1,7 @@
 -- The records of an input up to some place, filtered: what was written of them, and what waits in the output.
-use Rattle.std.proofs.Common.{◌≡◌, ℕ, ◌+◌, ◌-◌, ◌^◌, inl, inr, min, List, [], ◌∷◌, ◌++◌, Option, length, take, drop, refl, sym, ap, ◌∙◌, subst, append-nil, append_assoc, take-append-drop, length-append, arith}
+use Rattle.std.proofs.Common.{◌≡◌, ℕ, ◌+◌, ◌-◌, ◌^◌, inl, inr, min, List, [], ◌∷◌, ◌++◌, Option, length, take, drop}
+use Rattle.std.proofs.Common.{refl, sym, ap, ◌∙◌, subst, append-nil, append_assoc, take-append-drop, length-append}
+use Rattle.std.proofs.Common.{arith}
 use lib.Seq.{take-append_seam}
 use Rattle.std.specs.Io.KnownBytes.{Appends, Keeps}
 use Rattle.std.proofs.KnownBytes.{Appends-nil, Appends-trans, Appends-kept, Keeps-refl}
@@ -35,9 +37,11 @@ module _ (end : ℕ) where
     counted = refl;
   }
 
-  one_more : (records seen : List (List ℕ)) (rest after one : List ℕ) → records ≡ seen ++ records_of end rest → records_of end rest ≡ one ∷ records_of end after
+  one_more : (records seen : List (List ℕ)) (rest after one : List ℕ) → records ≡ seen ++ records_of end rest
+      → records_of end rest ≡ one ∷ records_of end after
       → records ≡ (seen ++ one ∷ []) ++ records_of end after
-  one_more records seen rest after one split first = split ∙ ap (λ l. seen ++ l) first ∙ sym (append_assoc seen (one ∷ []) (records_of end after))
+  one_more records seen rest after one split first = split ∙ ap (λ l. seen ++ l) first ∙ sym (append_assoc seen
+      (one ∷ []) (records_of end after))
 
   -- one more record, which is not kept
   pub AreFiltered-pass : (P : List ℕ → Type 0) (input rest after one output : List ℕ) (old new : Option (List ℕ)) (count : ℕ)
@@ -54,14 +58,17 @@ module _ (end : ℕ) where
     counted = before.counted;
   }
 
-  with_ends-push : (records : List (List ℕ)) (one : List ℕ) → with_ends end (records ++ one ∷ []) ≡ with_ends end records ++ ended_record end one
-  with_ends-push records one = flat_map-append (ended_record end) records (one ∷ []) ∙ ap (λ l. with_ends end records ++ l) (append-nil (ended_record end one))
+  with_ends-push : (records : List (List ℕ)) (one : List ℕ) → with_ends end (records ++ one ∷ []) ≡ with_ends end
+      records ++ ended_record end one
+  with_ends-push records one = flat_map-append (ended_record end) records (one ∷ []) ∙ ap
+      (λ l. with_ends end records ++ l) (append-nil (ended_record end one))
 
   with_ends-gathered : (written waiting : List (List ℕ)) (one output : List ℕ) → output ≡ with_ends end waiting
       → with_ends end ((written ++ waiting) ++ one ∷ []) ≡ with_ends end written ++ (output ++ ended_record end one)
   with_ends-gathered written waiting one output held =
       with_ends-push (written ++ waiting) one
-      ∙ ap (λ l. l ++ ended_record end one) (flat_map-append (ended_record end) written waiting ∙ ap (λ l. with_ends end written ++ l) (sym held))
+      ∙ ap (λ l. l ++ ended_record end one) (flat_map-append (ended_record end) written waiting ∙ ap
+      (λ l. with_ends end written ++ l) (sym held))
       ∙ append_assoc (with_ends end written) output (ended_record end one)
 
   counted_more : (records : List (List ℕ)) (one : List ℕ) (count : ℕ) → count ≡ min (length records) (2 ^ 64 - 1)
@@ -70,7 +77,8 @@ module _ (end : ℕ) where
 
   -- one more record, which is kept
   pub AreFiltered-keep : (P : List ℕ → Type 0) (input rest after one output output' : List ℕ) (old new new' : Option (List ℕ)) (count : ℕ)
-      → AreFiltered P input rest output old new count → records_of end rest ≡ one ∷ records_of end after → P one → IsGathered end one output output' new new'
+      → AreFiltered P input rest output old new count → records_of end rest ≡ one ∷ records_of end after → P one
+      → IsGathered end one output output' new new'
       → AreFiltered P input after output' old new' (min (count + 1) (2 ^ 64 - 1))
   AreFiltered-keep P input rest after one output output' old new new' count before first holds (inl (same, is)) = record {
     seen = before.seen ++ one ∷ [];
@@ -99,9 +107,12 @@ module _ (end : ℕ) where
   }
 
   -- what was seen is kept first
-  kept_first : (P : List ℕ → Type 0) (input rest : List ℕ) (seen front kept : List (List ℕ)) → records_of end input ≡ seen ++ records_of end rest
-      → AreKept P seen front → AreKept P (records_of end input) kept → (others : List (List ℕ)) × (kept ≡ front ++ others) × AreKept P (records_of end rest) others
-  kept_first P input rest seen front kept split are all = AreKept-front P seen (records_of end rest) front kept are (subst (λ l. AreKept P l kept) split all)
+  kept_first : (P : List ℕ → Type 0) (input rest : List ℕ) (seen front kept : List (List ℕ)) → records_of end input ≡
+      seen ++ records_of end rest
+      → AreKept P seen front → AreKept P (records_of end input) kept → (others : List (List ℕ)) ×
+      (kept ≡ front ++ others) × AreKept P (records_of end rest) others
+  kept_first P input rest seen front kept split are all = AreKept-front P seen (records_of end rest) front kept are
+      (subst (λ l. AreKept P l kept) split all)
 
   -- Nothing more was written: what was is whole records.
   pub AreFiltered-whole : (P : List ℕ → Type 0) (input rest output : List ℕ) (old new new' : Option (List ℕ)) (count : ℕ)
@@ -110,39 +121,51 @@ module _ (end : ℕ) where
   AreFiltered-whole P input rest output old new new' count done same kept all =
       let (others, split, _) = kept_first P input rest done.seen (done.written ++ done.waiting) kept done.split done.kept all in
       let front : take (length done.written) kept ≡ done.written =
-      ap (take (length done.written)) (split ∙ append_assoc done.written done.waiting others) ∙ take-append_seam done.written (done.waiting ++ others) in
-      (length done.written, subst (λ l. Appends old new' (with_ends end l)) (sym front) (Appends-kept old new new' (with_ends end done.written) done.moved same))
+      ap (take (length done.written)) (split ∙ append_assoc done.written done.waiting others) ∙ take-append_seam
+      done.written (done.waiting ++ others) in (
+        length done.written,
+        subst (λ l. Appends old new' (with_ends end l)) (sym front) (Appends-kept old new new'
+            (with_ends end done.written) done.moved same),
+      )
 
   -- some of the bytes that come next were written
-  pub cut_after : (old new new' : Option (List ℕ)) (all done next rest : List ℕ) (n : ℕ) → all ≡ done ++ (next ++ rest) → Appends old new done → Appends new new' (take n next)
+  pub cut_after : (old new new' : Option (List ℕ)) (all done next rest : List ℕ) (n : ℕ) → all ≡ done ++ (next ++ rest)
+      → Appends old new done → Appends new new' (take n next)
       → (m : ℕ) × Appends old new' (take m all)
   cut_after old new new' all done next rest n split before appended =
       Appends-cut old new' new' all (done ++ take n next) (drop n next ++ rest)
-      (split ∙ ap (λ l. done ++ (l ++ rest)) (sym (take-append-drop n next)) ∙ ap (λ l. done ++ l) (append_assoc (take n next) (drop n next) rest)
+      (split ∙ ap (λ l. done ++ (l ++ rest)) (sym (take-append-drop n next)) ∙ ap (λ l. done ++ l)
+      (append_assoc (take n next) (drop n next) rest)
       ∙ sym (append_assoc done (take n next) (drop n next ++ rest)))
       (Appends-trans old new new' done (take n next) before appended) (Keeps-refl new')
 
-  written_first : (written waiting others kept : List (List ℕ)) (output : List ℕ) → kept ≡ (written ++ waiting) ++ others → output ≡ with_ends end waiting
+  written_first : (written waiting others kept : List (List ℕ)) (output : List ℕ) → kept ≡ (written ++ waiting) ++
+      others → output ≡ with_ends end waiting
       → with_ends end kept ≡ with_ends end written ++ (output ++ with_ends end others)
   written_first written waiting others kept output split held =
       ap (with_ends end) (split ∙ append_assoc written waiting others)
       ∙ flat_map-append (ended_record end) written (waiting ++ others)
-      ∙ ap (λ l. with_ends end written ++ l) (flat_map-append (ended_record end) waiting others ∙ ap (λ l. l ++ with_ends end others) (sym held))
+      ∙ ap (λ l. with_ends end written ++ l) (flat_map-append (ended_record end) waiting others ∙ ap
+      (λ l. l ++ with_ends end others) (sym held))
 
   -- some of the output was written
   pub AreFiltered-cut : (P : List ℕ → Type 0) (input rest output sent : List ℕ) (old new new' : Option (List ℕ)) (count n : ℕ)
-      → AreFiltered P input rest output old new count → sent ≡ output → Appends new new' (take n sent) → (kept : List (List ℕ)) → AreKept P (records_of end input) kept
+      → AreFiltered P input rest output old new count → sent ≡ output → Appends new new' (take n sent) →
+      (kept : List (List ℕ)) → AreKept P (records_of end input) kept
       → (m : ℕ) × Appends old new' (take m (with_ends end kept))
   AreFiltered-cut P input rest output sent old new new' count n done same appended kept all =
       let (others, split, _) = kept_first P input rest done.seen (done.written ++ done.waiting) kept done.split done.kept all in
       cut_after old new new' (with_ends end kept) (with_ends end done.written) output (with_ends end others) n
-      (written_first done.written done.waiting others kept output split done.held) done.moved (subst (λ l. Appends new new' (take n l)) same appended)
+      (written_first done.written done.waiting others kept output split done.held) done.moved
+      (subst (λ l. Appends new new' (take n l)) same appended)
 
   -- some of the output and of the next record was written
   pub AreFiltered-cut_more : (P : List ℕ → Type 0) (input rest after one output : List ℕ) (old new new' : Option (List ℕ)) (count n : ℕ)
-      → AreFiltered P input rest output old new count → records_of end rest ≡ one ∷ records_of end after → P one → Appends new new' (take n (output ++ ended_record end one))
+      → AreFiltered P input rest output old new count → records_of end rest ≡ one ∷ records_of end after → P one
+      → Appends new new' (take n (output ++ ended_record end one))
       → (kept : List (List ℕ)) → AreKept P (records_of end input) kept → (m : ℕ) × Appends old new' (take m (with_ends end kept))
   AreFiltered-cut_more P input rest after one output old new new' count n done first holds appended =
       let same : Keeps new new = Keeps-refl new in
-      let more = AreFiltered-keep P input rest after one output (output ++ ended_record end one) old new new count done first holds (inl (same, refl)) in
+      let more = AreFiltered-keep P input rest after one output (output ++ ended_record end one) old new new count done
+      first holds (inl (same, refl)) in
       AreFiltered-cut P input after (output ++ ended_record end one) (output ++ ended_record end one) old new new' _ n more refl appended

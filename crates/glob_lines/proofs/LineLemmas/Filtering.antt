@@ -1,19 +1,24 @@
 -- What makes a copy of records one of a known input, and what such a copy wrote. The words are closed elsewhere.
-use Rattle.std.proofs.Common.{◌≡◌, ℕ, ◌⊎◌, List, [], ◌++◌, Bool, Option, None, Some, Result, Ok, Err, OnErr, take, drop, sym, ap, ◌∙◌, append-nil, subst}
+use Rattle.std.proofs.Common.{◌≡◌, ℕ, ◌⊎◌, List, [], ◌++◌, Bool, Option, None, Some, Result, Ok, Err, OnErr, take, drop}
+use Rattle.std.proofs.Common.{sym, ap, ◌∙◌, append-nil, subst}
 use Rattle.std.specs.Prelude.{IfSome, IsErrAnd, length}
 use lib.Seq.{take-append_seam}
 use Rattle.std.proofs.lemmas.List.{take-append-drop}
 use Rattle.std.proofs.lemmas.List.Concat.{flat_map-append}
 use Rattle.std.specs.Io.KnownBytes.{Appends, Consumes, IsAtEnd, Keeps}
 use Rattle.glob_lines.specs.LineFaults.{IsRead, IsMemory, IsWrite}
-use Rattle.glob_lines.specs.Lines.{records_of, ended_record, with_ends, AreKept, RecordMatches, record_matches, Selected, WritesKept, WritesSomeKept, WritesKeptBytes, WritesRecords, WritesSomeRecords, WritesSomeBytes, CopiesSomeSelected, CopiesSelectedBytes, CopiesWholeSelected, FiltersRecords, FiltersSomeRecords, FiltersRecordBytes}
+use Rattle.glob_lines.specs.Lines.{records_of, ended_record, with_ends, AreKept, RecordMatches, record_matches}
+use Rattle.glob_lines.specs.Lines.{Selected, WritesKept, WritesSomeKept, WritesKeptBytes, WritesRecords}
+use Rattle.glob_lines.specs.Lines.{WritesSomeRecords, WritesSomeBytes, CopiesSomeSelected, CopiesSelectedBytes}
+use Rattle.glob_lines.specs.Lines.{CopiesWholeSelected, FiltersRecords, FiltersSomeRecords, FiltersRecordBytes}
 use Rattle.glob_lines.specs.declared.fault.LineFault.{LineFault}
 use Rattle.glob_lines.specs.declared.fault.LineFault.TheVariants as fault
 use Rattle.glob_lines.proofs.LineLemmas.KeptLines.{AreKept-same}
 use Rattle.glob_lines.specs.Private.Fronts.{WritesFrontRecords, WritesFrontBytes}
 use Rattle.glob_lines.proofs.LineLemmas.CopiedRecords.{some_by_whole}
 use Rattle.glob_lines.proofs.LineLemmas.KnownMoves.{IfSome-all_read}
-use Rattle.glob_lines.proofs.LineLemmas.MatchingLines.{kept_records, matches_by_record, record_by_matches, record_decided, selected_decided, some_records-none, IfSome-each}
+use Rattle.glob_lines.proofs.LineLemmas.MatchingLines.{kept_records, matches_by_record, record_by_matches}
+use Rattle.glob_lines.proofs.LineLemmas.MatchingLines.{record_decided, selected_decided, some_records-none, IfSome-each}
 use Rattle.glob_pattern.specs.declared.options.MatchOptions.{MatchOptions}
 
 -- the same bytes were written, after what is known there
@@ -22,42 +27,51 @@ AlsoAppends old new old' new' = (bytes : List ℕ) → Appends old new bytes →
 
 module _ (end : ℕ) (o : MatchOptions) (pattern : List ℕ) (input old new : Option (List ℕ)) where
   -- The records of an input are filtered if those of each input that it may be were written.
-  pub records_by_writing : (count : ℕ) → IfSome input (λ bytes. WritesRecords end o pattern bytes old new count) → FiltersRecords end o pattern input old new count
+  pub records_by_writing : (count : ℕ) → IfSome input (λ bytes. WritesRecords end o pattern bytes old new count)
+      → FiltersRecords end o pattern input old new count
   unfolding FiltersRecords
   records_by_writing count wrote = wrote
 
   -- So they are, only if.
-  pub writing_of_records : (count : ℕ) → FiltersRecords end o pattern input old new count → IfSome input (λ bytes. WritesRecords end o pattern bytes old new count)
+  pub writing_of_records : (count : ℕ) → FiltersRecords end o pattern input old new count → IfSome input
+      (λ bytes. WritesRecords end o pattern bytes old new count)
   unfolding FiltersRecords
   writing_of_records count filters = filters
 
   -- The same of the first records.
-  pub some_records_by_writing : IfSome input (λ bytes. WritesSomeRecords end o pattern bytes old new) → FiltersSomeRecords end o pattern input old new
+  pub some_records_by_writing : IfSome input (λ bytes. WritesSomeRecords end o pattern bytes old new)
+      → FiltersSomeRecords end o pattern input old new
   unfolding FiltersSomeRecords
   some_records_by_writing wrote = wrote
 
-  pub writing_of_some_records : FiltersSomeRecords end o pattern input old new → IfSome input (λ bytes. WritesSomeRecords end o pattern bytes old new)
+  pub writing_of_some_records : FiltersSomeRecords end o pattern input old new → IfSome input
+      (λ bytes. WritesSomeRecords end o pattern bytes old new)
   unfolding FiltersSomeRecords
   writing_of_some_records filters = filters
 
   -- The same of the first bytes.
-  pub some_bytes_by_writing : IfSome input (λ bytes. WritesSomeBytes end o pattern bytes old new) → FiltersRecordBytes end o pattern input old new
+  pub some_bytes_by_writing : IfSome input (λ bytes. WritesSomeBytes end o pattern bytes old new) → FiltersRecordBytes
+      end o pattern input old new
   unfolding FiltersRecordBytes
   some_bytes_by_writing wrote = wrote
 
-  pub writing_of_some_bytes : FiltersRecordBytes end o pattern input old new → IfSome input (λ bytes. WritesSomeBytes end o pattern bytes old new)
+  pub writing_of_some_bytes : FiltersRecordBytes end o pattern input old new → IfSome input
+      (λ bytes. WritesSomeBytes end o pattern bytes old new)
   unfolding FiltersRecordBytes
   writing_of_some_bytes filters = filters
 
 -- The records that a test keeps, of an input that may be known.
 module _ (end : ℕ) (P : List ℕ → Type 0) where
   -- The records were written to each place at which the same bytes were written.
-  kept_elsewhere : (input old new old' new' : Option (List ℕ)) (count : ℕ) → AlsoAppends old new old' new' → IfSome input (λ bytes. WritesKept end P bytes old new count) → IfSome input (λ bytes. WritesKept end P bytes old' new' count)
+  kept_elsewhere : (input old new old' new' : Option (List ℕ)) (count : ℕ) → AlsoAppends old new old' new'
+      → IfSome input (λ bytes. WritesKept end P bytes old new count) → IfSome input (λ bytes. WritesKept end P bytes
+      old' new' count)
   kept_elsewhere None old new old' new' count also wrote = tt
   kept_elsewhere (Some bytes) old new old' new' count also (kept, are, wrote, counted) = (kept, are, also _ wrote, counted)
 
   -- The same of the first bytes.
-  kept_bytes_elsewhere : (input old new old' new' : Option (List ℕ)) → AlsoAppends old new old' new' → IfSome input (λ bytes. WritesKeptBytes end P bytes old new) → IfSome input (λ bytes. WritesKeptBytes end P bytes old' new')
+  kept_bytes_elsewhere : (input old new old' new' : Option (List ℕ)) → AlsoAppends old new old' new' → IfSome input
+      (λ bytes. WritesKeptBytes end P bytes old new) → IfSome input (λ bytes. WritesKeptBytes end P bytes old' new')
   kept_bytes_elsewhere None old new old' new' also wrote = tt
   kept_bytes_elsewhere (Some bytes) old new old' new' also (kept, are, (n, wrote)) = (kept, are, (n, also _ wrote))
 
@@ -67,56 +81,70 @@ module _ (end : ℕ) (P : List ℕ → Type 0) where
   keeping_appends_none (Some bytes) (Some more) same = same ∙ sym (append-nil bytes)
 
   -- Nothing was written, so of the bytes none.
-  kept_bytes_by_keeping : ((one : List ℕ) → P one ⊎ (¬ (P one))) → (input old new : Option (List ℕ)) → Keeps old new → IfSome input (λ bytes. WritesKeptBytes end P bytes old new)
+  kept_bytes_by_keeping : ((one : List ℕ) → P one ⊎ (¬ (P one))) → (input old new : Option (List ℕ)) → Keeps old new
+      → IfSome input (λ bytes. WritesKeptBytes end P bytes old new)
   kept_bytes_by_keeping decided None old new same = tt
   kept_bytes_by_keeping decided (Some bytes) old new same =
       let (kept, are) = kept_records end P decided bytes in (kept, are, (0, keeping_appends_none old new same))
 
   -- The first records were written, so the first bytes.
-  kept_bytes_by_records : (input old new : Option (List ℕ)) → IfSome input (λ bytes. WritesSomeKept end P bytes old new) → IfSome input (λ bytes. WritesKeptBytes end P bytes old new)
+  kept_bytes_by_records : (input old new : Option (List ℕ)) → IfSome input (λ bytes. WritesSomeKept end P bytes old
+      new) → IfSome input (λ bytes. WritesKeptBytes end P bytes old new)
   kept_bytes_by_records None old new some = tt
   kept_bytes_by_records (Some bytes) old new (kept, are, (n, wrote)) =
       let front = with_ends end (take n kept) in
       let rest = with_ends end (drop n kept) in
-      let split : with_ends end kept ≡ front ++ rest = ap (with_ends end) (sym (take-append-drop n kept)) ∙ flat_map-append (ended_record end) (take n kept) (drop n kept) in
+      let split : with_ends end kept ≡ front ++ rest = ap (with_ends end) (sym (take-append-drop n kept))
+      ∙ flat_map-append (ended_record end) (take n kept) (drop n kept) in
       (kept, are, (length front, subst (Appends old new) (sym (ap (take (length front)) split ∙ take-append_seam front rest)) wrote))
 
   module _ (input old new : Option (List ℕ)) where
-    kept_bytes_at : (f : LineFault) → (IsRead f → IfSome input (λ bytes. WritesKeptBytes end P bytes old new)) → (IsMemory f → IfSome input (λ bytes. WritesSomeKept end P bytes old new)) → (IsWrite f → IfSome input (λ bytes. WritesKeptBytes end P bytes old new))
+    kept_bytes_at : (f : LineFault) → (IsRead f → IfSome input (λ bytes. WritesKeptBytes end P bytes old new)) →
+        (IsMemory f → IfSome input (λ bytes. WritesSomeKept end P bytes old new)) → (IsWrite f → IfSome input
+        (λ bytes. WritesKeptBytes end P bytes old new))
         → IfSome input (λ bytes. WritesKeptBytes end P bytes old new)
     kept_bytes_at (fault.Read e) read memory write = read tt
     kept_bytes_at fault.Memory read memory write = kept_bytes_by_records input old new (memory tt)
     kept_bytes_at (fault.Write e) read memory write = write tt
 
     -- what is promised at each fault is of the first bytes
-    kept_bytes_at_fault : (r : Result ℕ LineFault) → (IsErrAnd r IsRead → IfSome input (λ bytes. WritesKeptBytes end P bytes old new)) → (IsErrAnd r IsMemory → IfSome input (λ bytes. WritesSomeKept end P bytes old new))
-        → (IsErrAnd r IsWrite → IfSome input (λ bytes. WritesKeptBytes end P bytes old new)) → OnErr r (IfSome input (λ bytes. WritesKeptBytes end P bytes old new))
+    kept_bytes_at_fault : (r : Result ℕ LineFault) → (IsErrAnd r IsRead → IfSome input (λ bytes. WritesKeptBytes end P
+        bytes old new)) → (IsErrAnd r IsMemory → IfSome input (λ bytes. WritesSomeKept end P bytes old new))
+        → (IsErrAnd r IsWrite → IfSome input (λ bytes. WritesKeptBytes end P bytes old new)) → OnErr r
+        (IfSome input (λ bytes. WritesKeptBytes end P bytes old new))
     kept_bytes_at_fault (Ok n) read memory write = tt
     kept_bytes_at_fault (Err f) read memory write = kept_bytes_at f read memory write
 
 module _ (end : ℕ) (o : MatchOptions) (pattern : List ℕ) where
   -- The records were filtered to each place at which the same bytes were written.
-  pub records_elsewhere : (input old new old' new' : Option (List ℕ)) (count : ℕ) → AlsoAppends old new old' new' → FiltersRecords end o pattern input old new count → FiltersRecords end o pattern input old' new' count
+  pub records_elsewhere : (input old new old' new' : Option (List ℕ)) (count : ℕ) → AlsoAppends old new old' new'
+      → FiltersRecords end o pattern input old new count → FiltersRecords end o pattern input old' new' count
   unfolding FiltersRecords
-  records_elsewhere input old new old' new' count also filters = kept_elsewhere end (RecordMatches o pattern) input old new old' new' count also filters
+  records_elsewhere input old new old' new' count also filters = kept_elsewhere end (RecordMatches o pattern) input old
+      new old' new' count also filters
 
   -- The same of the first bytes.
-  pub some_bytes_elsewhere : (input old new old' new' : Option (List ℕ)) → AlsoAppends old new old' new' → FiltersRecordBytes end o pattern input old new → FiltersRecordBytes end o pattern input old' new'
+  pub some_bytes_elsewhere : (input old new old' new' : Option (List ℕ)) → AlsoAppends old new old' new'
+      → FiltersRecordBytes end o pattern input old new → FiltersRecordBytes end o pattern input old' new'
   unfolding FiltersRecordBytes
-  some_bytes_elsewhere input old new old' new' also filters = kept_bytes_elsewhere end (RecordMatches o pattern) input old new old' new' also filters
+  some_bytes_elsewhere input old new old' new' also filters = kept_bytes_elsewhere end (RecordMatches o pattern) input
+      old new old' new' also filters
 
   -- Nothing was written, so of the bytes none.
   pub some_bytes_by_keeping : (input old new : Option (List ℕ)) → Keeps old new → FiltersRecordBytes end o pattern input old new
   unfolding FiltersRecordBytes
-  some_bytes_by_keeping input old new same = kept_bytes_by_keeping end (RecordMatches o pattern) (record_decided o pattern) input old new same
+  some_bytes_by_keeping input old new same = kept_bytes_by_keeping end (RecordMatches o pattern)
+      (record_decided o pattern) input old new same
 
   -- The first records were written, so the first bytes.
-  pub some_bytes_by_records : (input old new : Option (List ℕ)) → FiltersSomeRecords end o pattern input old new → FiltersRecordBytes end o pattern input old new
+  pub some_bytes_by_records : (input old new : Option (List ℕ)) → FiltersSomeRecords end o pattern input old new
+      → FiltersRecordBytes end o pattern input old new
   unfolding FiltersSomeRecords FiltersRecordBytes
   some_bytes_by_records input old new some = kept_bytes_by_records end (RecordMatches o pattern) input old new some
 
   -- What `filter_records` promises at each fault is of the first bytes.
-  pub some_bytes_at_fault : (input old new : Option (List ℕ)) (r : Result ℕ LineFault) → (IsErrAnd r IsRead → Keeps old new) → (IsErrAnd r IsMemory → FiltersSomeRecords end o pattern input old new)
+  pub some_bytes_at_fault : (input old new : Option (List ℕ)) (r : Result ℕ LineFault) → (IsErrAnd r IsRead
+      → Keeps old new) → (IsErrAnd r IsMemory → FiltersSomeRecords end o pattern input old new)
       → (IsErrAnd r IsWrite → FiltersRecordBytes end o pattern input old new) → OnErr r (FiltersRecordBytes end o pattern input old new)
   unfolding FiltersSomeRecords FiltersRecordBytes
   some_bytes_at_fault input old new r read memory write = kept_bytes_at_fault end (RecordMatches o pattern) input old new r
@@ -128,15 +156,18 @@ module _ (end : ℕ) (selects : List ℕ → Bool) where
   selected_bytes_by_keeping input old new same = kept_bytes_by_keeping end (Selected selects) (selected_decided selects) input old new same
 
   -- the selected ones of the whole records that were read were written, so the first bytes
-  selected_bytes_by_whole : (input rest old new : Option (List ℕ)) → CopiesWholeSelected end selects input rest old new → IfSome input (λ bytes. WritesKeptBytes end (Selected selects) bytes old new)
+  selected_bytes_by_whole : (input rest old new : Option (List ℕ)) → CopiesWholeSelected end selects input rest old new
+      → IfSome input (λ bytes. WritesKeptBytes end (Selected selects) bytes old new)
   unfolding CopiesWholeSelected
   selected_bytes_by_whole input rest old new (whole, (partial, read, ended, none, (kept, are, wrote))) =
       kept_bytes_by_records end (Selected selects) input old new
       (some_by_whole end (Selected selects) (selected_decided selects) input rest whole partial kept old new read ended are wrote)
 
   -- What `copy_selected` promises at each fault is of the first bytes.
-  pub selected_bytes_at_fault : (input rest old new : Option (List ℕ)) (r : Result ℕ LineFault) → (IsErrAnd r IsRead → CopiesWholeSelected end selects input rest old new)
-      → (IsErrAnd r IsMemory → CopiesSomeSelected end selects input old new) → (IsErrAnd r IsWrite → CopiesSelectedBytes end selects input old new) → OnErr r (CopiesSelectedBytes end selects input old new)
+  pub selected_bytes_at_fault : (input rest old new : Option (List ℕ)) (r : Result ℕ LineFault) → (IsErrAnd r IsRead
+      → CopiesWholeSelected end selects input rest old new)
+      → (IsErrAnd r IsMemory → CopiesSomeSelected end selects input old new) → (IsErrAnd r IsWrite
+      → CopiesSelectedBytes end selects input old new) → OnErr r (CopiesSelectedBytes end selects input old new)
   unfolding CopiesSomeSelected CopiesSelectedBytes
   selected_bytes_at_fault input rest old new r read memory write =
       kept_bytes_at_fault end (Selected selects) input old new r (λ is. selected_bytes_by_whole input rest old new (read is)) memory write
@@ -144,29 +175,39 @@ module _ (end : ℕ) (selects : List ℕ → Bool) where
 -- The records that a pattern matches are those that a computed test selects. An input of which some bytes were read to its end
 -- is these bytes, where it is known.
 module _ (end : ℕ) (o : MatchOptions) (pattern : List ℕ) where
-  records_are : (records kept : List (List ℕ)) → AreKept (Selected (record_matches o pattern)) records kept → AreKept (RecordMatches o pattern) records kept
-  records_are records kept are = AreKept-same (Selected (record_matches o pattern)) (RecordMatches o pattern) (matches_by_record o pattern) (record_by_matches o pattern) records kept are
+  records_are : (records kept : List (List ℕ)) → AreKept (Selected (record_matches o pattern)) records kept → AreKept
+      (RecordMatches o pattern) records kept
+  records_are records kept are = AreKept-same (Selected (record_matches o pattern)) (RecordMatches o pattern)
+      (matches_by_record o pattern) (record_by_matches o pattern) records kept are
 
-  module _ (left rest : Option (List ℕ)) (bytes : List ℕ) (read : Consumes left rest bytes) (at_end : IsAtEnd rest) (old new : Option (List ℕ)) where
-    pub records_by_selected : (count : ℕ) → WritesKept end (Selected (record_matches o pattern)) bytes old new count → FiltersRecords end o pattern left old new count
+  module _ (left rest : Option (List ℕ)) (bytes : List ℕ) (read : Consumes left rest bytes) (at_end : IsAtEnd rest)
+      (old new : Option (List ℕ)) where
+    pub records_by_selected : (count : ℕ) → WritesKept end (Selected (record_matches o pattern)) bytes old new count
+        → FiltersRecords end o pattern left old new count
     unfolding FiltersRecords
     records_by_selected count (kept, are, wrote, counted) =
-        IfSome-all_read left rest bytes read at_end (λ input. WritesRecords end o pattern input old new count) (kept, records_are (records_of end bytes) kept are, wrote, counted)
+        IfSome-all_read left rest bytes read at_end (λ input. WritesRecords end o pattern input old new count)
+        (kept, records_are (records_of end bytes) kept are, wrote, counted)
 
-    pub some_records_by_selected : WritesFrontRecords end (Selected (record_matches o pattern)) bytes old new → FiltersSomeRecords end o pattern left old new
+    pub some_records_by_selected : WritesFrontRecords end (Selected (record_matches o pattern)) bytes old new
+        → FiltersSomeRecords end o pattern left old new
     unfolding FiltersSomeRecords
     some_records_by_selected fronts =
         let (kept, are) = kept_records end (Selected (record_matches o pattern)) (selected_decided (record_matches o pattern)) bytes in
-        IfSome-all_read left rest bytes read at_end (λ input. WritesSomeRecords end o pattern input old new) (kept, records_are (records_of end bytes) kept are, fronts kept are)
+        IfSome-all_read left rest bytes read at_end (λ input. WritesSomeRecords end o pattern input old new)
+        (kept, records_are (records_of end bytes) kept are, fronts kept are)
 
-    pub some_bytes_by_selected : WritesFrontBytes end (Selected (record_matches o pattern)) bytes old new → FiltersRecordBytes end o pattern left old new
+    pub some_bytes_by_selected : WritesFrontBytes end (Selected (record_matches o pattern)) bytes old new
+        → FiltersRecordBytes end o pattern left old new
     unfolding FiltersRecordBytes
     some_bytes_by_selected fronts =
         let (kept, are) = kept_records end (Selected (record_matches o pattern)) (selected_decided (record_matches o pattern)) bytes in
-        IfSome-all_read left rest bytes read at_end (λ input. WritesSomeBytes end o pattern input old new) (kept, records_are (records_of end bytes) kept are, fronts kept are)
+        IfSome-all_read left rest bytes read at_end (λ input. WritesSomeBytes end o pattern input old new)
+        (kept, records_are (records_of end bytes) kept are, fronts kept are)
 
   -- nothing was written, so of the records none
   pub some_records_by_none : (left known : Option (List ℕ)) → FiltersSomeRecords end o pattern left known known
   unfolding FiltersSomeRecords
   some_records_by_none left known =
-      IfSome-each left (λ input. WritesSomeRecords end o pattern input known known) (λ input. some_records-none end (RecordMatches o pattern) (record_decided o pattern) input known)
+      IfSome-each left (λ input. WritesSomeRecords end o pattern input known known) (λ input. some_records-none end
+      (RecordMatches o pattern) (record_decided o pattern) input known)

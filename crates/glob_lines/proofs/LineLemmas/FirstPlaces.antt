@@ -7,10 +7,17 @@ use Rattle.std.proofs.lemmas.List.Folds.{prefix_len-append}
 use Rattle.std.proofs.lemmas.List.Sums.{prefix_len-le-length}
 
 -- where it is not in the front, it is that of what follows
-pub first-past : (p : ℕ → Bool) (n : ℕ) (xs : List ℕ) → n ≤ length xs → n ≤ position_or_len p (take n xs) → position_or_len p xs ≡ n + position_or_len p (drop n xs)
+pub first-past : (p : ℕ → Bool) (n : ℕ) (xs : List ℕ) → n ≤ length xs → n ≤ position_or_len p (take n xs)
+    → position_or_len p xs ≡ n + position_or_len p (drop n xs)
 first-past p n xs within none =
     let long : length (take n xs) ≡ n = length-take-le n xs within in
-    let all : position_or_len p (take n xs) ≡ length (take n xs) = omega (arith, long, none, prefix_len-le-length (λ x. not (p x)) (take n xs)) in
+    let all : position_or_len p (take n xs) ≡ length (take n xs) = omega (
+      arith,
+      long,
+      none,
+      prefix_len-le-length
+          (λ x. not (p x)) (take n xs),
+    ) in
     ap (position_or_len p) (sym (take-append-drop n xs))
     ∙ prefix_len-append (λ x. not (p x)) (take n xs) (drop n xs)
     ∙ cond-true _ _ _ (eq-eqb _ _ all)

@@ -22,7 +22,8 @@ AreKept-pass P records kept one are fails =
     subst (AreKept P (records ++ one ∷ [])) (append-nil kept) (AreKept-append P records (one ∷ []) kept [] are (inr (fails, refl)))
 
 -- what is kept of a front of the records is first
-pub AreKept-front : (P : List ℕ → Type 0) (front more kept_front kept : List (List ℕ)) → AreKept P front kept_front → AreKept P (front ++ more) kept
+pub AreKept-front : (P : List ℕ → Type 0) (front more kept_front kept : List (List ℕ)) → AreKept P front kept_front
+    → AreKept P (front ++ more) kept
     → (others : List (List ℕ)) × (kept ≡ kept_front ++ others) × AreKept P more others
 AreKept-front P [] more kept_front kept are all = (kept, ap (λ l. l ++ kept) (sym are), all)
 AreKept-front P (x ∷ xs) more kept_front kept (inl (here, (first, is, are))) (inl (_, (rest, all_is, all))) =
@@ -33,7 +34,8 @@ AreKept-front P (x ∷ xs) more kept_front kept (inr (not_here, are)) (inl (here
 AreKept-front P (x ∷ xs) more kept_front kept (inr (_, are)) (inr (_, all)) = AreKept-front P xs more kept_front kept are all
 
 -- there is one, where each record is decided
-pub AreKept-exists : (P : List ℕ → Type 0) → ((one : List ℕ) → P one ⊎ (¬ (P one))) → (records : List (List ℕ)) → (kept : List (List ℕ)) × AreKept P records kept
+pub AreKept-exists : (P : List ℕ → Type 0) → ((one : List ℕ) → P one ⊎ (¬ (P one))) → (records : List (List ℕ)) →
+    (kept : List (List ℕ)) × AreKept P records kept
 AreKept-exists P decided [] = ([], refl)
 AreKept-exists P decided (x ∷ xs) =
     let (others, are) = AreKept-exists P decided xs in
@@ -43,7 +45,9 @@ AreKept-exists P decided (x ∷ xs) =
     ]
 
 -- a test that holds of the same records keeps the same
-pub AreKept-same : (P Q : List ℕ → Type 0) → ((one : List ℕ) → P one → Q one) → ((one : List ℕ) → Q one → P one) → (records kept : List (List ℕ)) → AreKept P records kept → AreKept Q records kept
+pub AreKept-same : (P Q : List ℕ → Type 0) → ((one : List ℕ) → P one → Q one) → ((one : List ℕ) → Q one → P one) →
+    (records kept : List (List ℕ)) → AreKept P records kept → AreKept Q records kept
 AreKept-same P Q to from [] kept are = are
-AreKept-same P Q to from (x ∷ xs) kept (inl (here, (others, is, are))) = inl (to x here, (others, is, AreKept-same P Q to from xs others are))
+AreKept-same P Q to from (x ∷ xs) kept (inl (here, (others, is, are))) = inl
+    (to x here, (others, is, AreKept-same P Q to from xs others are))
 AreKept-same P Q to from (x ∷ xs) kept (inr (not_here, are)) = inr (λ q. not_here (from x q), AreKept-same P Q to from xs kept are)

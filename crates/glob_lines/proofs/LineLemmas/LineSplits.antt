@@ -1,5 +1,7 @@
 -- The first record of some bytes.
-use Rattle.std.proofs.Common.{◌≡◌, ◌≢◌, ℕ, ◌+◌, ◌<◌, ◌==◌, List, [], ◌∷◌, ◌++◌, None, Some, Bool, inl, inr, length, take, drop, get_or, eqb, ltb, false, refl, sym, ap, ◌∙◌, subst, append-nil, append_assoc, arith}
+use Rattle.std.proofs.Common.{◌≡◌, ◌≢◌, ℕ, ◌+◌, ◌<◌, ◌==◌, List, [], ◌∷◌, ◌++◌, None, Some, Bool, inl, inr, length}
+use Rattle.std.proofs.Common.{take, drop, get_or, eqb, ltb, false, refl, sym, ap, ◌∙◌, subst, append-nil, append_assoc}
+use Rattle.std.proofs.Common.{arith}
 use Rattle.std.specs.List.{position, position_or_len}
 use Rattle.std.proofs.lemmas.Option.{none-some}
 use Rattle.std.proofs.lemmas.List.Sums.{fails_before_first}
@@ -38,14 +40,16 @@ module _ (end : ℕ) where
       ∙ ap (onto_first x) (records_of-last (y ∷ ys) (All-tail (λ b. b ≢ end) x (y ∷ ys) none) (omega arith))
 
   -- the end is at a place before which there is none
-  pub records_of-place : (bytes : List ℕ) (i : ℕ) → position (λ b. b == end) bytes ≡ Some i → records_of end bytes ≡ take i bytes ∷ records_of end (drop (i + 1) bytes)
+  pub records_of-place : (bytes : List ℕ) (i : ℕ) → position (λ b. b == end) bytes ≡ Some i → records_of end bytes ≡
+      take i bytes ∷ records_of end (drop (i + 1) bytes)
   records_of-place bytes i found =
       let (within, is, before) = position-Some (λ b. b == end) bytes i 0 found in
       let none : HasNoEnd end (take i bytes) = All-from_get_or (λ b. b ≢ end) (take i bytes) 0 (λ k short.
       let k_before : k < i = omega (arith, length-take i bytes) in
       subst (λ b. b ≢ end) (sym (get_or-take i bytes k 0 k_before)) (eqb-false (get_or bytes k 0) end (before k k_before))) in
       let whole : bytes ≡ take i bytes ++ end ∷ drop (i + 1) bytes =
-      sym (take-append-drop i bytes) ∙ ap (λ l. take i bytes ++ l) (drop_more bytes i 0 within ∙ ap (λ b. b ∷ drop (i + 1) bytes) (eqb-true (get_or bytes i 0) end is)) in
+      sym (take-append-drop i bytes) ∙ ap (λ l. take i bytes ++ l) (drop_more bytes i 0 within
+      ∙ ap (λ b. b ∷ drop (i + 1) bytes) (eqb-true (get_or bytes i 0) end is)) in
       ap (records_of end) whole ∙ records_of-ended (take i bytes) (drop (i + 1) bytes) none
 
   -- no place is found
@@ -58,7 +62,8 @@ module _ (end : ℕ) where
   records_of-no_place bytes none some = records_of-last bytes (None-has_no_end bytes none) some
 
   -- what is before an end has a first record, which does not depend on what is after
-  first_before : (front : List ℕ) → (first : List ℕ) × ((others : List (List ℕ)) × ((more : List ℕ) → records_of end (front ++ end ∷ more) ≡ first ∷ (others ++ records_of end more)))
+  first_before : (front : List ℕ) → (first : List ℕ) × ((others : List (List ℕ)) × ((more : List ℕ) → records_of end
+      (front ++ end ∷ more) ≡ first ∷ (others ++ records_of end more)))
   first_before [] = ([], ([], λ more. records_of-ended [] more (All-nil (λ b. b ≢ end))))
   first_before (x ∷ xs) =
       let (first, (others, each)) = first_before xs in
@@ -68,7 +73,8 @@ module _ (end : ℕ) where
       ]
 
   -- the records of bytes that are whole records are apart from those of what is after
-  pub records_of-whole : (whole more : List ℕ) → AreWhole end whole → records_of end (whole ++ more) ≡ records_of end whole ++ records_of end more
+  pub records_of-whole : (whole more : List ℕ) → AreWhole end whole → records_of end (whole ++ more) ≡ records_of end
+      whole ++ records_of end more
   records_of-whole whole more (inl none) = subst (λ l. records_of end (l ++ more) ≡ records_of end l ++ records_of end more) (sym none) refl
   records_of-whole whole more (inr (front, is)) =
       let (first, (others, each)) = first_before front in

@@ -1,5 +1,6 @@
 -- The records that are kept, or that a pattern matches: there is one such list.
-use Rattle.std.proofs.Common.{◌≡◌, ◌↔◌, ℕ, ◌⊎◌, ◌&&◌, IsTrue, Result, Ok, Err, IfOk, inl, inr, Bool, true, false, List, [], refl, sym, chars, append-nil}
+use Rattle.std.proofs.Common.{◌≡◌, ◌↔◌, ℕ, ◌⊎◌, ◌&&◌, IsTrue, Result, Ok, Err, IfOk, inl, inr, Bool, true, false, List}
+use Rattle.std.proofs.Common.{[], refl, sym, chars, append-nil}
 use Rattle.std.specs.Prelude.{Option, None, Some, IfSome}
 use Rattle.std.specs.Str.{is_utf8}
 use Rattle.std.specs.Io.KnownBytes.{Appends}
@@ -36,9 +37,11 @@ same_answer false true to from = absurd (false≢true (from refl))
 same_answer false false to from = refl
 
 -- an answer that is yes exactly where a record matches is the computed one
-pub IfOk-computed : {E : Type 0} (r : Result Bool E) (o : MatchOptions) (pattern one : List ℕ) → IfOk r (λ b. IsTrue b ↔ RecordMatches o pattern one) → IfOk r (λ b. b ≡ record_matches o pattern one)
+pub IfOk-computed : {E : Type 0} (r : Result Bool E) (o : MatchOptions) (pattern one : List ℕ) → IfOk r
+    (λ b. IsTrue b ↔ RecordMatches o pattern one) → IfOk r (λ b. b ≡ record_matches o pattern one)
 IfOk-computed (Ok b) o pattern one (to, from) =
-    same_answer b (record_matches o pattern one) (λ t. record_by_matches o pattern one (to t)) (λ t. from (matches_by_record o pattern one t))
+    same_answer b (record_matches o pattern one) (λ t. record_by_matches o pattern one (to t))
+    (λ t. from (matches_by_record o pattern one t))
 IfOk-computed (Err e) o pattern one known = tt
 
 true_decided : (b : Bool) → (b ≡ true) ⊎ (¬ (b ≡ true))

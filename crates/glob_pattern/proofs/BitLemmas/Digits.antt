@@ -1,10 +1,14 @@
--- Which binary digits of a word are 1, after the operations on words.
-use Rattle.std.proofs.Common.{◌≡◌, ℕ, zero, suc, ◌+◌, ◌-◌, ◌*◌, ◌/◌, ◌%◌, ◌^◌, ◌<◌, ◌≢◌, ◌⊎◌, ◌↔◌, min, max, Bool, true, false, not, nat_eq, IsTrue, bit_and, bit_or, bit_xor, refl, sym, ap, ◌∙◌, inl, inr, ⊎_elim, arith, add-zero}
+-- The binary digits of a word after bitwise operations and shifts.
+use Rattle.std.proofs.Common.{◌≡◌, ℕ, zero, suc, ◌+◌, ◌-◌, ◌*◌, ◌/◌, ◌%◌, ◌^◌, ◌<◌, ◌≢◌, ◌⊎◌, ◌↔◌, min, max, Bool, true}
+use Rattle.std.proofs.Common.{false, not, nat_eq, IsTrue, bit_and, bit_or, bit_xor, refl, sym, ap, ◌∙◌, inl, inr}
+use Rattle.std.proofs.Common.{⊎_elim, arith, add-zero}
 use Rattle.std.specs.Int.{bit_at, bit_not, w64}
 use mir.Val.{bool_byte}
 use Rattle.std.proofs.lemmas.Bool.{cases_eq, false≢true, eqb-false, ne_eqb, not-true}
 use Rattle.std.proofs.lemmas.Nat.{one_shl, shr_split}
-use Rattle.std.proofs.lemmas.Nat.Bits.{bit_at-zero, bit_at_and, bit_at_or, bit_at_xor, bit_at_not, bit_at-lt, bit_at-pow_same, bit_at-pow_other, bit_at_cat_low, bit_at_lowest, bit_at-suc, shr_and_one}
+use Rattle.std.proofs.lemmas.Nat.Bits.{bit_at-zero, bit_at_and, bit_at_or, bit_at_xor, bit_at_not, bit_at-lt}
+use Rattle.std.proofs.lemmas.Nat.Bits.{bit_at-pow_same, bit_at-pow_other, bit_at_cat_low, bit_at_lowest, bit_at-suc}
+use Rattle.std.proofs.lemmas.Nat.Bits.{shr_and_one}
 use Rattle.glob_pattern.proofs.PositionLemmas.Spreading.{spread, spread-low, spread-next}
 
 -- digit j of the word is 1
@@ -22,7 +26,7 @@ max_set x y p q = (
 min_set : (x y : ℕ) → x < 2 → y < 2 → (min x y ≡ 1) ↔ ((x ≡ 1) × (y ≡ 1))
 min_set x y p q = (λ h. (omega arith, omega arith), λ (e, f). omega arith)
 
--- one of two bits alone
+-- exactly one of two bits
 one_set : (x y : ℕ) → x < 2 → y < 2 → ((x + y) % 2 ≡ 1) ↔ (((x ≡ 1) × ¬ (y ≡ 1)) ⊎ (¬ (x ≡ 1) × (y ≡ 1)))
 one_set x y p q = (
   λ h. ⊎_elim (λ e. inl (e, λ f. omega arith)) (λ ne. inr (ne, omega arith)) (cases_eq x 1),
@@ -67,11 +71,13 @@ IsOne-spread_low word mask =
     let first = bit_at-lt word 0 in
     (λ h. omega arith, λ h. omega arith)
 
-pub IsOne-spread_next : (word mask j : ℕ) → IsOne (spread word mask 0) (suc j) ↔ (IsOne word (suc j) ⊎ (IsOne mask j × IsOne (spread word mask 0) j))
+pub IsOne-spread_next : (word mask j : ℕ) → IsOne (spread word mask 0) (suc j) ↔ (IsOne word (suc j) ⊎
+    (IsOne mask j × IsOne (spread word mask 0) j))
 IsOne-spread_next word mask j =
     let next = spread-next j word mask 0 (omega arith) in
     let both = min_set (bit_at mask j) (bit_at (spread word mask 0) j) (bit_at-lt mask j) (bit_at-lt (spread word mask 0) j) in
-    let one = max_set (bit_at word (suc j)) (min (bit_at mask j) (bit_at (spread word mask 0) j)) (bit_at-lt word (suc j)) (let a = bit_at-lt mask j in omega arith) in
+    let one = max_set (bit_at word (suc j)) (min (bit_at mask j) (bit_at (spread word mask 0) j)) (bit_at-lt word
+    (suc j)) (let a = bit_at-lt mask j in omega arith) in
     rw next (λ h. ⊎_elim inl (λ s. inr (both.0 s)) (one.0 h), λ h. one.1 (⊎_elim inl (λ s. inr (both.1 s)) h))
 
 -- a word that is moved up by one
@@ -135,11 +141,14 @@ module _ (word mask : ℕ) (apart : (j : ℕ) → IsOne mask j → IsOne mask (s
       )
 
 -- the bits that spread within a word
-pub IsOne-closed : (word mask j : ℕ) → j < 64 → IsOne (bit_or word (bit_xor ((bit_and word mask + mask) % 2 ^ 64) mask)) j ↔ IsOne (spread word mask 0) j
+pub IsOne-closed : (word mask j : ℕ) → j < 64 → IsOne (bit_or word (bit_xor ((bit_and word mask + mask) % 2 ^ 64)
+    mask)) j ↔ IsOne (spread word mask 0) j
 IsOne-closed word mask j lt =
-    let sum : bit_at ((bit_and word mask + mask) % 2 ^ 64) j ≡ bit_at (bit_and word mask + mask + 0) j = bit_at-word (bit_and word mask + mask) j lt ∙ ap (λ x. bit_at x j) (sym (add-zero (bit_and word mask + mask))) in
+    let sum : bit_at ((bit_and word mask + mask) % 2 ^ 64) j ≡ bit_at (bit_and word mask + mask + 0) j = bit_at-word
+    (bit_and word mask + mask) j lt ∙ ap (λ x. bit_at x j) (sym (add-zero (bit_and word mask + mask))) in
     let same : bit_at (bit_or word (bit_xor ((bit_and word mask + mask) % 2 ^ 64) mask)) j ≡ bit_at (spread word mask 0) j =
-    bit_at_or word _ j ∙ ap (max (bit_at word j)) (bit_at_xor _ mask j ∙ ap (λ x. (x + bit_at mask j) % 2) sum ∙ sym (bit_at_xor _ mask j)) ∙ sym (bit_at_or word _ j) in
+    bit_at_or word _ j ∙ ap (max (bit_at word j)) (bit_at_xor _ mask j ∙ ap (λ x. (x + bit_at mask j) % 2) sum ∙ sym
+    (bit_at_xor _ mask j)) ∙ sym (bit_at_or word _ j) in
     (λ h. sym same ∙ h, λ h. same ∙ h)
 
 -- what is left of a word moved down by 63 is its highest bit
@@ -151,6 +160,7 @@ pub IsOne-test : (a j : ℕ) → IsTrue (not (nat_eq (bit_and (a / 2 ^ j) 1) 0))
 IsOne-test a j =
     let low : bit_and (a / 2 ^ j) 1 ≡ bit_at a j = shr_and_one a j in
     let lt = bit_at-lt a j in (
-      λ t. let ne = eqb-false (bit_and (a / 2 ^ j) 1) 0 (not-true _ t) in ⊎_elim (λ e. e) (λ other. absurd (ne (omega arith))) (cases_eq (bit_at a j) 1),
+      λ t. let ne = eqb-false (bit_and (a / 2 ^ j) 1) 0 (not-true _ t) in ⊎_elim (λ e. e) (λ other. absurd
+          (ne (omega arith))) (cases_eq (bit_at a j) 1),
       λ s. ap not (ne_eqb (bit_and (a / 2 ^ j) 1) 0 (λ e. omega arith)),
     )

@@ -1,5 +1,6 @@
--- A word whose lowest bit is cleared.
-use Rattle.std.proofs.Common.{◌≡◌, ℕ, zero, suc, ◌+◌, ◌-◌, ◌*◌, ◌/◌, ◌%◌, ◌^◌, ◌<◌, ◌≤◌, ◌≢◌, ◌⊎◌, ◌↔◌, bit_and, bit_or, inl, inr, ⊎_elim, refl, sym, ap, ◌∙◌, subst, arith}
+-- Clearing the lowest set bit of a word.
+use Rattle.std.proofs.Common.{◌≡◌, ℕ, zero, suc, ◌+◌, ◌-◌, ◌*◌, ◌/◌, ◌%◌, ◌^◌, ◌<◌, ◌≤◌, ◌≢◌, ◌⊎◌, ◌↔◌, bit_and, bit_or}
+use Rattle.std.proofs.Common.{inl, inr, ⊎_elim, refl, sym, ap, ◌∙◌, subst, arith}
 use Rattle.std.specs.Int.{IsBitSet, bit_at, trailing_zeros, w64}
 use Rattle.std.specs.Int.Count.{ones, ones_step}
 use Rattle.std.proofs.lemmas.Nat.Bits.{bit_at-trailing_zeros, bit_at-zero, bit_at_lowest, bit_at-suc, bit_at_and, bit_at-lt, same_from_bits}
@@ -18,7 +19,8 @@ positive_from_set (suc n) t set = omega arith
 
 -- a number without a bit is 0
 zero_from_none : (n : ℕ) → ((j : ℕ) → IsOne n j → ⊥) → n ≡ 0
-zero_from_none n none = same_from_bits n 0 (λ i. let z = bit_at-zero i in let lt = bit_at-lt n i in let not_one : bit_at n i ≢ 1 = none i in omega arith)
+zero_from_none n none = same_from_bits n 0 (λ i. let z = bit_at-zero i in let lt = bit_at-lt n i in let not_one :
+    bit_at n i ≢ 1 = none i in omega arith)
 
 -- the rest of an odd number without its lowest bit is its half
 half_of_odd : (n : ℕ) → n % 2 ≡ 1 → bit_and n (n - 1) / 2 ≡ n / 2
@@ -40,7 +42,8 @@ IsOne-cleared zero n set none zero =
     (λ h. absurd (omega arith), λ (s, ne). absurd (ne refl))
 IsOne-cleared zero n set none (suc j) =
     let odd : n % 2 ≡ 1 = sym (bit_at_lowest n) ∙ set in
-    let up : bit_at (bit_and n (n - 1)) (suc j) ≡ bit_at n (suc j) = bit_at-suc (bit_and n (n - 1)) j ∙ ap (λ x. bit_at x j) (half_of_odd n odd) ∙ sym (bit_at-suc n j) in
+    let up : bit_at (bit_and n (n - 1)) (suc j) ≡ bit_at n (suc j) = bit_at-suc (bit_and n (n - 1)) j ∙ ap
+    (λ x. bit_at x j) (half_of_odd n odd) ∙ sym (bit_at-suc n j) in
     (λ h. (sym up ∙ h, λ e. absurd (omega arith)), λ (s, ne). up ∙ s)
 IsOne-cleared (suc t) n set none zero =
     let even = even_cleared n (positive_from_set n (suc t) set) in
@@ -67,7 +70,8 @@ ones-cleared_one zero n set none =
 ones-cleared_one (suc t) n set none =
     let even : n % 2 ≡ 0 = sym (bit_at_lowest n) ∙ none 0 (omega arith) in
     let low = even_cleared n (positive_from_set n (suc t) set) in
-    let half : ones (bit_and n (n - 1) / 2) ≡ ones (bit_and (n / 2) (n / 2 - 1)) = ap ones (half_of_even n (positive_from_set n (suc t) set) even) in
+    let half : ones (bit_and n (n - 1) / 2) ≡ ones (bit_and (n / 2) (n / 2 - 1)) = ap ones (half_of_even n
+    (positive_from_set n (suc t) set) even) in
     let whole = ones_step n in
     let rest = ones_step (bit_and n (n - 1)) in
     let ih = ones-cleared_one t (n / 2) (sym (bit_at-suc n t) ∙ set) (λ i lt. sym (bit_at-suc n i) ∙ none (suc i) (omega arith)) in
@@ -96,11 +100,16 @@ digit_from_none n i none =
 pub lowest_set : (n : ℕ) → 0 < n → n < 2 ^ 64
     → (trailing_zeros w64 n < 64) × IsBitSet n (trailing_zeros w64 n) × ((i : ℕ) → i < trailing_zeros w64 n → ¬ (IsBitSet n i))
 lowest_set n positive fits =
-    let (lt, one, zeros) = bit_at-trailing_zeros w64 n positive fits in
-    (lt, (IsBitSet-iff_one n (trailing_zeros w64 n)).1 one, λ i below s. let is = (IsBitSet-iff_one n i).0 s in let z = zeros i below in omega (arith, is, z))
+    let (lt, one, zeros) = bit_at-trailing_zeros w64 n positive fits in (
+      lt,
+      (IsBitSet-iff_one n (trailing_zeros w64 n)).1 one,
+      λ i below s. let is = (IsBitSet-iff_one n i).0 s in let z =
+          zeros i below in omega (arith, is, z),
+    )
 
 -- where bit t is the lowest, the others stay
-pub IsBitSet-cleared : (t n : ℕ) → IsBitSet n t → ((i : ℕ) → i < t → ¬ (IsBitSet n i)) → (j : ℕ) → IsBitSet (bit_and n (n - 1)) j ↔ (IsBitSet n j × (j ≢ t))
+pub IsBitSet-cleared : (t n : ℕ) → IsBitSet n t → ((i : ℕ) → i < t → ¬ (IsBitSet n i)) → (j : ℕ) → IsBitSet
+    (bit_and n (n - 1)) j ↔ (IsBitSet n j × (j ≢ t))
 IsBitSet-cleared t n set none j =
     let cleared = IsOne-cleared t n ((IsBitSet-iff_one n t).0 set) (λ i lt. digit_from_none n i (none i lt)) j in
     let rest = IsBitSet-iff_one (bit_and n (n - 1)) j in
@@ -115,9 +124,11 @@ ones-cleared t n set none = ones-cleared_one t n ((IsBitSet-iff_one n t).0 set) 
 pub ones_within : (m n : ℕ) → ((j : ℕ) → IsBitSet n j → j < m) → ones n ≤ m
 ones_within m n below = ones_within_one m n (λ j one. below j ((IsBitSet-iff_one n j).1 one))
 
--- The bits of `took` are those of `asked` that are not left, and of which P holds; one more is asked, the lowest left.
-pub took-more : (P : ℕ → Type 0) (asked left took next t : ℕ) → IsBitSet left t → ((i : ℕ) → i < t → ¬ (IsBitSet left i)) → ((j : ℕ) → IsBitSet left j → IsBitSet asked j)
-    → ((j : ℕ) → j < 64 → IsBitSet took j ↔ (IsBitSet asked j × (IsBitSet left j → ⊥) × P j)) → ((j : ℕ) → j < 64 → IsBitSet next j ↔ (IsBitSet took j ⊎ ((j ≡ t) × P t)))
+-- The bits of `took` are the asked ones that are no longer left and meet P. One more is asked: the lowest one left.
+pub took-more : (P : ℕ → Type 0) (asked left took next t : ℕ) → IsBitSet left t → ((i : ℕ) → i < t → ¬
+    (IsBitSet left i)) → ((j : ℕ) → IsBitSet left j → IsBitSet asked j)
+    → ((j : ℕ) → j < 64 → IsBitSet took j ↔ (IsBitSet asked j × (IsBitSet left j → ⊥) × P j)) → ((j : ℕ) → j < 64
+    → IsBitSet next j ↔ (IsBitSet took j ⊎ ((j ≡ t) × P t)))
     → (j : ℕ) → j < 64 → IsBitSet next j ↔ (IsBitSet asked j × (IsBitSet (bit_and left (left - 1)) j → ⊥) × P j)
 took-more P asked left took next t set none within before step j lt =
     let cleared = IsBitSet-cleared t left set none j in
@@ -131,7 +142,8 @@ took-more P asked left took next t set none within before step j lt =
     )
 
 -- the next word where the lowest was taken, and where it was not
-pub next-taken : (P : ℕ → Type 0) (took t : ℕ) → t < 64 → P t → (j : ℕ) → j < 64 → IsBitSet (bit_or took (1 * 2 ^ t % 2 ^ 64)) j ↔ (IsBitSet took j ⊎ ((j ≡ t) × P t))
+pub next-taken : (P : ℕ → Type 0) (took t : ℕ) → t < 64 → P t → (j : ℕ) → j < 64 → IsBitSet
+    (bit_or took (1 * 2 ^ t % 2 ^ 64)) j ↔ (IsBitSet took j ⊎ ((j ≡ t) × P t))
 next-taken P took t lt p j _ =
     let or = IsBitSet-or took (1 * 2 ^ t % 2 ^ 64) j in
     let one = IsBitSet-one t j lt in

@@ -1,5 +1,6 @@
--- Which bits of a word are set, after the operations on words.
-use Rattle.std.proofs.Common.{◌≡◌, ℕ, suc, ◌+◌, ◌*◌, ◌/◌, ◌%◌, ◌^◌, ◌<◌, ◌≢◌, ◌⊎◌, ◌↔◌, Bool, not, nat_eq, IsTrue, bit_and, bit_or, bit_xor, sym, ◌∙◌, inl, inr, ⊎_elim, arith}
+-- The set bits of a word after bitwise operations and shifts.
+use Rattle.std.proofs.Common.{◌≡◌, ℕ, suc, ◌+◌, ◌*◌, ◌/◌, ◌%◌, ◌^◌, ◌<◌, ◌≢◌, ◌⊎◌, ◌↔◌, Bool, not, nat_eq, IsTrue}
+use Rattle.std.proofs.Common.{bit_and, bit_or, bit_xor, sym, ◌∙◌, inl, inr, ⊎_elim, arith}
 use Rattle.std.specs.Int.{IsBitSet, bit_at, bit_not, w64}
 use mir.Val.{bool_byte}
 use Rattle.std.proofs.lemmas.Bool.{cases_eq, cases_lt}
@@ -53,7 +54,7 @@ IsBitSet-and a b j =
     let and = digits.IsOne-and a b j in
     one_from _ (bit_and a b) j (λ h. let (s, t) = and.0 h in (first.1 s, second.1 t), λ (s, t). and.1 (first.0 s, second.0 t))
 
--- the bits of one of two words alone
+-- the bits of exactly one of two words
 pub IsBitSet-xor : (a b j : ℕ) → IsBitSet (bit_xor a b) j ↔ ((IsBitSet a j × ¬ (IsBitSet b j)) ⊎ (¬ (IsBitSet a j) × IsBitSet b j))
 IsBitSet-xor a b j =
     let first = IsBitSet-iff_one a j in
@@ -85,7 +86,8 @@ IsBitSet-with word k lt j =
 pub IsBitSet-spread_low : (word mask : ℕ) → IsBitSet (spread word mask 0) 0 ↔ IsBitSet word 0
 IsBitSet-spread_low word mask = two_from (spread word mask 0) word 0 0 (digits.IsOne-spread_low word mask)
 
-pub IsBitSet-spread_next : (word mask j : ℕ) → IsBitSet (spread word mask 0) (suc j) ↔ (IsBitSet word (suc j) ⊎ (IsBitSet mask j × IsBitSet (spread word mask 0) j))
+pub IsBitSet-spread_next : (word mask j : ℕ) → IsBitSet (spread word mask 0) (suc j) ↔ (IsBitSet word (suc j) ⊎
+    (IsBitSet mask j × IsBitSet (spread word mask 0) j))
 IsBitSet-spread_next word mask j =
     let next = digits.IsOne-spread_next word mask j in
     let up = IsBitSet-iff_one word (suc j) in
@@ -101,18 +103,22 @@ pub IsBitSet-moved_low : (a : ℕ) (low : Bool) → IsBitSet (bit_or (a * 2 ^ 1 
 IsBitSet-moved_low a low = one_from _ (bit_or (a * 2 ^ 1 % 2 ^ 64) (bool_byte low)) 0 (digits.IsOne-moved_low a low)
 
 -- and its other bits
-pub IsBitSet-moved_next : (a : ℕ) (low : Bool) (j : ℕ) → suc j < 64 → IsBitSet (bit_or (a * 2 ^ 1 % 2 ^ 64) (bool_byte low)) (suc j) ↔ IsBitSet a j
+pub IsBitSet-moved_next : (a : ℕ) (low : Bool) (j : ℕ) → suc j < 64 → IsBitSet (bit_or (a * 2 ^ 1 % 2 ^ 64)
+    (bool_byte low)) (suc j) ↔ IsBitSet a j
 IsBitSet-moved_next a low j lt = two_from (bit_or (a * 2 ^ 1 % 2 ^ 64) (bool_byte low)) a (suc j) j (digits.IsOne-moved_next a low j lt)
 
 -- where no two ones of the mask are neighbours
-pub IsBitSet-flat : (word mask : ℕ) → ((j : ℕ) → IsBitSet mask j → ¬ (IsBitSet mask (suc j))) → (j : ℕ) → j < 64 → IsBitSet (bit_or word (bit_and word mask * 2 ^ 1 % 2 ^ 64)) j ↔ IsBitSet (spread word mask 0) j
+pub IsBitSet-flat : (word mask : ℕ) → ((j : ℕ) → IsBitSet mask j → ¬ (IsBitSet mask (suc j))) → (j : ℕ) → j < 64
+    → IsBitSet (bit_or word (bit_and word mask * 2 ^ 1 % 2 ^ 64)) j ↔ IsBitSet (spread word mask 0) j
 IsBitSet-flat word mask apart j lt =
     two_from (bit_or word (bit_and word mask * 2 ^ 1 % 2 ^ 64)) (spread word mask 0) j j
     (digits.IsOne-flat word mask (λ i m n. apart i ((IsBitSet-iff_one mask i).1 m) ((IsBitSet-iff_one mask (suc i)).1 n)) j lt)
 
 -- the bits that spread within a word
-pub IsBitSet-closed : (word mask j : ℕ) → j < 64 → IsBitSet (bit_or word (bit_xor ((bit_and word mask + mask) % 2 ^ 64) mask)) j ↔ IsBitSet (spread word mask 0) j
-IsBitSet-closed word mask j lt = two_from (bit_or word (bit_xor ((bit_and word mask + mask) % 2 ^ 64) mask)) (spread word mask 0) j j (digits.IsOne-closed word mask j lt)
+pub IsBitSet-closed : (word mask j : ℕ) → j < 64 → IsBitSet (bit_or word (bit_xor ((bit_and word mask + mask) % 2 ^ 64)
+    mask)) j ↔ IsBitSet (spread word mask 0) j
+IsBitSet-closed word mask j lt = two_from (bit_or word (bit_xor ((bit_and word mask + mask) % 2 ^ 64) mask))
+    (spread word mask 0) j j (digits.IsOne-closed word mask j lt)
 
 -- what is left of a word moved down by 63 is its highest bit
 pub highest_set : (a : ℕ) → a < 2 ^ 64 → (a / 2 ^ 63 ≢ 0) ↔ IsBitSet a 63
@@ -142,7 +148,8 @@ bit_below word j fits set =
     ⊎_elim (λ lt. lt) (λ le. let none = bit_at_above word 64 j fits le in absurd (omega (arith, one, none))) (cases_lt j 64)
 
 -- no two bits of a mask are neighbours if it has none in common with itself moved up by one
-pub IsBitSet-apart : (mask : ℕ) → mask < 2 ^ 64 → bit_and mask (mask * 2 ^ 1 % 2 ^ 64) ≡ 0 → (j : ℕ) → IsBitSet mask j → ¬ (IsBitSet mask (suc j))
+pub IsBitSet-apart : (mask : ℕ) → mask < 2 ^ 64 → bit_and mask (mask * 2 ^ 1 % 2 ^ 64) ≡ 0 → (j : ℕ) → IsBitSet mask j
+    → ¬ (IsBitSet mask (suc j))
 IsBitSet-apart mask fits none j set next =
     let moved = two_from (mask * 2 ^ 1 % 2 ^ 64) mask (suc j) j (digits.IsOne-moved mask j (bit_below mask (suc j) fits next)) in
     IsBitSet-zero (suc j) (rw none at ((IsBitSet-and mask (mask * 2 ^ 1 % 2 ^ 64) (suc j)).1 (next, moved.1 set)))

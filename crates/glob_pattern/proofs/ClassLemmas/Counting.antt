@@ -1,11 +1,12 @@
--- Classes of the first characters of ASCII, which rise at each cut.
+-- The classes of ASCII characters, numbered one after another: each cut raises them.
 use Rattle.std.proofs.Common.{◌≡◌, ℕ, ◌+◌, ◌-◌, ◌<◌, ◌≤◌, Bool, List, length, get_or, set, ap, ◌∙◌, subst, ⊎_elim, arith}
 use Rattle.std.proofs.lemmas.Bool.{cases_eq, cases_lt}
 use Rattle.std.proofs.lemmas.List.{length-set, get_or-set_same, get_or-set_other}
 use Rattle.glob_pattern.specs.Private.Classes.{AreNumbered, HasCut}
 
 -- before any, all are in the first class
-pub AreNumbered-none : (cuts : List Bool) (ascii : List ℕ) → length ascii ≡ 128 → ((c : ℕ) → c < 128 → get_or ascii c 0 ≡ 2) → AreNumbered cuts 0 2 ascii
+pub AreNumbered-none : (cuts : List Bool) (ascii : List ℕ) → length ascii ≡ 128 → ((c : ℕ) → c < 128 → get_or ascii c 0
+    ≡ 2) → AreNumbered cuts 0 2 ascii
 AreNumbered-none cuts ascii long all = record {
   classes = record {
     long = long;
@@ -18,7 +19,8 @@ AreNumbered-none cuts ascii long all = record {
   few = omega arith;
 }
 
-module _ (cuts : List Bool) (end last class : ℕ) (ascii : List ℕ) (are : AreNumbered cuts end last ascii) (within : end < 128) (up : last ≤ class) (step : class ≤ last + 1) (cut : HasCut cuts end → last < class) where
+module _ (cuts : List Bool) (end last class : ℕ) (ascii : List ℕ) (are : AreNumbered cuts end last ascii)
+    (within : end < 128) (up : last ≤ class) (step : class ≤ last + 1) (cut : HasCut cuts end → last < class) where
   before : (c : ℕ) → c < end → get_or (set ascii end class) c 0 ≡ get_or ascii c 0
   before c lt = get_or-set_other ascii end c class 0 (λ e. omega arith)
 
@@ -47,7 +49,8 @@ module _ (cuts : List Bool) (end last class : ℕ) (ascii : List ℕ) (are : Are
           let kept = before c (omega arith) in
           let is = here d (omega arith) in
           ⊎_elim
-          (λ kl. let rises = are.classes.apart c k (end - 1) lt (omega arith) (omega arith) cutting in omega (arith, kept, is, rises, are.most (end - 1) (omega arith), up))
+          (λ kl. let rises = are.classes.apart c k (end - 1) lt (omega arith) (omega arith) cutting in omega
+          (arith, kept, is, rises, are.most (end - 1) (omega arith), up))
           (λ ke. let rises = cut (subst (HasCut cuts) (omega arith) cutting) in omega (arith, kept, is, are.most c (omega arith), rises))
           (cases_lt k end))
           (cases_lt d end);

@@ -1,4 +1,4 @@
--- Which characters a range holds case-insensitively, as ranges.
+-- The characters that a range holds case-insensitively are those of three ranges.
 use Rattle.std.proofs.Common.{◌≡◌, ℕ, ◌+◌, ◌<◌, ◌≤◌, ◌⊎◌, Bool, true, false, not, ◌&&◌, ◌||◌, ◌==◌, refl, sym, ap, ◌∙◌, ⊎_elim, arith}
 use Rattle.std.proofs.Math.Bool.{or-false}
 use Rattle.std.proofs.lemmas.Bool.{cases_Bool, lt-ltb, le-ltb, cases_lt, false≢true}
@@ -21,7 +21,8 @@ is_letter : (x : ℕ) → is_ascii_alphabetic x ≡ (is_ascii x && is_ascii_lowe
 is_letter x = grind (arith, nat_tests)
 
 letter-forms : (x y : ℕ) → are_letters x y ≡ true
-    → (97 ≤ to_ascii_lowercase x) × (to_ascii_lowercase y ≤ 122) × (to_ascii_uppercase x + 32 ≡ to_ascii_lowercase x) × (to_ascii_uppercase y + 32 ≡ to_ascii_lowercase y)
+    → (97 ≤ to_ascii_lowercase x) × (to_ascii_lowercase y ≤ 122) × (to_ascii_uppercase x + 32 ≡ to_ascii_lowercase x) ×
+    (to_ascii_uppercase y + 32 ≡ to_ascii_lowercase y)
 letter-forms x y t = grind (arith, nat_tests)
 
 -- the lower-case form of a character is between two letters where the character is, or is between those in upper case
@@ -31,10 +32,12 @@ forms : (c small first last upper_first upper_last : ℕ) → 97 ≤ first → l
 forms c small first last upper_first upper_last low high uf ul cases = grind (arith, nat_tests)
 
 -- nor is a character beyond ASCII
-beyond : (c small first last : ℕ) → 128 ≤ c → last ≤ 122 → ((65 ≤ c) × (c ≤ 90) × (small ≡ c + 32)) ⊎ (((c < 65) ⊎ (90 < c)) × (small ≡ c)) → in_range first last small ≡ false
+beyond : (c small first last : ℕ) → 128 ≤ c → last ≤ 122 → ((65 ≤ c) × (c ≤ 90) × (small ≡ c + 32)) ⊎
+    (((c < 65) ⊎ (90 < c)) × (small ≡ c)) → in_range first last small ≡ false
 beyond c small first last high end cases = grind (arith, nat_tests)
 
-ascii_or : (c small first last : ℕ) → last ≤ 122 → ((65 ≤ c) × (c ≤ 90) × (small ≡ c + 32)) ⊎ (((c < 65) ⊎ (90 < c)) × (small ≡ c)) → (is_ascii c && in_range first last small) ≡ in_range first last small
+ascii_or : (c small first last : ℕ) → last ≤ 122 → ((65 ≤ c) × (c ≤ 90) × (small ≡ c + 32)) ⊎ (((c < 65) ⊎ (90 < c)) ×
+    (small ≡ c)) → (is_ascii c && in_range first last small) ≡ in_range first last small
 ascii_or c small first last end cases =
     ⊎_elim
     (λ lt. rw (lt-ltb c 128 lt) refl)
@@ -42,7 +45,8 @@ ascii_or c small first last end cases =
     (cases_lt c 128)
 
 held-letters : (x y c : ℕ) → are_letters x y ≡ true
-    → (in_range (to_ascii_lowercase x) (to_ascii_lowercase y) c || in_range (to_ascii_uppercase x) (to_ascii_uppercase y) c) ≡ in_folded_range x y c
+    → (in_range (to_ascii_lowercase x) (to_ascii_lowercase y) c || in_range (to_ascii_uppercase x)
+    (to_ascii_uppercase y) c) ≡ in_folded_range x y c
 held-letters x y c letters =
     let (low, high, uf, ul) = letter-forms x y letters in
     forms c (to_ascii_lowercase c) _ _ _ _ low high uf ul (lower_cases c)
@@ -59,7 +63,8 @@ held-plain false x y c none = rw (held-others x y c none) (or-false (in_range x 
 
 -- else it holds what is between them in either case
 pub held-cases : (case : Bool) (x y c : ℕ) → (not case && are_letters x y) ≡ true
-    → ((in_range x y c || in_range (to_ascii_lowercase x) (to_ascii_lowercase y) c) || in_range (to_ascii_uppercase x) (to_ascii_uppercase y) c) ≡ entry_holds case c (Range x y)
+    → ((in_range x y c || in_range (to_ascii_lowercase x) (to_ascii_lowercase y) c) || in_range (to_ascii_uppercase x)
+    (to_ascii_uppercase y) c) ≡ entry_holds case c (Range x y)
 held-cases true x y c both = absurd (false≢true both)
 held-cases false x y c both = or_assoc (in_range x y c) _ _ ∙ ap (λ b. in_range x y c || b) (held-letters x y c both)
   where
@@ -71,7 +76,7 @@ held-cases false x y c both = or_assoc (in_range x y c) _ _ ∙ ap (λ b. in_ran
 pub held-none : (x y c : ℕ) → y < x → in_range x y c ≡ false
 held-none x y c less = grind (arith, nat_tests)
 
--- a single character is held as the range of it alone
+-- a single character is held as the range from itself to itself
 single-held : (case : Bool) (c x : ℕ) → entry_holds case c (Range x x) ≡ is_same case c x
 single-held true c x = grind (arith, nat_tests)
 single-held false c x = grind (arith, nat_tests)

@@ -1,4 +1,4 @@
--- Intervals whose boundaries are known.
+-- The boundaries of intervals stay while others are added.
 use Rattle.std.proofs.Common.{◌≤◌, ℕ, List}
 use Rattle.std.specs.List.{All}
 use Rattle.glob_pattern.specs.Grammar.Tokens.{Token}

@@ -1,4 +1,4 @@
--- How many boundaries there are up to a character.
+-- The number of boundaries up to a character.
 use Rattle.std.proofs.Common.{◌≡◌, ℕ, ◌+◌, ◌<◌, ◌≤◌, nat_le, List, length, get_or, sym, ◌∙◌, ⊎_elim, arith}
 use Rattle.std.specs.List.{Contains, prefix_len}
 use Rattle.std.specs.List.Sorted.{IsNonDecreasing, IsStrictlyIncreasing}
@@ -24,7 +24,8 @@ module _ (xs : List ℕ) where
   pub rank-mono : (c d : ℕ) → c ≤ d → rank xs c ≤ rank xs d
   rank-mono c d le =
       ⊎_elim
-      (λ lt. let within = rank-le c in let here : get_or xs (rank xs d) 0 ≤ c = passes c (rank xs d) lt in let past = stops d (omega (arith, lt, within)) in absurd (omega (arith, here, past, le)))
+      (λ lt. let within = rank-le c in let here : get_or xs (rank xs d) 0 ≤ c = passes c (rank xs d) lt in let past =
+      stops d (omega (arith, lt, within)) in absurd (omega (arith, here, past, le)))
       (λ ge. ge)
       (cases_lt (rank xs d) (rank xs c))
 
@@ -39,11 +40,14 @@ module _ (xs : List ℕ) where
         (cases_lt i (rank xs c)) in
         let last : i < rank xs d = ⊎_elim
         (λ more. more)
-        (λ ge. let past = stops d (omega (arith, ge, within)) in let sorted = up (rank xs d) i 0 ge within in absurd (omega (arith, past, sorted, le, here)))
+        (λ ge. let past = stops d (omega (arith, ge, within)) in let sorted = up (rank xs d) i 0 ge within in absurd
+        (omega (arith, past, sorted, le, here)))
         (cases_lt i (rank xs d)) in
         omega (arith, first, last)
 
 -- numbers that rise do not fall
 pub non_decreasing : (xs : List ℕ) → IsStrictlyIncreasing xs → IsNonDecreasing xs
 non_decreasing xs up = IsNonDecreasingBy-from_all_adjacent (λ x. x) xs
-    (λ k d lt. let here : get_or xs k d ≡ get_or xs k 0 = get_or_default xs k d 0 (omega arith) in let next : get_or xs (k + 1) d ≡ get_or xs (k + 1) 0 = get_or_default xs (k + 1) d 0 lt in let less = up k lt in omega (arith, here, next, less))
+    (λ k d lt. let here : get_or xs k d ≡ get_or xs k 0 = get_or_default xs k d 0 (omega arith) in let next : get_or xs
+    (k + 1) d ≡ get_or xs (k + 1) 0 = get_or_default xs (k + 1) d 0 lt in let less = up k lt in omega
+    (arith, here, next, less))

@@ -1,14 +1,15 @@
--- Rows of masks that follow each other.
-use Rattle.std.proofs.Common.{◌≡◌, ℕ, ◌+◌, ◌*◌, ◌/◌, ◌%◌, ◌<◌, ◌≤◌, ◌==◌, Bool, true, false, List, ◌++◌, length, get_or, take, drop, replicate, not, eq-eqb, refl, ap, ◌∙◌, ⊎_elim, arith, append-nil}
-use mir.Val.{bool_byte}
+-- Where rows of masks are in their list: one after another, two per word.
+use Rattle.std.proofs.Common.{◌≡◌, ℕ, ◌+◌, ◌*◌, ◌/◌, ◌%◌, ◌<◌, ◌≤◌, ◌==◌, Bool, true, false, List, ◌++◌, length, get_or}
+use Rattle.std.proofs.Common.{take, drop, eq-eqb, ap, ◌∙◌, ⊎_elim, arith, append-nil, min, sym}
 use Rattle.std.proofs.lemmas.Bool.{cases_lt, ne_eqb}
-use Rattle.std.proofs.lemmas.List.{get_or-take, get_or-drop, get_or_past, get_or-replicate, length-take, length-replicate, take_all, drop_all}
+use Rattle.std.proofs.lemmas.List.{get_or-take, get_or-drop, get_or_past, length-take, take_all, drop_all}
 use Rattle.std.proofs.Math.Nat.{mul-le-mul_right}
 use Rattle.glob_pattern.specs.Private.CharMasks.{half_of}
 
 -- a row ends where the next begins
 pub row-within : (n rows columns : ℕ) → n < rows → n * columns + columns ≤ rows * columns
-row-within n rows columns lt = let up : (n + 1) * columns ≤ rows * columns = mul-le-mul_right columns (omega (arith, lt)) in omega (arith, up)
+row-within n rows columns lt = let up : (n + 1) * columns ≤ rows * columns = mul-le-mul_right columns
+    (omega (arith, lt)) in omega (arith, up)
 
 -- a part of what is zero from a place on
 pub part-zero : (a k : ℕ) (xs : List ℕ) → ((r : ℕ) → a ≤ r → get_or xs r 0 ≡ 0) → (r : ℕ) → get_or (take k (drop a xs)) r 0 ≡ 0
@@ -20,22 +21,24 @@ part-zero a k xs zero r =
 
 -- what is written over a whole list
 pub written : (n : ℕ) (xs ys : List ℕ) → length ys ≤ length xs → length xs ≤ n → take n (xs ++ drop (length xs) ys) ≡ xs
-written n xs ys covers all = ap (λ rest. take n (xs ++ rest)) (drop_all (length xs) ys covers) ∙ ap (take n) (append-nil xs) ∙ take_all n xs all
+written n xs ys covers all = ap (λ rest. take n (xs ++ rest)) (drop_all (length xs) ys covers) ∙ ap (take n)
+    (append-nil xs) ∙ take_all n xs all
 
 -- the rows of a word
 pub row-word : (word : ℕ) (case : Bool) → ((2 * word + half_of case) / 2 ≡ word) × (((2 * word + half_of case) % 2 == 0) ≡ case)
 row-word word true = (omega arith, eq-eqb _ _ (omega arith))
 row-word word false = (omega arith, ne_eqb _ _ (λ e. omega arith))
 
--- the same number, as often as it may be
-pub zeros : (n r z : ℕ) → get_or (replicate n z) r z ≡ z
-zeros n r z = ⊎_elim (λ lt. get_or-replicate {A = ℕ} n r z z lt) (λ le. get_or_past (replicate n z) r z (omega (arith, le, length-replicate {A = ℕ} n z))) (cases_lt r n)
-
 -- a word has two rows
 pub half-few : (case : Bool) → half_of case < 2
 half-few true = omega arith
 half-few false = omega arith
 
-pub half-byte : (case : Bool) → bool_byte (not case) ≡ half_of case
-half-byte true = refl
-half-byte false = refl
+-- what is behind the end is nothing
+pub drop-min : (n : ℕ) (xs : List ℕ) → drop (min n (length xs)) xs ≡ drop n xs
+drop-min n xs =
+    ⊎_elim
+    (λ lt. let same : min n (length xs) ≡ n = omega (arith, lt) in ap (λ k. drop k xs) same)
+    (λ le. let same : min n (length xs) ≡ length xs = omega (arith, le) in ap (λ k. drop k xs) same ∙ drop_all
+    (length xs) xs (omega arith) ∙ sym (drop_all n xs le))
+    (cases_lt n (length xs))

@@ -1,4 +1,4 @@
--- The classes of an interval's characters are those from the class of its first to the class of its last.
+-- The characters of an interval are exactly those with a class from that of its first to that of its last.
 use Rattle.std.proofs.Common.{◌≡◌, ℕ, ◌+◌, ◌<◌, ◌≤◌, nat_le, List, length, replicate, get_or, refl, sym, ⊎_elim, arith}
 use Rattle.std.specs.List.{Contains}
 use Rattle.std.specs.List.Sorted.{IsNonDecreasing}
@@ -6,7 +6,8 @@ use Rattle.std.proofs.lemmas.Bool.{lt-ltb, le-ltb, le-leb, lt-leb, cases_lt}
 use Rattle.std.proofs.lemmas.List.{get_or-replicate}
 use Rattle.std.proofs.Math.Bool.{and-false}
 use Rattle.glob_pattern.specs.Private.CharMasks.{no_partition}
-use Rattle.glob_pattern.specs.Private.Classes.{Partition, IsPartition, AreCounts, AreAsciiClasses, HasInterval, HasCut, Separates, highest, class_in, columns_of}
+use Rattle.glob_pattern.specs.Private.Classes.{Partition, IsPartition, AreCounts, AreAsciiClasses, HasInterval, HasCut}
+use Rattle.glob_pattern.specs.Private.Classes.{Separates, highest, class_in, columns_of}
 use Rattle.glob_pattern.specs.declared.pattern.classes.Boundaries.{Boundaries}
 use Rattle.glob_pattern.proofs.ClassLemmas.Ranks.{rank, rank-le, rank-mono, rank-strict}
 
@@ -41,12 +42,20 @@ module _ (p : Partition) where
       (omega (arith, e, least), omega (arith, e, rank-le p.beyond c)))
       (cases_lt c 128)
 
-module _ {A : Type 0} (b : Boundaries A) (ascii : List ℕ) (are : AreAsciiClasses b.ascii 128 ascii) (up : IsNonDecreasing b.beyond.items) (begun : List ℕ) (counts : AreCounts b.beyond.items begun) where
+module _ {A : Type 0} (b : Boundaries A) (ascii : List ℕ) (are : AreAsciiClasses b.ascii 128 ascii)
+    (up : IsNonDecreasing b.beyond.items) (begun : List ℕ) (counts : AreCounts b.beyond.items begun) where
   abbrev p : Partition
   p = record { ascii = ascii; beyond = b.beyond.items; begun = begun }
 
   pub partition : IsPartition p
-  partition = record { long = are.long; least = are.least; most = λ c lt. are.order c 127 (omega (arith, lt)) (omega arith); rising = up; counts = counts }
+  partition = record {
+    long = are.long;
+    least = are.least;
+    most = λ c lt. are.order c 127 (omega (arith, lt))
+        (omega arith);
+    rising = up;
+    counts = counts;
+  }
 
   abbrev class : ℕ → ℕ
   class c = class_in p c
@@ -72,7 +81,8 @@ module _ {A : Type 0} (b : Boundaries A) (ascii : List ℕ) (are : AreAsciiClass
   class-apart : (c m d : ℕ) → c < m → m ≤ d → (m < 128 → HasCut b.ascii m) → (128 ≤ m → Contains b.beyond.items m) → class c < class d
   class-apart c m d lt le cut begins =
       ⊎_elim
-      (λ dl. let cl : c < 128 = omega (arith, lt, le, dl) in let rises = are.apart c m d lt le dl (cut (omega (arith, le, dl))) in omega (arith, low c cl, low d dl, rises))
+      (λ dl. let cl : c < 128 = omega (arith, lt, le, dl) in let rises = are.apart c m d lt le dl
+      (cut (omega (arith, le, dl))) in omega (arith, low c cl, low d dl, rises))
       (λ dh. ⊎_elim
       (λ cl. ⊎_elim
       (λ ml. let rises = are.apart c m 127 lt (omega (arith, ml)) (omega arith) (cut ml) in omega (arith, low c cl, high d dh, rises))
@@ -94,6 +104,11 @@ module _ {A : Type 0} (b : Boundaries A) (ascii : List ℕ) (are : AreAsciiClass
       (λ past.
       let more = class-apart y (y + 1) c (omega arith) (omega (arith, past)) has.after has.after_beyond in
       rw (lt-leb (class c) (class y) more, and-false (nat_le (class x) (class c)), lt-leb c y past) (sym (and-false (nat_le x c))))
-      (λ to. rw (le-leb (class x) (class c) (class-order x c from), le-leb (class c) (class y) (class-order c y to), le-leb x c from, le-leb c y to) refl)
+      (λ to. rw (
+        le-leb (class x) (class c) (class-order x c from),
+        le-leb (class c) (class y) (class-order c y to),
+        le-leb x c from,
+        le-leb c y to,
+      ) refl)
       (cases_lt y c))
       (cases_lt c x)

@@ -1,6 +1,9 @@
--- What is written for a text to stand for itself is accepted, and matches the texts that are the same as it.
-use Rattle.std.proofs.Common.{◌≡◌, ℕ, suc, ◌+◌, ◌-◌, ◌<◌, ◌≢◌, ◌↔◌, ◌⊎◌, inl, inr, ⊎_elim, Bool, true, false, ◌&&◌, ◌||◌, ◌==◌, cond, [], ◌∷◌, ◌++◌, length, take, drop, map, flat_map, slice_index, IsTrue, IsFalse, refl, sym, ap, ap₂, subst, ◌∙◌, arith}
-use Rattle.std.proofs.lemmas.Bool.{false≢true, or_parts, or_cases, and_parts, and_right, and_from, not_from_false, eqb-true, eqb-false, ne_eqb, ltb-true, ltb-false}
+-- A text written so that each character stands for itself is accepted, and matches the texts that are the same.
+use Rattle.std.proofs.Common.{◌≡◌, ℕ, suc, ◌+◌, ◌-◌, ◌<◌, ◌≢◌, ◌↔◌, ◌⊎◌, inl, inr, ⊎_elim, Bool, true, false, ◌&&◌}
+use Rattle.std.proofs.Common.{◌||◌, ◌==◌, cond, [], ◌∷◌, ◌++◌, length, take, drop, map, flat_map, slice_index, IsTrue}
+use Rattle.std.proofs.Common.{IsFalse, refl, sym, ap, ap₂, subst, ◌∙◌, arith}
+use Rattle.std.proofs.lemmas.Bool.{false≢true, or_parts, or_cases, and_parts, and_right, and_from, not_from_false}
+use Rattle.std.proofs.lemmas.Bool.{eqb-true, eqb-false, ne_eqb, ltb-true, ltb-false}
 use Rattle.std.specs.Char.{to_ascii_lowercase}
 use Rattle.glob_pattern.specs.Grammar.Characters.{star, question_mark, open_bracket, close_bracket, exclamation_mark}
 use Rattle.glob_text.specs.Characters.{slash, dot}
@@ -45,7 +48,8 @@ lowercase-apart : (c d : ℕ) → (d < 97) ⊎ (122 < d) → to_ascii_lowercase 
 lowercase-apart c d apart e = grind (arith, ltb-true, ltb-false)
 
 -- a character that is no letter, and none of those with a rule
-pub IsApart-from_number : (c d : ℕ) → c ≡ d → (d < 97) ⊎ (122 < d) → to_ascii_lowercase d ≡ d → d ≢ exclamation_mark → d ≢ slash → d ≢ dot → IsApart c
+pub IsApart-from_number : (c d : ℕ) → c ≡ d → (d < 97) ⊎ (122 < d) → to_ascii_lowercase d ≡ d → d ≢ exclamation_mark
+    → d ≢ slash → d ≢ dot → IsApart c
 IsApart-from_number c d is apart own no_mark no_slash no_dot =
     subst IsApart (sym is) (record {
       no_mark = no_mark;
@@ -55,7 +59,8 @@ IsApart-from_number c d is apart own no_mark no_slash no_dot =
     })
 
 -- a character in a bracket of its own is a unit
-UnitAt-bracketed : (whole rest : Text) (f c : ℕ) → IsApart c → drop f whole ≡ open_bracket ∷ c ∷ close_bracket ∷ rest → UnitAt whole f (bracketed c) (f + 3)
+UnitAt-bracketed : (whole rest : Text) (f c : ℕ) → IsApart c → drop f whole ≡ open_bracket ∷ c ∷ close_bracket ∷ rest
+    → UnitAt whole f (bracketed c) (f + 3)
 UnitAt-bracketed whole rest f c apart e =
     let l : length whole ≡ f + suc (suc (suc (length rest))) = length-at_drop whole (c ∷ close_bracket ∷ rest) f open_bracket e in
     let second : drop (f + 1) whole ≡ c ∷ close_bracket ∷ rest = drop-at_drop whole (c ∷ close_bracket ∷ rest) f open_bracket e in
@@ -79,8 +84,10 @@ same-apart case c x apart h =
 -- no rule excludes such a character from wildcards
 apart-is_free : (o : MatchOptions) (opening : Bool) (c : ℕ) → IsApart c → IsTrue (is_free o opening c)
 apart-is_free o opening c apart =
-    and_from _ _ (not_from_false (is_excluded_separator o c) (and_right o.require_literal_separator (c == slash) (ne_eqb c slash apart.no_slash)))
-    (not_from_false (is_excluded_dot o opening c) (and_right (o.require_literal_leading_dot && opening) (c == dot) (ne_eqb c dot apart.no_dot)))
+    and_from _ _ (not_from_false (is_excluded_separator o c) (and_right o.require_literal_separator (c == slash)
+    (ne_eqb c slash apart.no_slash)))
+    (not_from_false (is_excluded_dot o opening c) (and_right (o.require_literal_leading_dot && opening) (c == dot)
+    (ne_eqb c dot apart.no_dot)))
 
 -- a test that says yes where another does changes nothing before that one
 and-implied : (a b : Bool) → (IsTrue b → IsTrue a) → (a && (b || false)) ≡ b
@@ -131,17 +138,21 @@ module _ (written : ℕ → Text) (token : ℕ → Token) (each : (c : ℕ) → 
   HasTokens-stands text = HasTokens-written written token text stands-shallow (λ k l. stands-writes (slice_index text k))
 
   -- it matches the texts that are the same as it
-  pub stands_matches_same : (o : MatchOptions) (text other : Text) → (Matches o (flat_map written text) other ↔ SameTexts o.case_sensitive other text)
+  pub stands_matches_same : (o : MatchOptions) (text other : Text) → (Matches o (flat_map written text) other ↔
+      SameTexts o.case_sensitive other text)
   stands_matches_same o text other =
       let literal : (x : ℕ) → IsLiteral o (token x) x = λ x. stands-literal o (written x) (token x) x (each x) in
       let has : HasTokens (flat_map written text) (map token text) = HasTokens-stands text in (
         (λ m. SameTexts-from_TokensMatch o token literal text other
-            (tokens-from_Matches o (flat_map written text) other (map token text) (λ others h. one_reading (flat_map written text) others (map token text) h has) m)),
-        (λ s. match_by_tokens o (flat_map written text) other (map token text) has (TokensMatch-from_SameTexts o token literal text other s)),
+            (tokens-from_Matches o (flat_map written text) other (map token text) (λ others h. one_reading
+            (flat_map written text) others (map token text) h has) m)),
+        (λ s. match_by_tokens o (flat_map written text) other (map token text) has (TokensMatch-from_SameTexts o token
+            literal text other s)),
       )
 
-  -- case-sensitively, the text alone
-  pub stands_matches_itself : (o : MatchOptions) (text other : Text) → IsTrue o.case_sensitive → (Matches o (flat_map written text) other ↔ (text ≡ other))
+  -- case-sensitively, only the text
+  pub stands_matches_itself : (o : MatchOptions) (text other : Text) → IsTrue o.case_sensitive →
+      (Matches o (flat_map written text) other ↔ (text ≡ other))
   stands_matches_itself o text other with_case =
       let both : Matches o (flat_map written text) other ↔ SameTexts o.case_sensitive other text = stands_matches_same o text other in (
         (λ m. sym (SameTexts-with_case other text (subst (λ case. SameTexts case other text) with_case (both.0 m)))),
@@ -157,9 +168,12 @@ pub special-apart : (c : ℕ) → IsTrue (is_special c) → IsApart c
 special-apart c h =
     ⊎_elim (λ three. ⊎_elim (λ two. ⊎_elim
     (λ one. IsApart-from_number c question_mark (eqb-true _ _ one) (inl (omega arith)) refl (omega arith) (omega arith) (omega arith))
-    (λ one. IsApart-from_number c star (eqb-true _ _ one) (inl (omega arith)) refl (omega arith) (omega arith) (omega arith)) (or_cases _ _ two))
-    (λ one. IsApart-from_number c open_bracket (eqb-true _ _ one) (inl (omega arith)) refl (omega arith) (omega arith) (omega arith)) (or_cases _ _ three))
-    (λ one. IsApart-from_number c close_bracket (eqb-true _ _ one) (inl (omega arith)) refl (omega arith) (omega arith) (omega arith)) (or_cases _ _ h)
+    (λ one. IsApart-from_number c star (eqb-true _ _ one) (inl (omega arith)) refl (omega arith) (omega arith)
+    (omega arith)) (or_cases _ _ two))
+    (λ one. IsApart-from_number c open_bracket (eqb-true _ _ one) (inl (omega arith)) refl (omega arith) (omega arith)
+    (omega arith)) (or_cases _ _ three))
+    (λ one. IsApart-from_number c close_bracket (eqb-true _ _ one) (inl (omega arith)) refl (omega arith) (omega arith)
+    (omega arith)) (or_cases _ _ h)
 
 -- a character that is not special is no wildcard
 pub not_special : (c : ℕ) → IsFalse (is_special c) → (c ≢ question_mark) × (c ≢ star) × (c ≢ open_bracket)
@@ -173,7 +187,8 @@ not_special c h =
 pub escaped_stands : (c : ℕ) → Stands (escaped_character c) (escaped_token c) c
 escaped_stands c = by (is_special c) refl
   where
-    by : (b : Bool) → is_special c ≡ b → Stands (cond b (open_bracket ∷ c ∷ close_bracket ∷ []) (c ∷ [])) (cond b (bracketed c) (Literal c)) c
+    by : (b : Bool) → is_special c ≡ b → Stands (cond b (open_bracket ∷ c ∷ close_bracket ∷ []) (c ∷ []))
+        (cond b (bracketed c) (Literal c)) c
     by true special = inr (refl, refl, special-apart c special)
     by false other = inl (refl, refl, not_special c other)
 
@@ -186,6 +201,6 @@ escaped_accepted text =
 pub escaped_matches_same : EscapedMatchesSame
 escaped_matches_same = stands_matches_same escaped_character escaped_token escaped_stands
 
--- case-sensitively, the text alone
+-- case-sensitively, only the text
 pub escaped_matches_itself : EscapedMatchesItself
 escaped_matches_itself = stands_matches_itself escaped_character escaped_token escaped_stands

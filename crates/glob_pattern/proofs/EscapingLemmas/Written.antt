@@ -1,4 +1,4 @@
--- A text is escaped when each of its characters was written escaped.
+-- A text is escaped once each of its characters is written escaped.
 use Rattle.std.proofs.Common.{◌≡◌, ℕ, Bool, true, false, cond, [], ◌∷◌, ◌++◌, refl, ap, sym, ◌∙◌, ⊎_elim, arith}
 use Rattle.std.proofs.lemmas.Bool.{cases_lt, ne_eqb}
 use Rattle.std.proofs.lemmas.List.{append-nil}
@@ -25,7 +25,12 @@ uncounted false e = refl
 plain_by_bytes : (c : ℕ) → count_by is_special (encode_utf8 c) ≡ 0 → is_special c ≡ false
 plain_by_bytes c none = ⊎_elim
     (λ low. uncounted (is_special c) (omega (arith, sum_by-cons (λ x. cond (is_special x) 1 0) c [], rw (encode_ascii c low) at none)))
-    (λ high. rw (ne_eqb c question_mark (λ e. omega (arith, e, high)), ne_eqb c star (λ e. omega (arith, e, high)), ne_eqb c open_bracket (λ e. omega (arith, e, high)), ne_eqb c close_bracket (λ e. omega (arith, e, high))) refl)
+    (λ high. rw (
+      ne_eqb c question_mark (λ e. omega (arith, e, high)),
+      ne_eqb c star (λ e. omega (arith, e, high)),
+      ne_eqb c open_bracket (λ e. omega (arith, e, high)),
+      ne_eqb c close_bracket (λ e. omega (arith, e, high)),
+    ) refl)
     (cases_lt c 128)
 
 -- A text in whose bytes no special character is counted stays as it is.
@@ -36,7 +41,8 @@ escaped_text-uncounted (c ∷ cs) e =
     rw (escaped_character-plain c (plain_by_bytes c (omega (arith, both, e))), escaped_text-uncounted cs (omega (arith, both, e))) refl
 
 -- What was written for each character of a text are the characters of what was written.
-pub written_chars : (f : ℕ → Text) (written cs : Text) → IsUtf8 written → written ≡ encode_utf8_all (flat_map f cs) → chars written ≡ flat_map f cs
+pub written_chars : (f : ℕ → Text) (written cs : Text) → IsUtf8 written → written ≡ encode_utf8_all (flat_map f cs)
+    → chars written ≡ flat_map f cs
 written_chars f written cs utf8 is = sym (chars_from_encodes (flat_map f cs) written utf8 (sym is))
 
 -- What is written for one more character.

@@ -1,4 +1,4 @@
--- What holds of accepted texts, of faults and of tokens.
+-- Accepted texts, faults and tokens: each text has its tokens or its fault, and only one of them.
 use Rattle.std.proofs.Common.{◌≡◌, ◌↔◌, ℕ, ◌+◌, ◌≤◌, List, length, Option, Some, Result, Ok, Err, refl, ap, arith}
 use Rattle.glob_text.specs.Text.{Text}
 use Rattle.glob_pattern.specs.Grammar.Tokens.{Token, tokens_of_units}
@@ -8,7 +8,8 @@ use Rattle.glob_pattern.specs.Computing.Reading.{unit_at, units_from, reading_of
 use Rattle.glob_pattern.proofs.GrammarLemmas.Accepting.{accepted_by_tokens, units_of_accepted}
 use Rattle.glob_pattern.proofs.GrammarLemmas.Units.{unit_at-UnitAt}
 use Rattle.glob_pattern.proofs.GrammarLemmas.Folding.{length-tokens_of_units}
-use Rattle.glob_pattern.proofs.GrammarLemmas.Reading.{UnitsBetween-within, units_from-Ok, tokens_by_reading, reading_of-HasTokens, fault_by_reading, reading_of-IsFault}
+use Rattle.glob_pattern.proofs.GrammarLemmas.Reading.{UnitsBetween-within, units_from-Ok, tokens_by_reading}
+use Rattle.glob_pattern.proofs.GrammarLemmas.Reading.{reading_of-HasTokens, fault_by_reading, reading_of-IsFault}
 
 -- The computation answers tokens where they are those of the text.
 pub reading_of-Ok : (text : Text) (tokens : List Token) → (reading_of text ≡ Ok tokens) ↔ HasTokens text tokens
@@ -58,12 +59,14 @@ no_fault text fault accepted is =
     let read = reading_of-HasTokens text (tokens_of_units has.0) (has.0, has.1, refl) in
     let told = reading_of-IsFault text fault is in cc
 
-read_or_told : (text : Text) (read : Result (List Token) Fault) → reading_of text ≡ read → ¬ (IsAccepted text) → (fault : Fault) × IsFault text fault
+read_or_told : (text : Text) (read : Result (List Token) Fault) → reading_of text ≡ read → ¬ (IsAccepted text) →
+    (fault : Fault) × IsFault text fault
 read_or_told text (Ok tokens) e refused = absurd (refused (accepted_by_tokens text tokens (tokens_by_reading text tokens e)))
 read_or_told text (Err fault) e refused = (fault, fault_by_reading text fault e)
 
 -- Another text has one.
-pub some_fault : (text : Text) → ¬ (IsAccepted text) → (fault : Fault) × IsFault text fault × ((other : Fault) → IsFault text other → other ≡ fault)
+pub some_fault : (text : Text) → ¬ (IsAccepted text) → (fault : Fault) × IsFault text fault × ((other : Fault)
+    → IsFault text other → other ≡ fault)
 some_fault text refused =
     let told = read_or_told text (reading_of text) refl refused in
     (told.0, told.1, λ other is. one_fault text other told.0 is told.1)

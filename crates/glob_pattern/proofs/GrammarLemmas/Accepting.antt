@@ -1,4 +1,4 @@
--- What makes a text accepted, and what an accepted text has. `IsAccepted` is closed elsewhere.
+-- When a text is accepted, and what an accepted text has, for proofs in which `IsAccepted` is opaque.
 use Rattle.std.proofs.Common.{List, refl}
 use Rattle.glob_text.specs.Text.{Text}
 use Rattle.glob_pattern.specs.Grammar.Tokens.{Token, tokens_of_units}

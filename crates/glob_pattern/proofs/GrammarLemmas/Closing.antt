@@ -1,5 +1,6 @@
--- Where the first `]` is, and what a test of a character at a place means.
-use Rattle.std.proofs.Common.{◌≡◌, ℕ, ◌+◌, ◌-◌, ◌<◌, ◌≤◌, eqb, List, [], ◌∷◌, length, drop, get_or, Option, Some, None, Decides, refl, ap, sym, ◌∙◌, subst, inl, inr, arith}
+-- The place of the first `]`, and tests of the character at a place.
+use Rattle.std.proofs.Common.{◌≡◌, ℕ, ◌+◌, ◌-◌, ◌<◌, ◌≤◌, eqb, List, [], ◌∷◌, length, drop, get_or, Option, Some, None}
+use Rattle.std.proofs.Common.{Decides, refl, ap, sym, ◌∙◌, subst, inl, inr, arith}
 use Rattle.std.specs.Prelude.{◌==◌}
 use Rattle.std.specs.List.{position_from}
 use Rattle.std.proofs.lemmas.Bool.{cond_both, cases_lt, eqb-true, eqb-false}
@@ -29,10 +30,15 @@ none_from P i here later k above at =
     ]
 
 -- A place without `]` may be passed over.
-IsFirstClose-before : (text : Text) (i : ℕ) (found : Option ℕ) → ¬ (Has text i close_bracket) → IsFirstClose text (i + 1) found → IsFirstClose text i found
+IsFirstClose-before : (text : Text) (i : ℕ) (found : Option ℕ) → ¬ (Has text i close_bracket) → IsFirstClose text
+    (i + 1) found → IsFirstClose text i found
 IsFirstClose-before text i None here later = none_from (λ k. Has text k close_bracket) i here later
-IsFirstClose-before text i (Some place) here later =
-    (omega (arith, later.0), later.1, λ k above below at. none_from (λ j. (j < place) × Has text j close_bracket) i (λ p. here p.1) (λ j higher p. later.2 j higher p.0 p.1) k above (below, at))
+IsFirstClose-before text i (Some place) here later = (
+  omega (arith, later.0),
+  later.1,
+  λ k above below at. none_from (λ j. (j < place) × Has text j close_bracket) i
+      (λ p. here p.1) (λ j higher p. later.2 j higher p.0 p.1) k above (below, at),
+)
 
 -- the list that is left begins with the character at its place
 Has-drop : (text : Text) (i c : ℕ) (rest : List ℕ) → drop i text ≡ c ∷ rest → Has text i c × (drop (i + 1) text ≡ rest)
@@ -44,13 +50,15 @@ Has-drop text i c rest is_rest =
     ((within, here), after)
 
 -- the search over what is left from place i on
-IsFirstClose-position_from : (text : Text) (i : ℕ) (rest : List ℕ) → drop i text ≡ rest → IsFirstClose text i (position_from (λ c. c == close_bracket) i rest)
+IsFirstClose-position_from : (text : Text) (i : ℕ) (rest : List ℕ) → drop i text ≡ rest → IsFirstClose text i
+    (position_from (λ c. c == close_bracket) i rest)
 IsFirstClose-position_from text i [] is_rest = λ k above at. absurd (omega (arith, at.0, length-drop i text, ap length is_rest))
 IsFirstClose-position_from text i (c ∷ rest) is_rest =
     let at = Has-drop text i c rest is_rest in
     cond_both (eqb c close_bracket) (Some i) (position_from (λ c. c == close_bracket) (i + 1) rest) (IsFirstClose text i)
     (λ e. (omega arith, (at.0.0, at.0.1 ∙ eqb-true c close_bracket e), λ k above below. absurd (omega arith)))
-    (λ e. IsFirstClose-before text i _ (λ here. eqb-false c close_bracket e (sym at.0.1 ∙ here.1)) (IsFirstClose-position_from text (i + 1) rest at.1))
+    (λ e. IsFirstClose-before text i _ (λ here. eqb-false c close_bracket e (sym at.0.1 ∙ here.1))
+    (IsFirstClose-position_from text (i + 1) rest at.1))
 
 -- The search finds the first `]`.
 pub IsFirstClose-close_from : (text : Text) (i : ℕ) → IsFirstClose text i (close_from text i)

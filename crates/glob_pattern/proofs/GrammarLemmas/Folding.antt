@@ -1,5 +1,6 @@
--- Neighbouring `**` made one, as tokens come at the end.
-use Rattle.std.proofs.Common.{◌≡◌, ℕ, zero, suc, ◌-◌, ◌<◌, ◌≤◌, Bool, true, false, ◌&&◌, cond, List, [], ◌∷◌, ◌++◌, length, get_or, refl, ap, sym, ◌∙◌, arith}
+-- Neighbouring `**` become one while tokens are appended.
+use Rattle.std.proofs.Common.{◌≡◌, ℕ, zero, suc, ◌-◌, ◌<◌, ◌≤◌, Bool, true, false, ◌&&◌, cond, List, [], ◌∷◌, ◌++◌}
+use Rattle.std.proofs.Common.{length, get_or, refl, ap, sym, ◌∙◌, arith}
 use Rattle.std.proofs.lemmas.Bool.{cond_both, cond-true, cond-false, and_from, and_right, false≢true}
 use Rattle.glob_pattern.specs.Grammar.Tokens.{Token, is_recursive, begins_recursive, ends_recursive, tokens_of_units}
 use Rattle.glob_pattern.specs.declared.token.Token.TheVariants.{Literal, AnyChar, AnySequence, Recursive, OneOf, NoneOf}
@@ -13,14 +14,16 @@ length-tokens_of_units (t ∷ ts) =
 
 -- One token stays as it is.
 pub folded_one : (t : Token) → tokens_of_units (t ∷ []) ≡ t ∷ []
-folded_one t = cond_both (is_recursive t && false) [] (t ∷ []) (λ xs. xs ≡ t ∷ []) (λ e. absurd (false≢true (sym (and_right (is_recursive t) false refl) ∙ e))) (λ e. refl)
+folded_one t = cond_both (is_recursive t && false) [] (t ∷ []) (λ xs. xs ≡ t ∷ [])
+    (λ e. absurd (false≢true (sym (and_right (is_recursive t) false refl) ∙ e))) (λ e. refl)
 
 -- Some token stays.
 pub folded_some : (t : Token) (ts : List Token) → 0 < length (tokens_of_units (t ∷ ts))
 folded_some t [] = omega (arith, ap length (folded_one t))
 folded_some t (u ∷ us) =
     let rest = folded_some u us in
-    cond_both (is_recursive t && is_recursive u) (tokens_of_units (u ∷ us)) (t ∷ tokens_of_units (u ∷ us)) (λ xs. 0 < length xs) (λ e. rest) (λ e. omega arith)
+    cond_both (is_recursive t && is_recursive u) (tokens_of_units (u ∷ us)) (t ∷ tokens_of_units (u ∷ us))
+    (λ xs. 0 < length xs) (λ e. rest) (λ e. omega arith)
 
 ends_deep_after : (u : Token) (ts : List Token) → 0 < length ts → ends_recursive (u ∷ ts) ≡ ends_recursive ts
 ends_deep_after u [] some = absurd (omega arith)
@@ -46,27 +49,35 @@ behind true u x y = refl
 behind false u x y = refl
 
 -- a token before what is folded with one more unit
-folded_before : (dropped : Bool) (u t : Token) (before after : List Token) → 0 < length before → after ≡ cond (is_recursive t && ends_recursive before) before (before ++ t ∷ []) → cond dropped after (u ∷ after) ≡ cond (is_recursive t && ends_recursive (cond dropped before (u ∷ before))) (cond dropped before (u ∷ before)) (cond dropped before (u ∷ before) ++ t ∷ [])
+folded_before : (dropped : Bool) (u t : Token) (before after : List Token) → 0 < length before → after ≡ cond
+    (is_recursive t && ends_recursive before) before (before ++ t ∷ []) → cond dropped after (u ∷ after) ≡ cond
+    (is_recursive t && ends_recursive (cond dropped before (u ∷ before))) (cond dropped before (u ∷ before))
+    (cond dropped before (u ∷ before) ++ t ∷ [])
 folded_before true u t before after some e = e
 folded_before false u t before after some e =
     rw (ends_deep_after u before some, e) (behind (is_recursive t && ends_recursive before) u before (before ++ t ∷ []))
 
 -- What is folded of one more unit: a `**` after a `**` adds nothing.
-pub tokens_of_units-push : (units : List Token) (t : Token) → tokens_of_units (units ++ t ∷ []) ≡ cond (is_recursive t && ends_recursive (tokens_of_units units)) (tokens_of_units units) (tokens_of_units units ++ t ∷ [])
+pub tokens_of_units-push : (units : List Token) (t : Token) → tokens_of_units (units ++ t ∷ []) ≡ cond
+    (is_recursive t && ends_recursive (tokens_of_units units)) (tokens_of_units units) (tokens_of_units units ++ t ∷ [])
 tokens_of_units-push [] t = refl
 tokens_of_units-push (u ∷ []) t =
     rw (folded_one t, folded_one u)
     (both_or_rest (is_recursive u) (is_recursive t) (t ∷ []) (u ∷ []) (u ∷ t ∷ []) (λ p q. rw (deep_is_Deep t q, deep_is_Deep u p) refl))
 tokens_of_units-push (u ∷ v ∷ vs) t =
-    folded_before (is_recursive u && is_recursive v) u t (tokens_of_units (v ∷ vs)) (tokens_of_units (v ∷ vs ++ t ∷ [])) (folded_some v vs) (tokens_of_units-push (v ∷ vs) t)
+    folded_before (is_recursive u && is_recursive v) u t (tokens_of_units (v ∷ vs)) (tokens_of_units
+    (v ∷ vs ++ t ∷ [])) (folded_some v vs) (tokens_of_units-push (v ∷ vs) t)
 
 -- A `**` after a `**` adds nothing.
-pub tokens_of_units-push_deep : (tokens units : List Token) (t : Token) → is_recursive t ≡ true → ends_recursive tokens ≡ true → tokens ≡ tokens_of_units units → tokens ≡ tokens_of_units (units ++ t ∷ [])
+pub tokens_of_units-push_deep : (tokens units : List Token) (t : Token) → is_recursive t ≡ true → ends_recursive tokens
+    ≡ true → tokens ≡ tokens_of_units units → tokens ≡ tokens_of_units (units ++ t ∷ [])
 tokens_of_units-push_deep tokens units t deep ends e =
-    e ∙ sym (tokens_of_units-push units t ∙ cond-true _ _ _ (and_from (is_recursive t) (ends_recursive (tokens_of_units units)) deep (ap ends_recursive (sym e) ∙ ends)))
+    e ∙ sym (tokens_of_units-push units t ∙ cond-true _ _ _ (and_from (is_recursive t) (ends_recursive
+    (tokens_of_units units)) deep (ap ends_recursive (sym e) ∙ ends)))
 
 -- Another is added.
-pub tokens_of_units-push_other : (tokens units : List Token) (t : Token) → (is_recursive t && ends_recursive tokens) ≡ false → tokens ≡ tokens_of_units units → tokens ++ t ∷ [] ≡ tokens_of_units (units ++ t ∷ [])
+pub tokens_of_units-push_other : (tokens units : List Token) (t : Token) → (is_recursive t && ends_recursive tokens) ≡
+    false → tokens ≡ tokens_of_units units → tokens ++ t ∷ [] ≡ tokens_of_units (units ++ t ∷ [])
 tokens_of_units-push_other tokens units t other e =
     ap (λ ts. ts ++ t ∷ []) e
     ∙ sym (tokens_of_units-push units t ∙ cond-false _ _ _ (ap (λ ts. is_recursive t && ends_recursive ts) (sym e) ∙ other))
@@ -79,5 +90,6 @@ ends_recursive-at (u ∷ []) (suc k) t size last = absurd (omega arith)
 ends_recursive-at (u ∷ v ∷ vs) zero t size last = absurd (omega arith)
 ends_recursive-at (u ∷ v ∷ vs) (suc k) t size last = ends_recursive-at (v ∷ vs) k t (omega arith) last
 
-pub ends_recursive-last : (ts : List Token) (t : Token) → 1 ≤ length ts → t ≡ get_or ts (length ts - 1) t → ends_recursive ts ≡ is_recursive t
+pub ends_recursive-last : (ts : List Token) (t : Token) → 1 ≤ length ts → t ≡ get_or ts (length ts - 1) t
+    → ends_recursive ts ≡ is_recursive t
 ends_recursive-last ts t some last = ends_recursive-at ts (length ts - 1) t (omega arith) last

@@ -1,8 +1,10 @@
--- The unit that the computation finds at a place is the one that is there.
-use Rattle.std.proofs.Common.{◌≡◌, ◌≢◌, ℕ, ◌+◌, ◌-◌, ◌<◌, ◌≤◌, Bool, true, false, not, ◌||◌, cond, eqb, List, length, get_or, Option, Some, None, refl, ap, sym, ◌∙◌, subst, inl, inr, arith}
+-- The unit computed at a place is the one that the grammar has there.
+use Rattle.std.proofs.Common.{◌≡◌, ◌≢◌, ℕ, ◌+◌, ◌-◌, ◌<◌, ◌≤◌, Bool, true, false, not, ◌||◌, cond, eqb, List, length}
+use Rattle.std.proofs.Common.{get_or, Option, Some, None, refl, ap, sym, ◌∙◌, subst, inl, inr, arith}
 use Rattle.std.specs.Option.{option_map}
 use Rattle.std.proofs.lemmas.Grind.{get_or_default_zero}
-use Rattle.std.proofs.lemmas.Bool.{cond_both, cases_lt, eqb-true, eqb-false, eq-eqb, ne_eqb, or_from, or_parts, not-true, not-false, not_from_true, not_from_false, false_from_ne_true, both_ways}
+use Rattle.std.proofs.lemmas.Bool.{cond_both, cases_lt, eqb-true, eqb-false, eq-eqb, ne_eqb, or_from, or_parts}
+use Rattle.std.proofs.lemmas.Bool.{not-true, not-false, not_from_true, not_from_false, false_from_ne_true, both_ways}
 use Rattle.glob_text.specs.Characters.{slash}
 use Rattle.glob_pattern.specs.Grammar.Characters.{star, question_mark, open_bracket, close_bracket, exclamation_mark}
 use Rattle.glob_text.specs.Text.{Text, Has, opens, between}
@@ -54,7 +56,8 @@ IsClear-after text f Recursive e unit at positive before =
     elim unit.2 [
       | inl last ↦ omega arith
       | inr slashed ↦
-          let same = Has-same text (f + 2) slash star slashed.1 (Has-at text (e - 1) (f + 2) star (omega arith) before) in absurd (omega arith)
+          let same = Has-same text (f + 2) slash star slashed.1 (Has-at text (e - 1) (f + 2) star (omega arith) before)
+          in absurd (omega arith)
     ]
 IsClear-after text f (OneOf entries) e unit at positive before =
     let same = Has-same text (e - 1) close_bracket star unit.2.1 before in absurd (omega arith)
@@ -81,7 +84,8 @@ absent_from_false text k c e at = both_ways _ e (has-true text k c at)
 StarsAt-one : (text : Text) (f : ℕ) → Has text f star → IsClear text f → ¬ (Has text (f + 1) star) → StarsAt text f 1
 StarsAt-one text f at clear after = (λ k above below. Has-at text f k star (omega arith) at, after, clear at)
 
-StarsAt-two : (text : Text) (f : ℕ) → Has text f star → IsClear text f → Has text (f + 1) star → ¬ (Has text (f + 2) star) → StarsAt text f 2
+StarsAt-two : (text : Text) (f : ℕ) → Has text f star → IsClear text f → Has text (f + 1) star → ¬
+    (Has text (f + 2) star) → StarsAt text f 2
 StarsAt-two text f at clear next after = (
   λ k above below. elim (cases_lt f k) [
     | inl past ↦ Has-at text (f + 1) k star (omega arith) next
@@ -99,7 +103,8 @@ Stands-stars_at text f at clear =
     (λ e. tt)
     (λ two.
     let parts = or_parts (has text (f + 2) star) (not (opens text f)) two in
-    let stars = StarsAt-two text f at clear (Has-from_true text (f + 1) star (not-false _ next)) (absent_from_false text (f + 2) star parts.0) in
+    let stars = StarsAt-two text f at clear (Has-from_true text (f + 1) star (not-false _ next))
+    (absent_from_false text (f + 2) star parts.0) in
     let opening = not-false _ parts.1 in
     cond_both (has text (f + 2) slash) _ _ (Stands text f)
     (λ e. (stars, opening, inr (refl, Has-from_true text (f + 2) slash e)))
@@ -113,13 +118,19 @@ ClosesBefore-first text i k first =
     let e : k ≡ k + 1 - 1 = omega arith in
     (omega (arith, first.0), Has-at text k (k + 1 - 1) close_bracket e first.1, subst (NoCloseBetween text i) e first.2)
 
-Stands-Within : (text : Text) (f : ℕ) (found : Option ℕ) → Has text f open_bracket → ¬ (Has text (f + 1) exclamation_mark) → IsFirstClose text (f + 2) found → Stands text f (option_map (λ k. (OneOf (entries_of (between text (f + 1) k)), k + 1)) found)
+Stands-Within : (text : Text) (f : ℕ) (found : Option ℕ) → Has text f open_bracket → ¬
+    (Has text (f + 1) exclamation_mark) → IsFirstClose text (f + 2) found → Stands text f
+    (option_map (λ k. (OneOf (entries_of (between text (f + 1) k)), k + 1)) found)
 Stands-Within text f None at mark first = tt
 Stands-Within text f (Some k) at mark first =
     let e : k ≡ k + 1 - 1 = omega arith in
     (at, mark, ClosesBefore-first text (f + 2) k first, ap (λ j. entries_of (between text (f + 1) j)) e)
 
-Stands-Except : (text : Text) (f : ℕ) (found : Option ℕ) → Has text f open_bracket → Has text (f + 1) exclamation_mark → IsFirstClose text (f + 3) found → Stands text f (option_map (λ k. (NoneOf (entries_of (between text (f + 2) k)), k + 1)) found)
+Stands-Except : (text : Text) (f : ℕ) (found : Option ℕ) → Has text f open_bracket → Has text (f + 1) exclamation_mark
+    → IsFirstClose text (f + 3) found → Stands text f (option_map (λ k. (
+      NoneOf (entries_of (between text (f + 2) k)),
+      k + 1,
+    )) found)
 Stands-Except text f None at mark first = tt
 Stands-Except text f (Some k) at mark first =
     let e : k ≡ k + 1 - 1 = omega arith in
@@ -169,18 +180,22 @@ stars_at-Deep text f e unit =
     ]))
 
 -- a bracket that closes is found
-bracket_from-ClosesBefore : (kind : List Entry → Token) (text : Text) (i j e : ℕ) → j ≡ i + 1 → ClosesBefore text j e → bracket_from kind text i ≡ Some (kind (entries_of (between text i (e - 1))), e)
+bracket_from-ClosesBefore : (kind : List Entry → Token) (text : Text) (i j e : ℕ) → j ≡ i + 1 → ClosesBefore text j e
+    → bracket_from kind text i ≡ Some (kind (entries_of (between text i (e - 1))), e)
 bracket_from-ClosesBefore kind text i j e next closes =
     let end : e - 1 + 1 ≡ e = omega (arith, closes.0) in
-    let found : close_from text (i + 1) ≡ Some (e - 1) = subst (λ n. close_from text n ≡ Some (e - 1)) next (close_from-ClosesBefore text j e closes) in
-    ap (option_map (λ k. (kind (entries_of (between text i k)), k + 1))) found ∙ ap (λ n. Some (kind (entries_of (between text i (e - 1))), n)) end
+    let found : close_from text (i + 1) ≡ Some (e - 1) = subst (λ n. close_from text n ≡ Some (e - 1)) next
+    (close_from-ClosesBefore text j e closes) in
+    ap (option_map (λ k. (kind (entries_of (between text i k)), k + 1))) found ∙ ap
+    (λ n. Some (kind (entries_of (between text i (e - 1))), n)) end
 
 -- The unit that is at a place is found there.
 pub unit_at-UnitAt : (text : Text) (f : ℕ) (t : Token) (e : ℕ) → UnitAt text f t e → unit_at text f ≡ Some (t, e)
 unit_at-UnitAt text f (Literal c) e unit =
     skip _ _ _ _ (is_not text f c question_mark unit.0 unit.1)
     (skip _ _ _ _ (is_not text f c star unit.0 unit.2)
-    (skip _ _ _ _ (is_not text f c open_bracket unit.0 unit.3) (ap (λ x. Some (Literal x, f + 1)) unit.0.1 ∙ ap (λ n. Some (Literal c, n)) (sym unit.4))))
+    (skip _ _ _ _ (is_not text f c open_bracket unit.0 unit.3) (ap (λ x. Some (Literal x, f + 1)) unit.0.1 ∙ ap
+    (λ n. Some (Literal c, n)) (sym unit.4))))
 unit_at-UnitAt text f AnyChar e unit =
     pick _ _ _ _ (eq-eqb _ _ unit.0.1) (ap (λ n. Some (AnyChar, n)) (sym unit.1))
 unit_at-UnitAt text f AnySequence e unit =
@@ -209,5 +224,6 @@ pub NoUnitAt-None : (text : Text) (f : ℕ) → unit_at text f ≡ None → NoUn
 NoUnitAt-None text f none = λ t e unit. let found = unit_at-UnitAt text f t e unit in cc
 
 -- What is found is there.
-pub UnitAt-Some : (text : Text) (f : ℕ) (t : Token) (e : ℕ) → f < length text → IsClear text f → unit_at text f ≡ Some (t, e) → UnitAt text f t e
+pub UnitAt-Some : (text : Text) (f : ℕ) (t : Token) (e : ℕ) → f < length text → IsClear text f → unit_at text f ≡ Some
+    (t, e) → UnitAt text f t e
 UnitAt-Some text f t e within clear found = subst (Stands text f) found (Stands-unit_at text f within clear)

@@ -27,8 +27,10 @@ units-first [] units more e = (units, refl, λ none. units-none units (e ∙ non
 units-first (c ∷ cs) [] more e = absurd (omega (arith, ap length e))
 units-first (c ∷ cs) (t ∷ ts) more e =
     cond_both (is_recursive t && begins_recursive ts) (tokens_of_units ts) (t ∷ tokens_of_units ts)
-    (λ xs. xs ≡ Literal c ∷ (map Literal cs ++ more) → (others : List Token) × (t ∷ ts ≡ Literal c ∷ (map Literal cs ++ others)) × (more ≡ [] → others ≡ []))
-    (λ both is. absurd (false≢true (sym (ap begins_recursive is) ∙ folded-begins ts (and_parts (is_recursive t) (begins_recursive ts) both).1)))
+    (λ xs. xs ≡ Literal c ∷ (map Literal cs ++ more) → (others : List Token) × (t ∷ ts ≡ Literal c ∷
+    (map Literal cs ++ others)) × (more ≡ [] → others ≡ []))
+    (λ both is. absurd (false≢true (sym (ap begins_recursive is) ∙ folded-begins ts (and_parts (is_recursive t)
+    (begins_recursive ts) both).1)))
     (λ _ is.
     let first : t ≡ Literal c = cc in
     let rest : tokens_of_units ts ≡ map Literal cs ++ more = cc in
@@ -37,7 +39,8 @@ units-first (c ∷ cs) (t ∷ ts) more e =
     e
 
 -- last literals are last units
-units-last : (plain : Text) (units front : List Token) → tokens_of_units units ≡ front ++ map Literal plain → (others : List Token) × (units ≡ others ++ map Literal plain)
+units-last : (plain : Text) (units front : List Token) → tokens_of_units units ≡ front ++ map Literal plain
+    → (others : List Token) × (units ≡ others ++ map Literal plain)
 units-last [] units front e = (units, sym (append-nil units))
 units-last (c ∷ cs) [] front e = absurd (omega (arith, ap length e, length-append front (map Literal (c ∷ cs))))
 units-last (c ∷ cs) (t ∷ ts) [] e =
@@ -54,7 +57,8 @@ units-last (c ∷ cs) (t ∷ ts) (f ∷ fs) e =
     e
 
 -- units one after another, in two parts
-UnitsBetween-parts : (text : Text) (f : ℕ) (first last : List Token) (e : ℕ) → UnitsBetween text f (first ++ last) e → (m : ℕ) × UnitsBetween text f first m × UnitsBetween text m last e
+UnitsBetween-parts : (text : Text) (f : ℕ) (first last : List Token) (e : ℕ) → UnitsBetween text f (first ++ last) e →
+    (m : ℕ) × UnitsBetween text f first m × UnitsBetween text m last e
 UnitsBetween-parts text f [] last e units = (f, refl, units)
 UnitsBetween-parts text f (t ∷ ts) last e (k, unit, rest) =
     let (m, before, after) = UnitsBetween-parts text k ts last e rest in (m, (k, unit, before), after)
@@ -67,16 +71,23 @@ literals-between text (c ∷ cs) f e (m, unit, rest) =
     here ∙ ap (λ k. c ∷ drop k text) (sym unit.4) ∙ ap (λ xs. c ∷ xs) (literals-between text cs m e rest)
 
 -- so the text begins with first literals
-pub text-begins : (text plain : Text) (tokens more : List Token) → HasTokens text tokens → tokens ≡ map Literal plain ++ more → (rest : Text) × (text ≡ plain ++ rest)
+pub text-begins : (text plain : Text) (tokens more : List Token) → HasTokens text tokens → tokens ≡ map Literal plain
+    ++ more → (rest : Text) × (text ≡ plain ++ rest)
 text-begins text plain tokens more (units, has, folded) begins =
     let (others, split, none) = units-first plain units more (sym folded ∙ begins) in
-    let (m, first, last) = UnitsBetween-parts text 0 (map Literal plain) others (length text) (subst (λ us. UnitsBetween text 0 us (length text)) split has) in
+    let (m, first, last) = UnitsBetween-parts text 0 (map Literal plain) others (length text)
+    (subst (λ us. UnitsBetween text 0 us (length text)) split has) in
     (drop m text, literals-between text plain 0 m first)
 
 -- and ends with last ones
-pub text-ends : (text plain : Text) (tokens front : List Token) → HasTokens text tokens → tokens ≡ front ++ map Literal plain → (rest : Text) × (text ≡ rest ++ plain)
+pub text-ends : (text plain : Text) (tokens front : List Token) → HasTokens text tokens → tokens ≡ front ++ map Literal
+    plain → (rest : Text) × (text ≡ rest ++ plain)
 text-ends text plain tokens front (units, has, folded) ends =
     let (others, split) = units-last plain units front (sym folded ∙ ends) in
-    let (m, first, last) = UnitsBetween-parts text 0 others (map Literal plain) (length text) (subst (λ us. UnitsBetween text 0 us (length text)) split has) in
-    let none : drop (length text) text ≡ [] = drop_all (length text) text (omega arith) in
-    (take m text, sym (take-append-drop m text) ∙ ap (λ xs. take m text ++ xs) (literals-between text plain m (length text) last ∙ ap (λ xs. plain ++ xs) none ∙ append-nil plain))
+    let (m, first, last) = UnitsBetween-parts text 0 others (map Literal plain) (length text)
+    (subst (λ us. UnitsBetween text 0 us (length text)) split has) in
+    let none : drop (length text) text ≡ [] = drop_all (length text) text (omega arith) in (
+      take m text,
+      sym (take-append-drop m text) ∙ ap (λ xs. take m text ++ xs) (literals-between text plain m
+          (length text) last ∙ ap (λ xs. plain ++ xs) none ∙ append-nil plain),
+    )

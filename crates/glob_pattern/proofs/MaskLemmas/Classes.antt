@@ -1,5 +1,6 @@
--- A token takes the characters of a class together.
-use Rattle.std.proofs.Common.{◌≡◌, ℕ, ◌<◌, Bool, true, false, not, ◌&&◌, ◌||◌, ◌==◌, if◌then◌else◌, ◌⊎◌, inl, inr, ⊎_elim, refl, sym, ap, ◌∙◌, arith}
+-- A token takes all characters of a class or none.
+use Rattle.std.proofs.Common.{◌≡◌, ℕ, ◌<◌, Bool, true, false, not, ◌&&◌, ◌||◌, ◌==◌, if◌then◌else◌, ◌⊎◌, inl, inr}
+use Rattle.std.proofs.Common.{⊎_elim, refl, sym, ap, ◌∙◌, arith}
 use Rattle.std.proofs.Math.Bool.{and-false, and-true}
 use Rattle.std.proofs.lemmas.Bool.{and_parts, eqb-true, cases_Bool, false≢true}
 use Rattle.std.proofs.lemmas.Bool.Decides.{nat_tests}
@@ -7,8 +8,9 @@ use Rattle.glob_text.specs.Characters.{slash, dot}
 use Rattle.glob_pattern.specs.Grammar.Brackets.{is_same, holds}
 use Rattle.glob_pattern.specs.Grammar.Tokens.{Token, is_recursive}
 use Rattle.glob_pattern.specs.Matching.Taking.{takes, is_excluded_separator, is_excluded_dot}
-use Rattle.glob_pattern.specs.Private.Classes.{Partition, IsPartition, TokenIntervals, class_in, columns_of}
-use Rattle.glob_pattern.specs.Private.CharMasks.{class_of, case_options, is_bracket, lists, is_plain, takes_all_but_listed, takes_separator, takes_dot}
+use Rattle.glob_pattern.specs.Private.Classes.{Partition, IsPartition, class_in, columns_of}
+use Rattle.glob_pattern.specs.Private.CharMasks.{class_of, case_options, is_bracket, lists, is_plain}
+use Rattle.glob_pattern.specs.Private.CharMasks.{takes_all_but_listed, takes_separator, takes_dot}
 use Rattle.glob_pattern.specs.declared.options.MatchOptions.{MatchOptions}
 use Rattle.glob_pattern.specs.declared.token.Token.TheVariants.{Literal, AnyChar, AnySequence, Recursive, OneOf, NoneOf}
 use Rattle.glob_pattern.proofs.ClassLemmas.Separating.{class-bounds}
@@ -19,7 +21,8 @@ same-caseless true c x low = grind (arith, nat_tests)
 same-caseless false c x low = grind (arith, nat_tests)
 
 -- a token takes what it lists, or all other characters
-pub takes-listed : (case : Bool) (c : ℕ) (t : Token) → takes (case_options case) false c t ≡ (if takes_all_but_listed t then not (lists case c t) else lists case c t)
+pub takes-listed : (case : Bool) (c : ℕ) (t : Token) → takes (case_options case) false c t ≡
+    (if takes_all_but_listed t then not (lists case c t) else lists case c t)
 takes-listed case c (Literal x) = refl
 takes-listed case c AnyChar = refl
 takes-listed case c AnySequence = refl
@@ -36,7 +39,7 @@ separator-listed case Recursive = refl
 separator-listed case (OneOf e) = grind (arith, nat_tests)
 separator-listed case (NoneOf e) = grind (arith, nat_tests)
 
--- where the dot rule excludes `.`, a literal alone does
+-- where the dot rule excludes `.`, only a literal takes it
 pub dot-listed : (case : Bool) (t : Token) → (lists case dot t && not (is_bracket t)) ≡ takes_dot t
 dot-listed case (Literal x) = rw (same-caseless case dot x (omega arith), same-caseless true dot x (omega arith)) (and-true _)
 dot-listed case AnyChar = refl
@@ -46,22 +49,14 @@ dot-listed case (OneOf e) = and-false _
 dot-listed case (NoneOf e) = and-false _
 
 -- where a token lists no character, the case does not count
-pub takes-caseless : (o : MatchOptions) (opening case : Bool) (c : ℕ) (t : Token) → is_plain t ≡ true → takes o opening c t ≡ takes (record o { case_sensitive = case }) opening c t
+pub takes-caseless : (o : MatchOptions) (opening case : Bool) (c : ℕ) (t : Token) → is_plain t ≡ true → takes o opening
+    c t ≡ takes (record o { case_sensitive = case }) opening c t
 takes-caseless o opening case c (Literal x) none = absurd (false≢true none)
 takes-caseless o opening case c AnyChar none = refl
 takes-caseless o opening case c AnySequence none = refl
 takes-caseless o opening case c Recursive none = refl
 takes-caseless o opening case c (OneOf e) none = absurd (false≢true none)
 takes-caseless o opening case c (NoneOf e) none = absurd (false≢true none)
-
--- nor is there an interval
-pub intervals-none : (P : ℕ → ℕ → Type 0) (t : Token) → is_plain t ≡ true → TokenIntervals P t
-intervals-none P (Literal x) none = absurd (false≢true none)
-intervals-none P AnyChar none = tt
-intervals-none P AnySequence none = tt
-intervals-none P Recursive none = tt
-intervals-none P (OneOf e) none = absurd (false≢true none)
-intervals-none P (NoneOf e) none = absurd (false≢true none)
 
 module _ (o : MatchOptions) (opening : Bool) where
   -- where no rule excludes a character, the rules do not count

@@ -1,4 +1,4 @@
--- Masks with one bit more, and those of the classes that are listed.
+-- Masks with one more bit, and with the bits of more classes.
 use Rattle.std.proofs.Common.{◌≡◌, ◌↔◌, ◌⊎◌, ℕ, Bool, true, false, ◌||◌, refl, inl, inr, ⊎_elim}
 use Rattle.std.proofs.lemmas.Bool.{false≢true}
 use Rattle.std.specs.Int.{IsBitSet}
@@ -10,10 +10,17 @@ with_none mask bit = record { bits = λ j. (inl, λ h. ⊎_elim (λ s. s) (λ (_
 
 -- and one that is on is set besides
 pub with_one : {old new bit : ℕ} → ((j : ℕ) → IsBitSet new j ↔ (IsBitSet old j ⊎ (j ≡ bit))) → IsWith old new bit true
-with_one with = record { bits = λ j. (λ s. ⊎_elim inl (λ e. inr (e, refl)) ((with j).0 s), λ h. (with j).1 (⊎_elim inl (λ (e, _). inr e) h)) }
+with_one with = record {
+  bits = λ j. (
+    λ s. ⊎_elim inl (λ e. inr (e, refl)) ((with j).0 s),
+    λ h. (with j).1
+        (⊎_elim inl (λ (e, _). inr e) h),
+  );
+}
 
 -- what is listed after other characters is listed beside them
-pub IsWith-after : (old between new bit : ℕ) (p q : Bool) → IsWith old between bit p → IsWith between new bit q → IsWith old new bit (p || q)
+pub IsWith-after : (old between new bit : ℕ) (p q : Bool) → IsWith old between bit p → IsWith between new bit q
+    → IsWith old new bit (p || q)
 IsWith-after old between new bit true q first second = record {
   bits = λ j. (
     λ s. ⊎_elim (λ b. (⊎_elim inl (λ (e, _). inr (e, refl)) ((first.bits j).0 b))) (λ (e, _). inr (e, refl)) ((second.bits j).0 s),

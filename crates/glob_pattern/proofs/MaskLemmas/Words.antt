@@ -1,7 +1,10 @@
--- Masks of the first tokens, and of one token more; and rows of masks.
-use Rattle.std.proofs.Common.{◌≡◌, ℕ, ◌+◌, ◌-◌, ◌^◌, ◌<◌, ◌≤◌, ◌↔◌, ◌⊎◌, Bool, true, false, not, ◌&&◌, ◌||◌, if◌then◌else◌, IsTrue, List, ◌++◌, length, get_or, take, drop, set, bit_and, bit_or, bit_xor, refl, sym, ap, ◌∙◌, inl, inr, ⊎_elim, arith}
+-- The mask of some tokens and of one more, inverted masks, and rows of masks in a list.
+use Rattle.std.proofs.Common.{◌≡◌, ℕ, ◌+◌, ◌-◌, ◌^◌, ◌<◌, ◌≤◌, ◌↔◌, ◌⊎◌, Bool, true, false, not, ◌&&◌, ◌||◌}
+use Rattle.std.proofs.Common.{if◌then◌else◌, IsTrue, List, ◌++◌, length, get_or, take, drop, set, bit_and, bit_or}
+use Rattle.std.proofs.Common.{bit_xor, refl, sym, ap, ◌∙◌, inl, inr, ⊎_elim, arith}
 use Rattle.std.proofs.lemmas.Bool.{cases_eq, false≢true, both_ways, and_parts, or_cases, or_left, or_right, not-true, false_from_ne_true}
-use Rattle.std.proofs.lemmas.List.{get_or_append_left, get_or-append_right, get_or-take, get_or-drop, length-append, length-drop, length-take-le, length-set, get_or-set_same, get_or-set_other}
+use Rattle.std.proofs.lemmas.List.{get_or_append_left, get_or-append_right, get_or-take, get_or-drop, length-append}
+use Rattle.std.proofs.lemmas.List.{length-drop, length-take-le, length-set, get_or-set_same, get_or-set_other}
 use borrow.Rule.Slice.PartMut.{put_mid, post_of}
 use Rattle.std.specs.Int.{IsBitSet, bit_not, w64}
 use Rattle.glob_pattern.specs.Grammar.Tokens.{Token}
@@ -58,7 +61,8 @@ module _ (tokens : List Token) (start : ℕ) where
   }
 
   -- a test that says the same
-  pub IsMask-same : (end : ℕ) (p q : Token → Bool) (mask : ℕ) → ((t : Token) → p t ≡ q t) → IsMask tokens start end p mask → IsMask tokens start end q mask
+  pub IsMask-same : (end : ℕ) (p q : Token → Bool) (mask : ℕ) → ((t : Token) → p t ≡ q t) → IsMask tokens start end p
+      mask → IsMask tokens start end q mask
   IsMask-same end p q mask same is = record {
     bits = λ j lt.
         let t = get_or tokens (start + j) AnyChar in
@@ -67,7 +71,8 @@ module _ (tokens : List Token) (start : ℕ) where
   }
 
   -- tokens that meet one of two tests
-  pub IsMask-or : (end : ℕ) (p q : Token → Bool) (a b : ℕ) → IsMask tokens start end p a → IsMask tokens start end q b → IsMask tokens start end (λ t. p t || q t) (bit_or a b)
+  pub IsMask-or : (end : ℕ) (p q : Token → Bool) (a b : ℕ) → IsMask tokens start end p a → IsMask tokens start end q b
+      → IsMask tokens start end (λ t. p t || q t) (bit_or a b)
   IsMask-or end p q a b first second = record {
     bits = λ j lt.
         let t = get_or tokens (start + j) AnyChar in
@@ -76,7 +81,8 @@ module _ (tokens : List Token) (start : ℕ) where
               (λ o. let (below, h) = (first.bits j lt).0 o in (below, or_left (p t) (q t) h))
               (λ o. let (below, h) = (second.bits j lt).0 o in (below, or_right (p t) (q t) h))
               (or.0 s),
-          λ (below, h). or.1 (⊎_elim (λ o. inl ((first.bits j lt).1 (below, o))) (λ o. inr ((second.bits j lt).1 (below, o))) (or_cases (p t) (q t) h)),
+          λ (below, h). or.1 (⊎_elim (λ o. inl ((first.bits j lt).1 (below, o))) (λ o. inr ((second.bits j lt).1
+              (below, o))) (or_cases (p t) (q t) h)),
         );
   }
 
@@ -104,7 +110,8 @@ module _ (tokens : List Token) (start : ℕ) where
   }
 
 -- the mask of a class has the bit of a token that takes a character of it
-at_class : (masks : List ℕ) (j class r : ℕ) (a b : Bool) (within : Type 0) → class ≡ r → b ≡ a → IsBitSet (mask_at masks r) j ↔ (within × IsTrue a) → IsBitSet (mask_at masks class) j ↔ (within × IsTrue b)
+at_class : (masks : List ℕ) (j class r : ℕ) (a b : Bool) (within : Type 0) → class ≡ r → b ≡ a → IsBitSet
+    (mask_at masks r) j ↔ (within × IsTrue a) → IsBitSet (mask_at masks class) j ↔ (within × IsTrue b)
 at_class masks j class r a b within e f h = rw (e, f) h
 
 wider : (bit within below is : Type 0) → within ↔ below → bit ↔ (within × is) → bit ↔ (below × is)
@@ -157,22 +164,28 @@ module _ (a k : ℕ) (xs ys : List ℕ) (within : a + k ≤ length xs) (long : l
 
 module _ (tokens : List Token) (start : ℕ) (p : Partition) (is : IsPartition p) (case : Bool) where
   -- a row is where it is written
-  pub IsRow-placed : (a : ℕ) (xs ys : List ℕ) → a + columns_of p ≤ length xs → length ys ≡ columns_of p → IsRow tokens start p case ys 0 → IsRow tokens start p case (put_mid a (columns_of p) xs ys) a
+  pub IsRow-placed : (a : ℕ) (xs ys : List ℕ) → a + columns_of p ≤ length xs → length ys ≡ columns_of p → IsRow tokens
+      start p case ys 0 → IsRow tokens start p case (put_mid a (columns_of p) xs ys) a
   IsRow-placed a xs ys within long row = record {
     takes = λ o opening c j same lt.
         let at : 0 + class_of p o opening c ≡ class_of p o opening c = omega arith in
-        rw (placed a (columns_of p) xs ys within long (class_of p o opening c) (class-below o opening p is c), ← at) (row.takes o opening c j same lt);
+        rw (placed a (columns_of p) xs ys within long (class_of p o opening c) (class-below o opening p is c), ← at)
+        (row.takes o opening c j same lt);
   }
 
   -- and those before it stay
-  pub IsRow-before : (a at : ℕ) (xs ys : List ℕ) → a + columns_of p ≤ length xs → length ys ≡ columns_of p → at + columns_of p ≤ a → IsRow tokens start p case xs at → IsRow tokens start p case (put_mid a (columns_of p) xs ys) at
+  pub IsRow-before : (a at : ℕ) (xs ys : List ℕ) → a + columns_of p ≤ length xs → length ys ≡ columns_of p
+      → at + columns_of p ≤ a → IsRow tokens start p case xs at → IsRow tokens start p case
+      (put_mid a (columns_of p) xs ys) at
   IsRow-before a at xs ys within long earlier row = record {
     takes = λ o opening c j same lt.
-        rw (before a (columns_of p) xs ys within long (at + class_of p o opening c) (omega (arith, earlier, class-below o opening p is c))) (row.takes o opening c j same lt);
+        rw (before a (columns_of p) xs ys within long (at + class_of p o opening c)
+        (omega (arith, earlier, class-below o opening p is c))) (row.takes o opening c j same lt);
   }
 
 -- what is after a part that is written stays
-pub past : (a k : ℕ) (xs ys : List ℕ) → a + k ≤ length xs → length ys ≡ k → (r : ℕ) → a + k ≤ r → mask_at (put_mid a k xs ys) r ≡ mask_at xs r
+pub past : (a k : ℕ) (xs ys : List ℕ) → a + k ≤ length xs → length ys ≡ k → (r : ℕ) → a + k ≤ r → mask_at
+    (put_mid a k xs ys) r ≡ mask_at xs r
 past a k xs ys within long r le =
     let front : length (take a xs) ≡ a = length-take-le a xs (omega arith) in
     let rest : k + (r - a - k) ≡ r - a = omega arith in
@@ -185,4 +198,14 @@ past a k xs ys within long r le =
 pub length-written : (a k : ℕ) (xs ys : List ℕ) → a + k ≤ length xs → length ys ≡ k → length (put_mid a k xs ys) ≡ length xs
 length-written a k xs ys within long =
     let front : length (take a xs) ≡ a = length-take-le a xs (omega arith) in
-    omega (arith, within, long, front, length-append (take a xs) (ys ++ post_of a k xs), length-append ys (post_of a k xs), length-drop k (drop a xs), length-drop a xs)
+    omega (
+      arith,
+      within,
+      long,
+      front,
+      length-append (take a xs) (ys ++ post_of a k xs),
+      length-append ys
+          (post_of a k xs),
+      length-drop k (drop a xs),
+      length-drop a xs,
+    )

@@ -1,4 +1,4 @@
--- Characters that are the same case-insensitively.
+-- Case-insensitive equality of characters, by the bit in which upper and lower case differ.
 use Rattle.std.proofs.Common.{◌≡◌, ℕ, ◌+◌, ◌-◌, ◌*◌, ◌^◌, ◌<◌, ◌≤◌, ◌⊎◌, ◌∙◌, Bool, false, ◌==◌, bit_or, ap, sym, inl, inr, ⊎_elim, arith}
 use Rattle.std.proofs.lemmas.Bool.{both_ways, or_from, and_right, ne_eqb, eq-eqb, cases_lt}
 use Rattle.std.proofs.lemmas.Nat.{or_block}
@@ -10,7 +10,8 @@ use Rattle.glob_text.specs.Characters.{slash}
 pub lower_cases : (c : ℕ) → ((65 ≤ c) × (c ≤ 90) × (to_ascii_lowercase c ≡ c + 32)) ⊎ (((c < 65) ⊎ (90 < c)) × (to_ascii_lowercase c ≡ c))
 lower_cases c =
     ⊎_elim (λ lt. inr (inl lt, (lowercase_is c).1 lt))
-    (λ from. ⊎_elim (λ below. inl (omega arith, omega arith, (lowercase_is c).0 (omega arith, omega arith))) (λ above. inr (inr (omega arith), (lowercase_is c).2 (omega arith))) (cases_lt c 91))
+    (λ from. ⊎_elim (λ below. inl (omega arith, omega arith, (lowercase_is c).0 (omega arith, omega arith)))
+    (λ above. inr (inr (omega arith), (lowercase_is c).2 (omega arith))) (cases_lt c 91))
     (cases_lt c 65)
 
 -- case-sensitively or not, no other character is the same as `/`
@@ -18,7 +19,8 @@ pub same-slash : (case : Bool) (c : ℕ) → (c == slash) ≡ false → (is_same
 same-slash case c e =
     let lower = lower_cases c in
     let kept = lower_cases slash in (
-      or_from (slash == c) _ (ne_eqb slash c (λ is. other (sym is))) (and_right _ (to_ascii_lowercase slash == to_ascii_lowercase c) (ne_eqb _ _ (λ is. other (omega arith)))),
+      or_from (slash == c) _ (ne_eqb slash c (λ is. other (sym is))) (and_right _ (to_ascii_lowercase slash ==
+          to_ascii_lowercase c) (ne_eqb _ _ (λ is. other (omega arith)))),
       or_from (c == slash) _ e (and_right _ (to_ascii_lowercase c == to_ascii_lowercase slash) (ne_eqb _ _ (λ is. other (omega arith)))),
     )
   where
@@ -33,7 +35,8 @@ case_set c =
     let r = c - 64 in
     let large : c ≡ 2 * 2 ^ 5 + r = omega arith in
     let other : to_ascii_lowercase c ≡ 3 * 2 ^ 5 + r = omega arith in
-    ap (λ n. bit_or n 32) large ∙ or_block 5 2 1 r 0 (omega arith) (omega arith) ∙ sym (ap (λ n. bit_or n 32) other ∙ or_block 5 3 1 r 0 (omega arith) (omega arith)))
+    ap (λ n. bit_or n 32) large ∙ or_block 5 2 1 r 0 (omega arith) (omega arith) ∙ sym (ap (λ n. bit_or n 32) other
+    ∙ or_block 5 3 1 r 0 (omega arith) (omega arith)))
     (λ (apart, same). ap (λ n. bit_or n 32) (sym same))
     (lower_cases c)
 

@@ -1,4 +1,4 @@
--- What the computations tell of a text. A proof about literals computes their answer by `refl`.
+-- Acceptance and matches from computed answers, which `refl` proves for literal texts.
 use Rattle.std.proofs.Common.{◌≡◌, ◌∙◌, true, false, List, Decides, Ok, Err, sym}
 use Rattle.std.proofs.lemmas.Bool.{false≢true}
 use Rattle.glob_text.specs.Text.{Text}
@@ -25,7 +25,10 @@ refused_by_reading text fault e accepted = no_fault text fault accepted (fault_b
 
 -- The computed answer is yes exactly for the texts that the pattern matches.
 pub match_decided : (o : MatchOptions) (pattern text : Text) → Decides (is_match o pattern text) (Matches o pattern text)
-match_decided o pattern text = Decides-Matches o pattern text (λ tokens. ((reading_of-Ok pattern tokens).1, (reading_of-Ok pattern tokens).0))
+match_decided o pattern text = Decides-Matches o pattern text (λ tokens. (
+  (reading_of-Ok pattern tokens).1,
+  (reading_of-Ok pattern tokens).0,
+))
 
 -- A pattern matches a text for which the computed answer is yes.
 pub match_by_computing : (o : MatchOptions) (pattern text : Text) → is_match o pattern text ≡ true → Matches o pattern text

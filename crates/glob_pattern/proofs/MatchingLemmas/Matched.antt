@@ -1,5 +1,5 @@
--- What makes a text a match of a pattern, and what a match has. `Matches`, `TokensMatch` and `IsShort` are closed
--- elsewhere.
+-- When a pattern matches a text, and what a match has, for proofs in which `Matches`, `TokensMatch` and `IsShort` are
+-- opaque.
 use Rattle.std.proofs.Common.{◌≡◌, ◌<◌, List, length, arith}
 use Rattle.std.specs.List.{concat}
 use Rattle.glob_text.specs.Text.{Text}
@@ -12,22 +12,26 @@ use Rattle.glob_pattern.proofs.GrammarLemmas.Accepted.{length-HasTokens}
 use Rattle.glob_pattern.proofs.GrammarLemmas.Accepting.{accepted_by_tokens, tokens_of_accepted}
 
 -- Tokens match a text that splits into allowed pieces.
-pub tokens_match_by_pieces : (o : MatchOptions) (tokens : List Token) (text : Text) (pieces : List Text) → concat pieces ≡ text → AreAllowed o text 0 tokens pieces → TokensMatch o tokens text
+pub tokens_match_by_pieces : (o : MatchOptions) (tokens : List Token) (text : Text) (pieces : List Text)
+    → concat pieces ≡ text → AreAllowed o text 0 tokens pieces → TokensMatch o tokens text
 unfolding TokensMatch
 tokens_match_by_pieces o tokens text pieces is allowed = (pieces, is, allowed)
 
 -- A text that tokens match splits so.
-pub pieces_of_match : (o : MatchOptions) (tokens : List Token) (text : Text) → TokensMatch o tokens text → (pieces : List Text) × (concat pieces ≡ text) × AreAllowed o text 0 tokens pieces
+pub pieces_of_match : (o : MatchOptions) (tokens : List Token) (text : Text) → TokensMatch o tokens text →
+    (pieces : List Text) × (concat pieces ≡ text) × AreAllowed o text 0 tokens pieces
 unfolding TokensMatch
 pieces_of_match o tokens text match = match
 
 -- A pattern matches what its tokens match.
-pub match_by_tokens : (o : MatchOptions) (pattern text : Text) (tokens : List Token) → HasTokens pattern tokens → TokensMatch o tokens text → Matches o pattern text
+pub match_by_tokens : (o : MatchOptions) (pattern text : Text) (tokens : List Token) → HasTokens pattern tokens
+    → TokensMatch o tokens text → Matches o pattern text
 unfolding Matches
 match_by_tokens o pattern text tokens has match = (tokens, has, match)
 
 -- A pattern that matches a text has tokens, which match it.
-pub tokens_of_match : (o : MatchOptions) (pattern text : Text) → Matches o pattern text → (tokens : List Token) × HasTokens pattern tokens × TokensMatch o tokens text
+pub tokens_of_match : (o : MatchOptions) (pattern text : Text) → Matches o pattern text → (tokens : List Token)
+    × HasTokens pattern tokens × TokensMatch o tokens text
 unfolding Matches
 tokens_of_match o pattern text matches = matches
 

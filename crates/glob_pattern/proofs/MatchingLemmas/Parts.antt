@@ -1,5 +1,6 @@
--- Parts of a text that tokens split: a character less at either end, and the tokens of a whole text.
-use Rattle.std.proofs.Common.{◌≡◌, ℕ, zero, suc, ◌+◌, ◌<◌, ◌≤◌, ◌↔◌, ◌==◌, Bool, true, List, [], ◌∷◌, ◌++◌, length, map, take, get_or, IsTrue, refl, sym, ap, ap₂, subst, subst₂, ◌∙◌, inl, inr, ⊎_elim, arith}
+-- Parts of a text that tokens split: with a character less at either end, and up to the whole text.
+use Rattle.std.proofs.Common.{◌≡◌, ℕ, zero, suc, ◌+◌, ◌<◌, ◌≤◌, ◌↔◌, ◌==◌, Bool, true, List, [], ◌∷◌, ◌++◌, length, map}
+use Rattle.std.proofs.Common.{take, get_or, IsTrue, refl, sym, ap, ap₂, subst, subst₂, ◌∙◌, inl, inr, ⊎_elim, arith}
 use Rattle.std.proofs.lemmas.List.{get_or-map, get_or_append_left, get_or-take, get_or_at, length-append, length-map, length-take-le}
 use Rattle.std.proofs.lemmas.Bool.{cases_eq}
 use Rattle.glob_text.specs.Characters.{slash}
@@ -38,19 +39,30 @@ module _ (o : MatchOptions) (opening : Bool) (t : Token) (ts : List Token) (c : 
   takes-shift n k = ap (λ b. takes o b (get_or cs k 0) (get_or ts n AnyChar)) (opens-shift opening c cs k)
 
   reach-shift : (shape : Shape) (others : List Shape) (i j : ℕ)
-      → MayReach (table_within opening o (t ∷ ts) (c ∷ cs)) shape others (suc i) (suc j) ↔ MayReach (table_within (c == slash) o ts cs) shape others i j
+      → MayReach (table_within opening o (t ∷ ts) (c ∷ cs)) shape others (suc i) (suc j) ↔ MayReach (table_within
+      (c == slash) o ts cs) shape others i j
   unfolding table_within
   reach-shift One others i j = (λ e. omega arith, λ e. omega arith)
   reach-shift Run others i j = (λ le. omega arith, λ le. omega arith)
   reach-shift Deep others i j = (
-    λ (le, ends). (omega arith, ⊎_elim inl (λ more. inr (⊎_elim (λ e. inl (omega arith)) (λ at. inr (sym (opens-shift opening c cs j) ∙ at)) more)) ends),
-    λ (le, ends). (omega arith, ⊎_elim inl (λ more. inr (⊎_elim (λ e. inl (omega arith)) (λ at. inr (opens-shift opening c cs j ∙ at)) more)) ends),
+    λ (le, ends). (
+      omega arith,
+      ⊎_elim inl (λ more. inr (⊎_elim (λ e. inl (omega arith))
+          (λ at. inr (sym (opens-shift opening c cs j) ∙ at)) more)) ends,
+    ),
+    λ (le, ends). (
+      omega arith,
+      ⊎_elim inl (λ more. inr (⊎_elim (λ e. inl (omega arith))
+          (λ at. inr (opens-shift opening c cs j ∙ at)) more)) ends,
+    ),
   )
 
-  all-to_rest : (n i k : ℕ) → TakesAll (table_within opening o (t ∷ ts) (c ∷ cs)) (suc n) (suc i) (suc k) → TakesAll (table_within (c == slash) o ts cs) n i k
+  all-to_rest : (n i k : ℕ) → TakesAll (table_within opening o (t ∷ ts) (c ∷ cs)) (suc n) (suc i) (suc k) → TakesAll
+      (table_within (c == slash) o ts cs) n i k
   all-to_rest n i k all j low high = sym (takes-shift n j) ∙ all (suc j) (omega arith) (omega arith)
 
-  all-from_rest : (n i k : ℕ) → TakesAll (table_within (c == slash) o ts cs) n i k → TakesAll (table_within opening o (t ∷ ts) (c ∷ cs)) (suc n) (suc i) (suc k)
+  all-from_rest : (n i k : ℕ) → TakesAll (table_within (c == slash) o ts cs) n i k → TakesAll (table_within opening o
+      (t ∷ ts) (c ∷ cs)) (suc n) (suc i) (suc k)
   all-from_rest n i k all = each
     where
       each : (j : ℕ) → suc i ≤ j → j < suc k → IsTrue ((table_within opening o (t ∷ ts) (c ∷ cs)).takes (suc n) j)
@@ -59,7 +71,8 @@ module _ (o : MatchOptions) (opening : Bool) (t : Token) (ts : List Token) (c : 
 
   module _ (one : shape_of t ≡ One) where
     PrefixSplits-to_rest : (n k : ℕ) → PrefixSplits (table_within opening o (t ∷ ts) (c ∷ cs)) (map shape_of (t ∷ ts)) (suc n) k
-        → IsTrue ((table_within opening o (t ∷ ts) (c ∷ cs)).takes 0 0) × (j : ℕ) × (k ≡ suc j) × PrefixSplits (table_within (c == slash) o ts cs) (map shape_of ts) n j
+        → IsTrue ((table_within opening o (t ∷ ts) (c ∷ cs)).takes 0 0) × (j : ℕ) × (k ≡ suc j) × PrefixSplits
+        (table_within (c == slash) o ts cs) (map shape_of ts) n j
     unfolding PrefixSplits
     PrefixSplits-to_rest zero k (i, start, reach, all) =
         let next : k ≡ i + 1 = rw one at reach in
@@ -74,35 +87,53 @@ module _ (o : MatchOptions) (opening : Bool) (t : Token) (ts : List Token) (c : 
           (
             j,
             before,
-            (reach-shift (get_or (map shape_of ts) n One) _ j m).0 (subst₂ (MayReach (table_within opening o (t ∷ ts) (c ∷ cs)) (get_or (map shape_of ts) n One) _) e at reach),
+            (reach-shift (get_or (map shape_of ts) n One) _ j m).0 (subst₂ (MayReach (table_within opening o (t ∷ ts)
+                (c ∷ cs)) (get_or (map shape_of ts) n One) _) e at reach),
             all-to_rest n j m (subst₂ (TakesAll (table_within opening o (t ∷ ts) (c ∷ cs)) (suc n)) e at all),
           ),
         )
 
-    PrefixSplits-from_rest : (n j : ℕ) → IsTrue ((table_within opening o (t ∷ ts) (c ∷ cs)).takes 0 0) → PrefixSplits (table_within (c == slash) o ts cs) (map shape_of ts) n j
+    PrefixSplits-from_rest : (n j : ℕ) → IsTrue ((table_within opening o (t ∷ ts) (c ∷ cs)).takes 0 0) → PrefixSplits
+        (table_within (c == slash) o ts cs) (map shape_of ts) n j
         → PrefixSplits (table_within opening o (t ∷ ts) (c ∷ cs)) (map shape_of (t ∷ ts)) (suc n) (suc j)
     unfolding PrefixSplits
-    PrefixSplits-from_rest zero j took start =
-        (0, refl, rw one (omega arith), λ p low high. let at : 0 ≡ p = omega arith in subst (λ q. IsTrue ((table_within opening o (t ∷ ts) (c ∷ cs)).takes 0 q)) at took)
-    PrefixSplits-from_rest (suc n) j took (i, prefix, reach, all) =
-        (suc i, PrefixSplits-from_rest n i took prefix, (reach-shift (get_or (map shape_of ts) n One) _ i j).1 reach, all-from_rest n i j all)
+    PrefixSplits-from_rest zero j took start = (
+      0,
+      refl,
+      rw one (omega arith),
+      λ p low high. let at : 0 ≡ p = omega arith in subst
+          (λ q. IsTrue ((table_within opening o (t ∷ ts) (c ∷ cs)).takes 0 q)) at took,
+    )
+    PrefixSplits-from_rest (suc n) j took (i, prefix, reach, all) = (
+      suc i,
+      PrefixSplits-from_rest n i took prefix,
+      (reach-shift (get_or (map shape_of ts) n One) _ i j).1 reach,
+      all-from_rest n i j all,
+    )
 
     -- a first token of one character takes the first, and leaves the rest to the others
-    pub SplitsPart-first : (n : ℕ) → SplitsPart o opening (t ∷ ts) (suc n) (c ∷ cs) ↔ (IsTrue (takes o opening c t) × SplitsPart o (c == slash) ts n cs)
+    pub SplitsPart-first : (n : ℕ) → SplitsPart o opening (t ∷ ts) (suc n) (c ∷ cs) ↔ (IsTrue (takes o opening c t)
+        × SplitsPart o (c == slash) ts n cs)
     unfolding SplitsPart table_within
     SplitsPart-first n = (
       λ splits. let (took, j, e, rest) = PrefixSplits-to_rest n (suc (length cs)) splits in
-          let at : j ≡ length cs = omega arith in (took, subst (PrefixSplits (table_within (c == slash) o ts cs) (map shape_of ts) n) at rest),
+          let at : j ≡ length cs = omega arith in (
+            took,
+            subst (PrefixSplits (table_within (c == slash) o ts cs)
+                (map shape_of ts) n) at rest,
+          ),
       λ (took, rest). PrefixSplits-from_rest n (length cs) took rest,
     )
 
 -- but there has to be one
-pub SplitsPart-first_none : (o : MatchOptions) (opening : Bool) (t : Token) (ts : List Token) (n : ℕ) → shape_of t ≡ One → SplitsPart o opening (t ∷ ts) (suc n) [] → ⊥
+pub SplitsPart-first_none : (o : MatchOptions) (opening : Bool) (t : Token) (ts : List Token) (n : ℕ) → shape_of t ≡
+    One → SplitsPart o opening (t ∷ ts) (suc n) [] → ⊥
 unfolding SplitsPart
 SplitsPart-first_none o opening t ts n one splits =
     let some = some-first (table_within opening o (t ∷ ts) []) (map shape_of (t ∷ ts)) n 0 one splits in omega arith
 
-module _ (o : MatchOptions) (opening : Bool) (tokens : List Token) (n : ℕ) (within : n < length tokens) (single : shape_of (get_or tokens n AnyChar) ≡ One) where
+module _ (o : MatchOptions) (opening : Bool) (tokens : List Token) (n : ℕ) (within : n < length tokens)
+    (single : shape_of (get_or tokens n AnyChar) ≡ One) where
   one-at : get_or (map shape_of tokens) n One ≡ One
   one-at = get_or-map shape_of tokens n AnyChar One within ∙ single
 
@@ -119,20 +150,26 @@ module _ (o : MatchOptions) (opening : Bool) (tokens : List Token) (n : ℕ) (wi
       opens = opens-front;
     }
 
-    takes-last : (table_within opening o tokens (cs ++ c ∷ [])).takes n (length cs) ≡ takes o (opens_within opening cs (length cs)) c (get_or tokens n AnyChar)
+    takes-last : (table_within opening o tokens (cs ++ c ∷ [])).takes n (length cs) ≡ takes o (opens_within opening cs
+        (length cs)) c (get_or tokens n AnyChar)
     unfolding table_within
-    takes-last = ap₂ (λ b d. takes o b d (get_or tokens n AnyChar)) (opens-front (length cs) (omega arith)) (get_or_at cs c [] 0 (length cs) refl)
+    takes-last = ap₂ (λ b d. takes o b d (get_or tokens n AnyChar)) (opens-front (length cs) (omega arith))
+        (get_or_at cs c [] 0 (length cs) refl)
 
     -- a last token of one character takes the last, and leaves the rest to those before it
-    pub SplitsPart-last : SplitsPart o opening tokens (suc n) (cs ++ c ∷ []) ↔ (IsTrue (takes o (opens_within opening cs (length cs)) c (get_or tokens n AnyChar)) × SplitsPart o opening tokens n cs)
+    pub SplitsPart-last : SplitsPart o opening tokens (suc n) (cs ++ c ∷ []) ↔
+        (IsTrue (takes o (opens_within opening cs (length cs)) c (get_or tokens n AnyChar)) × SplitsPart o opening
+        tokens n cs)
     unfolding SplitsPart
     SplitsPart-last =
         let shapes = map shape_of tokens in
         let long : length (cs ++ c ∷ []) ≡ suc (length cs) = omega (arith, length-append cs (c ∷ [])) in
         let fewer = PrefixSplits-same _ _ shapes n (length cs) same-front in
         subst (λ k. PrefixSplits (table_within opening o tokens (cs ++ c ∷ [])) shapes (suc n) k
-        ↔ (IsTrue (takes o (opens_within opening cs (length cs)) c (get_or tokens n AnyChar)) × PrefixSplits (table_within opening o tokens cs) shapes n (length cs))) (sym long) (
-          λ splits. let (took, rest) = one-from_PrefixSplits (table_within opening o tokens (cs ++ c ∷ [])) shapes n (length cs) one-at splits in
+        ↔ (IsTrue (takes o (opens_within opening cs (length cs)) c (get_or tokens n AnyChar)) × PrefixSplits
+        (table_within opening o tokens cs) shapes n (length cs))) (sym long) (
+          λ splits. let (took, rest) = one-from_PrefixSplits (table_within opening o tokens (cs ++ c ∷ [])) shapes n
+              (length cs) one-at splits in
               (sym takes-last ∙ took, fewer.0 rest),
           λ (took, rest). PrefixSplits-one (table_within opening o tokens (cs ++ c ∷ [])) shapes n (length cs) one-at (takes-last ∙ took)
               (fewer.1 rest),
@@ -157,13 +194,15 @@ same-whole_text o tokens text m k = record {
 }
 
 -- tokens match a text where all of them split it
-pub TokensMatch-iff_part : (o : MatchOptions) (tokens : List Token) (text : Text) → TokensMatch o tokens text ↔ SplitsPart o true tokens (length tokens) text
+pub TokensMatch-iff_part : (o : MatchOptions) (tokens : List Token) (text : Text) → TokensMatch o tokens text ↔
+    SplitsPart o true tokens (length tokens) text
 unfolding SplitsPart table_of
 TokensMatch-iff_part o tokens text =
     let shapes = map shape_of tokens in
     let n : ℕ = length text in
     let whole : Splits (table_of o tokens text) shapes ↔ PrefixSplits (table_of o tokens text) shapes (length tokens) n =
-    subst (λ m. Splits (table_of o tokens text) shapes ↔ PrefixSplits (table_of o tokens text) shapes m n) (length-map tokens shape_of) (Splits-iff_prefix (table_of o tokens text) shapes) in
+    subst (λ m. Splits (table_of o tokens text) shapes ↔ PrefixSplits (table_of o tokens text) shapes m n)
+    (length-map tokens shape_of) (Splits-iff_prefix (table_of o tokens text) shapes) in
     let within = PrefixSplits-same (table_of o tokens text) (table_within true o tokens text) shapes (length tokens) n
     (same-whole_text o tokens text (length tokens) n) in (
       λ match. within.0 (whole.0 (Splits-from_TokensMatch o tokens text match)),
@@ -182,7 +221,8 @@ SplitsPart-asked o opening tokens n part =
     })
 
 -- fewer of the shapes split some of the characters
-PrefixSplits-fewer : (table : Table) (shapes : List Shape) (n m k : ℕ) → m ≤ n → PrefixSplits table shapes n k → (j : ℕ) × (j ≤ k) × PrefixSplits table shapes m j
+PrefixSplits-fewer : (table : Table) (shapes : List Shape) (n m k : ℕ) → m ≤ n → PrefixSplits table shapes n k →
+    (j : ℕ) × (j ≤ k) × PrefixSplits table shapes m j
 unfolding PrefixSplits
 PrefixSplits-fewer table shapes zero m k le start =
     let none : 0 ≡ m = omega arith in
@@ -210,7 +250,8 @@ same-take o opening tokens text m j = record {
 }
 
 -- fewer of the tokens split the start of the part
-pub SplitsPart-fewer : (o : MatchOptions) (opening : Bool) (tokens : List Token) (n m : ℕ) (text : Text) → m ≤ n → SplitsPart o opening tokens n text → (j : ℕ) × SplitsPart o opening tokens m (take j text)
+pub SplitsPart-fewer : (o : MatchOptions) (opening : Bool) (tokens : List Token) (n m : ℕ) (text : Text) → m ≤ n
+    → SplitsPart o opening tokens n text → (j : ℕ) × SplitsPart o opening tokens m (take j text)
 unfolding SplitsPart
 SplitsPart-fewer o opening tokens n m text within splits =
     let (j, le, fewer) = PrefixSplits-fewer (table_within opening o tokens text) (map shape_of tokens) n m (length text) within splits in

@@ -1,5 +1,6 @@
--- A pattern without wildcards is accepted, and case-sensitively it matches itself alone.
-use Rattle.std.proofs.Common.{◌≡◌, ℕ, ◌<◌, ◌≢◌, ◌↔◌, Bool, true, false, ◌||◌, ◌==◌, ⊎_elim, List, [], ◌∷◌, length, map, flat_map, slice_index, IsTrue, IsFalse, refl, sym, ap, subst, ◌∙◌, arith}
+-- A pattern without wildcards is accepted, and case-sensitively it matches only itself.
+use Rattle.std.proofs.Common.{◌≡◌, ℕ, ◌<◌, ◌≢◌, ◌↔◌, Bool, true, false, ◌||◌, ◌==◌, ⊎_elim, List, [], ◌∷◌, length, map}
+use Rattle.std.proofs.Common.{flat_map, slice_index, IsTrue, IsFalse, refl, sym, ap, subst, ◌∙◌, arith}
 use Rattle.std.proofs.lemmas.Bool.{false≢true, or_parts, or_cases, or_left, eqb-true, eqb-false, eq-eqb, false_from_ne_true}
 use Rattle.std.proofs.lemmas.List.{map-id}
 use Rattle.std.proofs.lemmas.List.Concat.{flat_map_single}
@@ -37,7 +38,7 @@ pub SameTexts-itself : (case : Bool) (xs ys : Text) → xs ≡ ys → SameTexts 
 SameTexts-itself case xs ys e =
     (ap length e, λ k l. or_left (slice_index xs k == slice_index ys k) _ (eq-eqb _ _ (ap (λ zs. slice_index zs k) e)))
 
--- a character that no test finds to be a wildcard is none
+-- a character that passes no test for wildcards is not a wildcard
 not_wildcard : (c : ℕ) → IsFalse (is_wildcard c) → (c ≢ question_mark) × (c ≢ star) × (c ≢ open_bracket)
 not_wildcard c h =
     let outer : IsFalse (c == question_mark || c == star) × IsFalse (c == open_bracket) = or_parts _ _ h in
@@ -51,7 +52,8 @@ itself c = c ∷ []
 -- each character of a pattern without wildcards is a unit
 plain-writes : (pattern : Text) → IsPlain pattern → (k : ℕ) → k < length pattern → WritesUnit itself Literal (slice_index pattern k)
 plain-writes pattern plain k l whole rest f e =
-    UnitAt-plain whole rest f (slice_index pattern k) (not_wildcard _ (false_from_ne_true _ (λ h. false≢true (sym plain ∙ list_any_at is_wildcard pattern k 0 l h)))) e
+    UnitAt-plain whole rest f (slice_index pattern k) (not_wildcard _ (false_from_ne_true _ (λ h. false≢true (sym plain
+    ∙ list_any_at is_wildcard pattern k 0 l h)))) e
 
 -- a text is written as itself
 flat_map-itself : (pattern : Text) → flat_map itself pattern ≡ pattern
@@ -81,7 +83,7 @@ plain_matches_same unique o pattern text plain =
       (λ s. match_by_tokens o pattern text tokens has (TokensMatch-from_SameTexts o Literal (plain-literal o) pattern text s)),
     )
 
--- case-sensitively, that is the pattern alone
+-- case-sensitively, that is only the pattern
 pub plain_matches_itself : TokensAreUnique → PlainMatchesItself
 plain_matches_itself unique o pattern text plain with_case =
     let both : Matches o pattern text ↔ SameTexts o.case_sensitive text pattern = plain_matches_same unique o pattern text plain in (

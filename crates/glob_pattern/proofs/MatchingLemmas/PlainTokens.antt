@@ -1,5 +1,6 @@
--- What plain tokens, and tokens of one character, say of each text that is matched.
-use Rattle.std.proofs.Common.{◌≡◌, ℕ, zero, suc, ◌+◌, ◌<◌, ◌≤◌, Bool, cond, List, [], ◌∷◌, ◌++◌, length, map, slice_index, IsTrue, refl, sym, ap, ap₂, subst, ◌∙◌, arith}
+-- What literals and one-character tokens of a pattern say of every text that it matches.
+use Rattle.std.proofs.Common.{◌≡◌, ℕ, zero, suc, ◌+◌, ◌<◌, ◌≤◌, Bool, cond, List, [], ◌∷◌, ◌++◌, length, map}
+use Rattle.std.proofs.Common.{slice_index, IsTrue, refl, sym, ap, ap₂, subst, ◌∙◌, arith}
 use Rattle.std.proofs.lemmas.List.{length-append, nil_from_length}
 use Rattle.std.proofs.lemmas.List.Folds.{concat-append}
 use Rattle.std.proofs.lemmas.List.Sums.{sum_by-cons}
@@ -26,11 +27,13 @@ allowed-after_front o text k [] rest pieces a =
 allowed-after_front o text k (t ∷ ts) rest [] a = absurd a
 allowed-after_front o text k (t ∷ ts) rest (piece ∷ pieces) (took, form, others) =
     let (before, after, e, allowed, _) = allowed-after_front o text (k + length piece) ts rest pieces others in
-    let at : k + length piece + length (concat before) ≡ k + length (concat (piece ∷ before)) = omega (arith, length-append piece (concat before)) in
+    let at : k + length piece + length (concat before) ≡ k + length (concat (piece ∷ before)) = omega
+    (arith, length-append piece (concat before)) in
     (piece ∷ before, after, ap (λ ps. piece ∷ ps) e, subst (λ i. AreAllowed o text i rest after) at allowed, λ nil. absurd (cc))
 
 -- one more character that is the same
-pub SameTexts-more : (case : Bool) (d c : ℕ) (xs ys : Text) → IsTrue (is_same case d c) → SameTexts case xs ys → SameTexts case (d ∷ xs) (c ∷ ys)
+pub SameTexts-more : (case : Bool) (d c : ℕ) (xs ys : Text) → IsTrue (is_same case d c) → SameTexts case xs ys
+    → SameTexts case (d ∷ xs) (c ∷ ys)
 SameTexts-more case d c xs ys first (lengths, rest) = (omega arith, each)
   where
     each : (k : ℕ) → k < length (c ∷ ys) → IsTrue (is_same case (slice_index (d ∷ xs) k) (slice_index (c ∷ ys) k))

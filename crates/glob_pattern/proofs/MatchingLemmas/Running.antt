@@ -1,4 +1,4 @@
--- What a run over the position sets of a text needs and says.
+-- Running the automaton over a part of a text: what a run needs, and when it needs no questions.
 use Rattle.std.proofs.Common.{◌≡◌, ℕ, ◌^◌, ◌<◌, ◌+◌, ◌*◌, Bool, List, length, map, take, chars, refl, inl, arith}
 use Rattle.std.proofs.lemmas.List.{length-map, length-take-le}
 use Rattle.std.specs.Int.{IsBitSet}
@@ -17,7 +17,8 @@ use Rattle.glob_pattern.proofs.MatchingLemmas.Splits.{TakesAll-none}
 use Rattle.glob_pattern.proofs.PositionLemmas.Running.{whole-by_rest}
 
 -- over the first of some tokens, and a part of a text
-pub CanRun-part : (opening : Bool) (o : MatchOptions) (tokens : List Token) (bytes : List ℕ) (words : List ShapeWord) (span : Span) (k count : ℕ)
+pub CanRun-part : (opening : Bool) (o : MatchOptions) (tokens : List Token) (bytes : List ℕ) (words : List ShapeWord)
+    (span : Span) (k count : ℕ)
     → AreShapeWords (map shape_of tokens) span.end words
     → ((j : ℕ) → IsBitSet span.accepting j → TakesRest (table_within opening o (take span.end tokens) (chars bytes))
     (map shape_of tokens) span.end (63 * word_before span.end + j))

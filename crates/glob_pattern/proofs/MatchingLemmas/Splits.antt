@@ -1,5 +1,6 @@
--- Splits over any table: where they lie, and what a first piece does with one character.
-use Rattle.std.proofs.Common.{◌≡◌, ℕ, zero, suc, ◌+◌, ◌<◌, ◌≤◌, ◌⊎◌, inl, inr, ⊎_elim, List, [], ◌∷◌, replicate, IsTrue, refl, sym, subst, subst₂, arith, le_of_eq, le_trans, add-zero}
+-- Splits over any table: their places, and how one character extends a first piece.
+use Rattle.std.proofs.Common.{◌≡◌, ℕ, zero, suc, ◌+◌, ◌<◌, ◌≤◌, ◌⊎◌, inl, inr, ⊎_elim, List, [], ◌∷◌, replicate, IsTrue}
+use Rattle.std.proofs.Common.{refl, sym, subst, subst₂, arith, le_of_eq, le_trans, add-zero}
 use Rattle.std.proofs.lemmas.Bool.{cases_eq}
 use Rattle.glob_pattern.specs.Matching.Splits.{Table, MayReach, TakesAll, SplitsFrom}
 use Rattle.glob_pattern.specs.declared.matcher.Shape.{Shape}
@@ -36,12 +37,18 @@ SplitsClosed table n shapes i =
     (j : ℕ) × (i < j) × IsTrue (table.opens j) × TakesAll table n i j × SplitsFrom table (n + 1) shapes j
 
 -- a token that takes one character splits off one
-pub SplitsFrom-one : (table : Table) (n : ℕ) (shapes : List Shape) (i : ℕ) → IsTrue (table.takes n i) × SplitsFrom table (n + 1) shapes (i + 1) → SplitsFrom table n (One ∷ shapes) i
+pub SplitsFrom-one : (table : Table) (n : ℕ) (shapes : List Shape) (i : ℕ) → IsTrue (table.takes n i)
+    × SplitsFrom table (n + 1) shapes (i + 1) → SplitsFrom table n (One ∷ shapes) i
 SplitsFrom-one table n shapes i (took, rest) = (i + 1, refl, TakesAll-more table n i (i + 1) took (TakesAll-none table n (i + 1)), rest)
 
 -- and nothing else
-pub one-from_SplitsFrom : (table : Table) (n : ℕ) (shapes : List Shape) (i : ℕ) → SplitsFrom table n (One ∷ shapes) i → IsTrue (table.takes n i) × SplitsFrom table (n + 1) shapes (i + 1)
-one-from_SplitsFrom table n shapes i (j, e, took, rest) = (took i (omega arith) (omega arith), subst (SplitsFrom table (n + 1) shapes) e rest)
+pub one-from_SplitsFrom : (table : Table) (n : ℕ) (shapes : List Shape) (i : ℕ) → SplitsFrom table n (One ∷ shapes) i
+    → IsTrue (table.takes n i) × SplitsFrom table (n + 1) shapes (i + 1)
+one-from_SplitsFrom table n shapes i (j, e, took, rest) = (
+  took i (omega arith) (omega arith),
+  subst (SplitsFrom table
+      (n + 1) shapes) e rest,
+)
 
 -- any number of characters is among all
 pub SplitsMany-within : (table : Table) (n : ℕ) (shapes : List Shape) (i : ℕ) → SplitsMany table n shapes i → i ≤ table.characters
@@ -52,20 +59,24 @@ pub SplitsClosed-within : (table : Table) (n : ℕ) (shapes : List Shape) (i : �
 SplitsClosed-within table n shapes i (j, low, opens, took, rest) = le_trans low (SplitsFrom-within table (n + 1) shapes j rest)
 
 -- none is taken, or one and then any number
-pub SplitsMany-cases : (table : Table) (n : ℕ) (shapes : List Shape) (i : ℕ) → SplitsMany table n shapes i → SplitsFrom table (n + 1) shapes i ⊎ (IsTrue (table.takes n i) × SplitsMany table n shapes (i + 1))
+pub SplitsMany-cases : (table : Table) (n : ℕ) (shapes : List Shape) (i : ℕ) → SplitsMany table n shapes i
+    → SplitsFrom table (n + 1) shapes i ⊎ (IsTrue (table.takes n i) × SplitsMany table n shapes (i + 1))
 SplitsMany-cases table n shapes i (j, low, took, rest) =
     ⊎_elim (λ e. inl (subst (SplitsFrom table (n + 1) shapes) (sym e) rest))
     (λ other. inr (took i (omega arith) (omega arith), (j, omega arith, (λ k l h. took k (omega arith) h), rest)))
     (cases_eq i j)
 
 -- and the other way round
-pub SplitsMany-from : (table : Table) (n : ℕ) (shapes : List Shape) (i : ℕ) → SplitsFrom table (n + 1) shapes i ⊎ (IsTrue (table.takes n i) × SplitsMany table n shapes (i + 1)) → SplitsMany table n shapes i
+pub SplitsMany-from : (table : Table) (n : ℕ) (shapes : List Shape) (i : ℕ) → SplitsFrom table (n + 1) shapes i ⊎
+    (IsTrue (table.takes n i) × SplitsMany table n shapes (i + 1)) → SplitsMany table n shapes i
 SplitsMany-from table n shapes i =
     ⊎_elim (λ rest. (i, omega arith, TakesAll-none table n i, rest))
     (λ more. (more.1.0, omega (arith, more.1.1), TakesAll-more table n i more.1.0 more.0 more.1.2, more.1.3))
 
 -- one is taken, and the piece ends there or goes on
-pub SplitsClosed-cases : (table : Table) (n : ℕ) (shapes : List Shape) (i : ℕ) → SplitsClosed table n shapes i → IsTrue (table.takes n i) × ((IsTrue (table.opens (i + 1)) × SplitsFrom table (n + 1) shapes (i + 1)) ⊎ SplitsClosed table n shapes (i + 1))
+pub SplitsClosed-cases : (table : Table) (n : ℕ) (shapes : List Shape) (i : ℕ) → SplitsClosed table n shapes i → IsTrue
+    (table.takes n i) × ((IsTrue (table.opens (i + 1)) × SplitsFrom table (n + 1) shapes (i + 1)) ⊎ SplitsClosed table
+    n shapes (i + 1))
 SplitsClosed-cases table n shapes i (j, low, opens, took, rest) = (
   took i (omega arith) (omega arith),
   ⊎_elim (λ e. inl (subst (λ k. IsTrue (table.opens k)) (sym e) opens, subst (SplitsFrom table (n + 1) shapes) (sym e) rest))
@@ -74,7 +85,9 @@ SplitsClosed-cases table n shapes i (j, low, opens, took, rest) = (
 )
 
 -- and the other way round
-pub SplitsClosed-from : (table : Table) (n : ℕ) (shapes : List Shape) (i : ℕ) → IsTrue (table.takes n i) × ((IsTrue (table.opens (i + 1)) × SplitsFrom table (n + 1) shapes (i + 1)) ⊎ SplitsClosed table n shapes (i + 1)) → SplitsClosed table n shapes i
+pub SplitsClosed-from : (table : Table) (n : ℕ) (shapes : List Shape) (i : ℕ) → IsTrue (table.takes n i) ×
+    ((IsTrue (table.opens (i + 1)) × SplitsFrom table (n + 1) shapes (i + 1)) ⊎ SplitsClosed table n shapes (i + 1))
+    → SplitsClosed table n shapes i
 SplitsClosed-from table n shapes i (took, more) =
     ⊎_elim (λ here. (i + 1, omega arith, here.0, TakesAll-more table n i (i + 1) took (TakesAll-none table n (i + 1)), here.1))
     (λ later. (later.0, omega (arith, later.1), later.2, TakesAll-more table n i later.0 took later.3, later.4)) more
@@ -88,37 +101,52 @@ pub many-from_last_deep : (table : Table) (n i : ℕ) → SplitsFrom table n (De
 many-from_last_deep table n i (j, reach, took, rest) = (j, reach.0, took, rest)
 
 -- a `**` that others follow is empty or ends where a place opens
-pub SplitsFrom-deep : (table : Table) (n : ℕ) (shape : Shape) (shapes : List Shape) (i : ℕ) → SplitsFrom table (n + 1) (shape ∷ shapes) i ⊎ SplitsClosed table n (shape ∷ shapes) i → SplitsFrom table n (Deep ∷ shape ∷ shapes) i
+pub SplitsFrom-deep : (table : Table) (n : ℕ) (shape : Shape) (shapes : List Shape) (i : ℕ) → SplitsFrom table (n + 1)
+    (shape ∷ shapes) i ⊎ SplitsClosed table n (shape ∷ shapes) i → SplitsFrom table n (Deep ∷ shape ∷ shapes) i
 SplitsFrom-deep table n shape shapes i =
     ⊎_elim (λ rest. (i, (omega arith, inr (inl refl)), TakesAll-none table n i, rest))
     (λ closed. (closed.0, (omega (arith, closed.1), inr (inr closed.2)), closed.3, closed.4))
 
 -- and nothing else
-pub deep-from_SplitsFrom : (table : Table) (n : ℕ) (shape : Shape) (shapes : List Shape) (i : ℕ) → SplitsFrom table n (Deep ∷ shape ∷ shapes) i → SplitsFrom table (n + 1) (shape ∷ shapes) i ⊎ SplitsClosed table n (shape ∷ shapes) i
+pub deep-from_SplitsFrom : (table : Table) (n : ℕ) (shape : Shape) (shapes : List Shape) (i : ℕ) → SplitsFrom table n
+    (Deep ∷ shape ∷ shapes) i → SplitsFrom table (n + 1) (shape ∷ shapes) i ⊎ SplitsClosed table n (shape ∷ shapes) i
 deep-from_SplitsFrom table n shape shapes i (j, reach, took, rest) =
     ⊎_elim (λ e. inl (subst (SplitsFrom table (n + 1) (shape ∷ shapes)) (sym e) rest))
-    (λ other. inr (j, omega (arith, reach.0), ⊎_elim (λ e. absurd (no_shape shape shapes e)) (⊎_elim (λ e. absurd (other (sym e))) (λ o. o)) reach.1, took, rest))
+    (λ other. inr (
+      j,
+      omega (arith, reach.0),
+      ⊎_elim (λ e. absurd (no_shape shape shapes e))
+          (⊎_elim (λ e. absurd (other (sym e))) (λ o. o)) reach.1,
+      took,
+      rest,
+    ))
     (cases_eq i j)
   where
     no_shape : (s : Shape) (ss : List Shape) → s ∷ ss ≡ [] → ⊥
     no_shape s ss e = cc
 
 -- tokens that take one character each take the characters one by one, up to the end
-pub SplitsFrom-ones : (table : Table) (m n i : ℕ) → i + m ≡ table.characters → ((k : ℕ) → k < m → IsTrue (table.takes (n + k) (i + k))) → SplitsFrom table n (replicate m One) i
+pub SplitsFrom-ones : (table : Table) (m n i : ℕ) → i + m ≡ table.characters → ((k : ℕ) → k < m → IsTrue
+    (table.takes (n + k) (i + k))) → SplitsFrom table n (replicate m One) i
 SplitsFrom-ones table zero n i e took = omega arith
 SplitsFrom-ones table (suc m) n i e took =
     let first : IsTrue (table.takes n i) = subst₂ (λ x y. IsTrue (table.takes x y)) (add-zero n) (add-zero i) (took 0 (omega arith)) in
-    SplitsFrom-one table n (replicate m One) i
-    (first, SplitsFrom-ones table m (n + 1) (i + 1) (omega arith) (λ k l. subst₂ (λ x y. IsTrue (table.takes x y)) (next n k) (next i k) (took (suc k) (omega arith))))
+    SplitsFrom-one table n (replicate m One) i (
+      first,
+      SplitsFrom-ones table m (n + 1) (i + 1) (omega arith) (λ k l. subst₂ (λ x y. IsTrue (table.takes x y))
+          (next n k) (next i k) (took (suc k) (omega arith))),
+    )
   where
     next : (a k : ℕ) → a + suc k ≡ a + 1 + k
     next a k = omega arith
 
 -- and nothing else
-pub ones-from_SplitsFrom : (table : Table) (m n i : ℕ) → SplitsFrom table n (replicate m One) i → (i + m ≡ table.characters) × ((k : ℕ) → k < m → IsTrue (table.takes (n + k) (i + k)))
+pub ones-from_SplitsFrom : (table : Table) (m n i : ℕ) → SplitsFrom table n (replicate m One) i →
+    (i + m ≡ table.characters) × ((k : ℕ) → k < m → IsTrue (table.takes (n + k) (i + k)))
 ones-from_SplitsFrom table zero n i h = (omega arith, λ k l. absurd (omega arith))
 ones-from_SplitsFrom table (suc m) n i h =
-    let one : IsTrue (table.takes n i) × SplitsFrom table (n + 1) (replicate m One) (i + 1) = one-from_SplitsFrom table n (replicate m One) i h in
+    let one : IsTrue (table.takes n i) × SplitsFrom table (n + 1) (replicate m One) (i + 1) = one-from_SplitsFrom table
+    n (replicate m One) i h in
     let rest : (i + 1 + m ≡ table.characters) × ((k : ℕ) → k < m → IsTrue (table.takes (n + 1 + k) (i + 1 + k))) =
     ones-from_SplitsFrom table m (n + 1) (i + 1) one.1 in
     (omega (arith, rest.0), took one.0 rest.1)
@@ -126,6 +154,7 @@ ones-from_SplitsFrom table (suc m) n i h =
     next : (a k : ℕ) → a + 1 + k ≡ a + suc k
     next a k = omega arith
 
-    took : IsTrue (table.takes n i) → ((k : ℕ) → k < m → IsTrue (table.takes (n + 1 + k) (i + 1 + k))) → (k : ℕ) → k < suc m → IsTrue (table.takes (n + k) (i + k))
+    took : IsTrue (table.takes n i) → ((k : ℕ) → k < m → IsTrue (table.takes (n + 1 + k) (i + 1 + k))) → (k : ℕ)
+        → k < suc m → IsTrue (table.takes (n + k) (i + k))
     took first later zero l = subst₂ (λ x y. IsTrue (table.takes x y)) (sym (add-zero n)) (sym (add-zero i)) first
     took first later (suc k) l = subst₂ (λ x y. IsTrue (table.takes x y)) (next n k) (next i k) (later k (omega arith))

@@ -1,5 +1,6 @@
--- Stepping through a text.
-use Rattle.std.proofs.Common.{◌≡◌, ℕ, suc, ◌+◌, ◌-◌, ◌<◌, ◌≤◌, Bool, false, ◌∷◌, length, drop, refl, arith, sym, ap, ◌∙◌, slice_index, get_or, ◌==◌, length-drop}
+-- Stepping over a text, one character at a time.
+use Rattle.std.proofs.Common.{◌≡◌, ℕ, suc, ◌+◌, ◌-◌, ◌<◌, ◌≤◌, Bool, false, ◌∷◌, length, drop, refl, arith, sym, ap}
+use Rattle.std.proofs.Common.{◌∙◌, slice_index, get_or, ◌==◌, length-drop}
 use Rattle.std.proofs.Math.Seq.{drop-cons}
 use Rattle.std.proofs.lemmas.Bool.Decides.{nat_tests}
 use Rattle.glob_text.specs.Text.{Text, opens}

@@ -1,4 +1,4 @@
--- What a pattern matches, by its tokens.
+-- A pattern matches exactly what its tokens match.
 use Rattle.std.proofs.Common.{◌≡◌, ◌<◌, ◌↔◌, List, length, ap, subst, arith}
 use Rattle.glob_text.specs.Text.{Text}
 use Rattle.glob_pattern.specs.Grammar.Tokens.{Token}
@@ -10,7 +10,8 @@ use Rattle.glob_pattern.proofs.MatchingLemmas.Matched.{match_by_tokens, tokens_o
 use Rattle.glob_pattern.specs.Matching.Short.{IsShort}
 
 -- a text that the pattern matches is matched by its tokens
-pub TokensMatch-by_pattern : (o : MatchOptions) (pattern text : Text) (tokens : List Token) → HasTokens pattern tokens → Matches o pattern text → TokensMatch o tokens text
+pub TokensMatch-by_pattern : (o : MatchOptions) (pattern text : Text) (tokens : List Token) → HasTokens pattern tokens
+    → Matches o pattern text → TokensMatch o tokens text
 TokensMatch-by_pattern o pattern text tokens read matches =
     let has = tokens_of_match o pattern text matches in
     subst (λ ts. TokensMatch o ts text) (one_reading pattern has.0 tokens has.1 read) has.2

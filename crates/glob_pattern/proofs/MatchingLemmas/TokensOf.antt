@@ -1,4 +1,4 @@
--- The tokens of an accepted pattern, as a value.
+-- The computed tokens of an accepted pattern are those of the grammar.
 use Rattle.std.proofs.Common.{◌≡◌, List, [], sym, ap, subst}
 use Rattle.std.specs.Result.{result_unwrap_or}
 use Rattle.glob_text.specs.Text.{Text}

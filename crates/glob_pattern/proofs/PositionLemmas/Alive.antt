@@ -1,5 +1,6 @@
--- Which numbers of leading shapes are alive at a place, from what was alive at the place before.
-use Rattle.std.proofs.Common.{◌≡◌, ℕ, zero, suc, ◌+◌, ◌<◌, ◌≤◌, ◌≢◌, ◌⊎◌, ◌↔◌, List, [], length, get_or, drop, IsTrue, sym, refl, ap, subst, inl, inr, ⊎_elim, arith, add-one, length-drop}
+-- The positions alive at a place, from those alive one place before.
+use Rattle.std.proofs.Common.{◌≡◌, ℕ, zero, suc, ◌+◌, ◌<◌, ◌≤◌, ◌≢◌, ◌⊎◌, ◌↔◌, List, [], length, get_or, drop, IsTrue}
+use Rattle.std.proofs.Common.{sym, refl, ap, subst, inl, inr, ⊎_elim, arith, add-one, length-drop}
 use Rattle.std.proofs.lemmas.Bool.{cases_eq}
 use Rattle.std.proofs.lemmas.List.{drop_all}
 use Rattle.glob_pattern.specs.Matching.Splits.{Table, TakesAll, MayReach}
@@ -38,7 +39,8 @@ module _ (table : Table) (shapes : List Shape) (n : ℕ) where
   TakesAll-fewer i k all j from below = all j from (omega arith)
 
   -- a piece that may be longer than a character has taken all since it began
-  HasTaken-since : get_or shapes n One ≢ One → (k i : ℕ) → i ≤ k → i ≢ k → PrefixSplits table shapes n i → TakesAll table n i k → HasTaken table shapes n k
+  HasTaken-since : get_or shapes n One ≢ One → (k i : ℕ) → i ≤ k → i ≢ k → PrefixSplits table shapes n i
+      → TakesAll table n i k → HasTaken table shapes n k
   unfolding HasTaken IsAlive
   HasTaken-since grows zero i le ne prefix all = absurd (omega arith)
   HasTaken-since grows (suc k) i le ne prefix all =
@@ -57,7 +59,8 @@ module _ (table : Table) (shapes : List Shape) (n : ℕ) where
   piece-from_taken (suc k) ((i, le, prefix, all, here), takes) = (i, omega arith, prefix, TakesAll-more i k all takes)
 
   -- a piece of one character began right before it
-  one-from_taken : get_or shapes n One ≡ One → (k : ℕ) → HasTaken table shapes n k → (i : ℕ) × (k ≡ i + 1) × PrefixSplits table shapes n i × TakesAll table n i k
+  one-from_taken : get_or shapes n One ≡ One → (k : ℕ) → HasTaken table shapes n k → (i : ℕ) × (k ≡ i + 1)
+      × PrefixSplits table shapes n i × TakesAll table n i k
   unfolding HasTaken IsAlive
   one-from_taken one zero none = absurd none
   one-from_taken one (suc k) ((i, le, prefix, all, here), takes) =
@@ -88,7 +91,9 @@ module _ (table : Table) (shapes : List Shape) (n : ℕ) where
   )
 
   -- a piece that reaches a place came there in one of the two ways
-  ComesWhole-from_piece : (shape : Shape) → get_or shapes n One ≡ shape → n < length shapes → (i k : ℕ) → PrefixSplits table shapes n i → MayReach table shape (drop (suc n) shapes) i k → TakesAll table n i k → ComesWhole table shapes shape n k
+  ComesWhole-from_piece : (shape : Shape) → get_or shapes n One ≡ shape → n < length shapes → (i k : ℕ) → PrefixSplits
+      table shapes n i → MayReach table shape (drop (suc n) shapes) i k → TakesAll table n i k → ComesWhole table
+      shapes shape n k
   ComesWhole-from_piece One is lt i k prefix reach all =
       let e : suc i ≡ k = omega arith in
       inr (subst (HasTaken table shapes n) e (HasTaken-first i prefix (all i (omega arith) (omega arith))), λ deep. cc)
@@ -111,7 +116,9 @@ module _ (table : Table) (shapes : List Shape) (n : ℕ) where
           ends
 
   -- and in either of the two ways a piece reaches it
-  piece-from_ComesWhole : (shape : Shape) → get_or shapes n One ≡ shape → n < length shapes → (k : ℕ) → ComesWhole table shapes shape n k → (i : ℕ) × PrefixSplits table shapes n i × MayReach table shape (drop (suc n) shapes) i k × TakesAll table n i k
+  piece-from_ComesWhole : (shape : Shape) → get_or shapes n One ≡ shape → n < length shapes → (k : ℕ)
+      → ComesWhole table shapes shape n k → (i : ℕ) × PrefixSplits table shapes n i × MayReach table shape
+      (drop (suc n) shapes) i k × TakesAll table n i k
   piece-from_ComesWhole One is lt k (inl (prefix, grows)) = absurd (grows refl)
   piece-from_ComesWhole Run is lt k (inl (prefix, grows)) = (k, prefix, omega arith, TakesAll-none k)
   piece-from_ComesWhole Deep is lt k (inl (prefix, grows)) = (k, prefix, (omega arith, inr (inl refl)), TakesAll-none k)
@@ -125,7 +132,8 @@ module _ (table : Table) (shapes : List Shape) (n : ℕ) where
       (i, prefix, (le, end), all)
 
   -- the step of a position set: whether the first n shapes and the next are whole
-  pub PrefixSplits-step : n < length shapes → (k : ℕ) → PrefixSplits table shapes (suc n) k ↔ ComesWhole table shapes (get_or shapes n One) n k
+  pub PrefixSplits-step : n < length shapes → (k : ℕ) → PrefixSplits table shapes (suc n) k ↔ ComesWhole table shapes
+      (get_or shapes n One) n k
   unfolding PrefixSplits
   PrefixSplits-step lt k = (
     λ (i, prefix, reach, all). ComesWhole-from_piece (get_or shapes n One) refl lt i k prefix reach all,
@@ -152,8 +160,8 @@ module _ (table : Table) (shapes : List Shape) where
       ((IsAlive-step table shapes n (suc k)).0 alive))
   IsAnyAlive-before end k within (inr whole) = inl (PrefixSplits-before end k within whole)
 
-  -- As long as something is alive, each character is asked about: that before place k + 1 raised the count from `old` to
-  -- `new`.
+  -- As long as something is alive, each character is asked about: the one before place k + 1 raised the count from
+  -- `old` to `new`.
   pub asked_more : (end first k next old new : ℕ) → end ≤ length shapes → next ≡ k + 1 → (IsAnyAlive table shapes end next → old < new)
       → (IsAnyAlive table shapes end k → first + k ≤ old) → IsAnyAlive table shapes end next → first + next ≤ new
   asked_more end first k next old new within at more before any =
@@ -165,10 +173,12 @@ module _ (table : Table) (shapes : List Shape) where
   PrefixSplits-none k later h = omega (arith, later, h)
 
   -- where the first m shapes are not whole, and no token from there on has taken the last character, no more are whole
-  pub none_whole : (k m n : ℕ) → m ≤ n → n ≤ length shapes → ¬ (PrefixSplits table shapes m k) → ((t : ℕ) → m ≤ t → t < n → ¬ (HasTaken table shapes t k)) → ¬ (PrefixSplits table shapes n k)
+  pub none_whole : (k m n : ℕ) → m ≤ n → n ≤ length shapes → ¬ (PrefixSplits table shapes m k) → ((t : ℕ) → m ≤ t
+      → t < n → ¬ (HasTaken table shapes t k)) → ¬ (PrefixSplits table shapes n k)
   none_whole k m zero le within none taken h = none (let e : zero ≡ m = omega (arith, le) in subst (λ x. PrefixSplits table shapes x k) e h)
   none_whole k m (suc n) le within none taken h =
-      let step : PrefixSplits table shapes (suc n) k ↔ ComesWhole table shapes (get_or shapes n One) n k = PrefixSplits-step table shapes n (omega (arith, within)) k in
+      let step : PrefixSplits table shapes (suc n) k ↔ ComesWhole table shapes (get_or shapes n One) n k =
+      PrefixSplits-step table shapes n (omega (arith, within)) k in
       ⊎_elim
       (λ e. none (subst (λ x. PrefixSplits table shapes x k) (sym e) h))
       (λ ne.

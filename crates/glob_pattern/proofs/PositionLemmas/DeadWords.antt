@@ -1,5 +1,6 @@
--- Words in which nothing is alive: they take nothing, and stay so unless the word before them comes to its end.
-use Rattle.std.proofs.Common.{◌≡◌, ℕ, zero, suc, ◌+◌, ◌-◌, ◌*◌, ◌/◌, ◌<◌, ◌≤◌, ◌↔◌, List, length, get_or, set, ⊎_elim, arith, length-set, get_or-set_other}
+-- Words with nothing alive: they take nothing, and stay so unless the shapes before them split the characters so far.
+use Rattle.std.proofs.Common.{◌≡◌, ℕ, zero, suc, ◌+◌, ◌-◌, ◌*◌, ◌/◌, ◌<◌, ◌≤◌, ◌↔◌, List, length, get_or, set, ⊎_elim}
+use Rattle.std.proofs.Common.{arith, length-set, get_or-set_other}
 use Rattle.std.proofs.lemmas.Bool.{cases_lt}
 use Rattle.glob_pattern.specs.Matching.Splits.{Table}
 use Rattle.glob_pattern.specs.Private.Prefixes.{PrefixSplits, IsAlive, HasTaken}
@@ -36,7 +37,8 @@ module _ (table : Table) (shapes : List Shape) (end : ℕ) where
       → IsAliveWord table shapes end start k 0
   IsAliveWord-zero start k from fits none taken = record {
     alive = λ j within.
-        let step : IsAlive table shapes (start + j) k ↔ ComesAlive table shapes (get_or shapes (start + j) One) (start + j) k = IsAlive-step table shapes (start + j) k in (
+        let step : IsAlive table shapes (start + j) k ↔ ComesAlive table shapes (get_or shapes (start + j) One)
+        (start + j) k = IsAlive-step table shapes (start + j) k in (
           λ s. absurd (IsBitSet-zero j s),
           λ a. absurd (⊎_elim
               (λ w. none_whole table shapes k start (start + j) (omega arith) (omega (arith, within, fits)) none
@@ -50,7 +52,7 @@ module _ (table : Table) (shapes : List Shape) (end : ℕ) where
     );
   }
 
-  -- the words from number n on, none of which was alive
+  -- the words from number n on, where nothing was alive
   pub AreAlive-zeros : (alive : List ℕ) (n high k : ℕ) → AreAlive table shapes end k 0 n alive → end ≤ length shapes → 63 * (high - 1) ≤ end
       → (n < high → ¬ (PrefixSplits table shapes (63 * n) k))
       → ((t : ℕ) → 63 * n ≤ t → t < 63 * high → t < end → ¬ (HasTaken table shapes t k)) →
@@ -72,7 +74,8 @@ module _ (table : Table) (shapes : List Shape) (end : ℕ) where
 
 module _ (table : Table) (shapes : List Shape) where
   -- questions to neighbouring tokens
-  pub WereAsked-joined : (start mid end k a b c : ℕ) → start ≤ mid → mid ≤ end → WereAsked table shapes start mid k a b → WereAsked table shapes mid end k b c → WereAsked table shapes start end k a c
+  pub WereAsked-joined : (start mid end k a b c : ℕ) → start ≤ mid → mid ≤ end → WereAsked table shapes start mid k a b
+      → WereAsked table shapes mid end k b c → WereAsked table shapes start end k a c
   WereAsked-joined start mid end k a b c low high first rest = record {
     monotone = omega (arith, first.monotone, rest.monotone);
     most = omega (arith, first.most, rest.most, low, high);
@@ -83,7 +86,8 @@ module _ (table : Table) (shapes : List Shape) where
   }
 
   -- none, where they have taken nothing
-  pub WereAsked-none : (start end k count : ℕ) → ((t : ℕ) → start ≤ t → t < end → ¬ (HasTaken table shapes t k)) → WereAsked table shapes start end k count count
+  pub WereAsked-none : (start end k count : ℕ) → ((t : ℕ) → start ≤ t → t < end → ¬ (HasTaken table shapes t k))
+      → WereAsked table shapes start end k count count
   WereAsked-none start end k count none = record {
     monotone = omega arith;
     most = omega arith;

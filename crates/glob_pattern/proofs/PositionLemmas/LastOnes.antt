@@ -1,4 +1,4 @@
--- Splits by the first of some shapes: what they depend on, and where one of these is of one character.
+-- Splits by leading shapes depend only on the characters before a place; a one-character shape needs a character.
 use Rattle.std.proofs.Common.{◌≡◌, ℕ, zero, suc, ◌+◌, ◌<◌, ◌≤◌, ◌↔◌, List, get_or, IsTrue, sym, subst, ◌∙◌, inl, inr, ⊎_elim, arith}
 use Rattle.glob_pattern.specs.Matching.Splits.{Table, MayReach}
 use Rattle.glob_pattern.specs.Private.Prefixes.{PrefixSplits}
@@ -14,10 +14,12 @@ pub record SameBefore (table other : Table) (m k : ℕ) : Type 0 where
 pub SameBefore-back : (table other : Table) (m k : ℕ) → SameBefore table other m k → SameBefore other table m k
 SameBefore-back table other m k same = record { takes = λ n j few lt. sym (same.takes n j few lt); opens = λ j le. sym (same.opens j le) }
 
-MayReach-same : (table other : Table) (shape : Shape) (others : List Shape) (i j : ℕ) → table.opens j ≡ other.opens j → MayReach table shape others i j → MayReach other shape others i j
+MayReach-same : (table other : Table) (shape : Shape) (others : List Shape) (i j : ℕ) → table.opens j ≡ other.opens j
+    → MayReach table shape others i j → MayReach other shape others i j
 MayReach-same table other One others i j same reach = reach
 MayReach-same table other Run others i j same reach = reach
-MayReach-same table other Deep others i j same (le, ends) = (le, ⊎_elim inl (λ more. inr (⊎_elim inl (λ opens. inr (sym same ∙ opens)) more)) ends)
+MayReach-same table other Deep others i j same (le, ends) =
+    (le, ⊎_elim inl (λ more. inr (⊎_elim inl (λ opens. inr (sym same ∙ opens)) more)) ends)
 
 -- so these split the same of the characters
 PrefixSplits-other : (table other : Table) (shapes : List Shape) (m until n k : ℕ) → SameBefore table other m until → n ≤ m → k ≤ until
@@ -49,7 +51,8 @@ some-first table shapes (suc n) k one (i, prefix, reach, all) =
 
 module _ (table : Table) (shapes : List Shape) where
   -- a last shape of one character has taken the last character
-  pub one-from_PrefixSplits : (n k : ℕ) → get_or shapes n One ≡ One → PrefixSplits table shapes (suc n) (suc k) → IsTrue (table.takes n k) × PrefixSplits table shapes n k
+  pub one-from_PrefixSplits : (n k : ℕ) → get_or shapes n One ≡ One → PrefixSplits table shapes (suc n) (suc k)
+      → IsTrue (table.takes n k) × PrefixSplits table shapes n k
   unfolding PrefixSplits
   one-from_PrefixSplits n k one (i, prefix, reach, all) =
       let next : suc k ≡ i + 1 = rw one at reach in
@@ -57,7 +60,8 @@ module _ (table : Table) (shapes : List Shape) where
       (all k (omega arith) (omega arith), subst (PrefixSplits table shapes n) at prefix)
 
   -- and one that takes it may be added
-  pub PrefixSplits-one : (n k : ℕ) → get_or shapes n One ≡ One → IsTrue (table.takes n k) → PrefixSplits table shapes n k → PrefixSplits table shapes (suc n) (suc k)
+  pub PrefixSplits-one : (n k : ℕ) → get_or shapes n One ≡ One → IsTrue (table.takes n k) → PrefixSplits table shapes n
+      k → PrefixSplits table shapes (suc n) (suc k)
   unfolding PrefixSplits
   PrefixSplits-one n k one takes prefix =
       (k, prefix, rw one (omega arith), λ j low high. let at : k ≡ j = omega arith in subst (λ p. IsTrue (table.takes n p)) at takes)

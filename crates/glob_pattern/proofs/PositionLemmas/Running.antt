@@ -1,5 +1,6 @@
--- A run over a position set: at its start, after a character, and where a wildcard takes the rest.
-use Rattle.std.proofs.Common.{◌≡◌, ℕ, zero, suc, ◌+◌, ◌-◌, ◌*◌, ◌^◌, ◌<◌, ◌≤◌, ◌≢◌, ◌↔◌, Bool, false, true, IsTrue, List, [], ◌∷◌, length, get_or, drop, bit_and, refl, sym, subst, inl, inr, ⊎_elim, arith}
+-- A run over position sets: its start, its steps, and when a last wildcard takes all that is left.
+use Rattle.std.proofs.Common.{◌≡◌, ℕ, zero, suc, ◌+◌, ◌-◌, ◌*◌, ◌^◌, ◌<◌, ◌≤◌, ◌≢◌, ◌↔◌, Bool, false, true, IsTrue}
+use Rattle.std.proofs.Common.{List, [], ◌∷◌, length, get_or, drop, bit_and, refl, sym, subst, inl, inr, ⊎_elim, arith}
 use Rattle.std.proofs.Math.Nat.{le_refl, le_trans, le-add_right}
 use Rattle.std.specs.Int.{IsBitSet, trailing_zeros, w64}
 use Rattle.std.proofs.lemmas.Bool.{cases_eq, false≢true}
@@ -7,7 +8,8 @@ use Rattle.std.proofs.lemmas.Nat.{and_le_l, and_le_r}
 use Rattle.std.proofs.lemmas.List.{drop_all}
 use Rattle.glob_pattern.specs.Matching.Splits.{Table, MayReach}
 use Rattle.glob_pattern.specs.Private.Prefixes.{PrefixSplits, IsAlive, HasTaken, IsAnyAlive}
-use Rattle.glob_pattern.specs.Private.Positions.{IsShapeWord, AreShapeWords, AreAlive, TakesRest, WereAsked, HasRun, HasDecided, word_before}
+use Rattle.glob_pattern.specs.Private.Positions.{IsShapeWord, AreShapeWords, AreAlive, TakesRest, WereAsked, HasRun}
+use Rattle.glob_pattern.specs.Private.Positions.{HasDecided, word_before}
 use Rattle.glob_pattern.proofs.Counts.{mul-left, room-after}
 use Rattle.glob_pattern.proofs.PositionLemmas.Alive.{asked_more}
 use Rattle.glob_pattern.proofs.PositionLemmas.DeadPlaces.{dead-from_none}
@@ -58,13 +60,23 @@ module _ (table : Table) (shapes : List Shape) (end : ℕ) where
       → PrefixSplits table shapes end table.characters
   unfolding PrefixSplits IsAlive
   whole-by_rest n k rest within (i, le, prefix, before, here) =
-      let whole : PrefixSplits table shapes (suc n) table.characters = (i, prefix, reach (get_or shapes n One) refl rest.free.grows, λ j low high. rest.takes j (omega arith) high) in
+      let whole : PrefixSplits table shapes (suc n) table.characters = (
+        i,
+        prefix,
+        reach (get_or shapes n One) refl
+            rest.free.grows,
+        λ j low high. rest.takes j (omega arith) high,
+      ) in
       subst (λ m. PrefixSplits table shapes m table.characters) rest.free.last whole
     where
       reach : (shape : Shape) → get_or shapes n One ≡ shape → shape ≢ One → MayReach table shape (drop (suc n) shapes) i table.characters
       reach One is ne = absurd (ne refl)
       reach Run is ne = omega arith
-      reach Deep is ne = (omega arith, inl (let all : length shapes ≤ suc n = omega (arith, rest.free.ends is, rest.free.last) in rw drop_all refl))
+      reach Deep is ne = (
+        omega arith,
+        inl (let all : length shapes ≤ suc n = omega
+            (arith, rest.free.ends is, rest.free.last) in rw drop_all refl),
+      )
 
 module _ (table : Table) (shapes : List Shape) (span : Span) (first k count : ℕ) (alive : List ℕ)
     (run : HasRun table shapes span.end first k count alive) (within : span.end ≤ length shapes) where
@@ -93,13 +105,15 @@ module _ (table : Table) (shapes : List Shape) (span : Span) (first k count : �
   }
 
   -- one in which a position is alive that takes all that is left
-  pub HasDecided-accepting : word_before span.end < length alive → get_or alive (word_before span.end) 0 < 2 ^ 64 → 0 < bit_and (get_or alive (word_before span.end) 0) span.accepting
+  pub HasDecided-accepting : word_before span.end < length alive → get_or alive (word_before span.end) 0 < 2 ^ 64
+      → 0 < bit_and (get_or alive (word_before span.end) 0) span.accepting
       → ((j : ℕ) → IsBitSet span.accepting j → TakesRest table shapes span.end (63 * word_before span.end + j))
       → HasDecided table shapes span first count true
   HasDecided-accepting some fits meets accepting =
       let w = word_before span.end in
       let j = trailing_zeros w64 (bit_and (get_or alive w 0) span.accepting) in
-      let (lt, set, none) = lowest_set (bit_and (get_or alive w 0) span.accepting) meets (omega (arith, and_le_l (get_or alive w 0) span.accepting, fits)) in
+      let (lt, set, none) = lowest_set (bit_and (get_or alive w 0) span.accepting) meets
+      (omega (arith, and_le_l (get_or alive w 0) span.accepting, fits)) in
       let both = (IsBitSet-and (get_or alive w 0) span.accepting j).0 set in
       let rest = accepting j both.1 in
       let here = (run.alive.word w (omega arith) some).alive j (omega (arith, rest.free.last)) in
@@ -110,13 +124,7 @@ module _ (table : Table) (shapes : List Shape) (span : Span) (first k count : �
         monotone = run.monotone;
       }
 
--- the list of one word
-pub words-alone : (words : List ShapeWord) (d : ShapeWord) → length words ≡ 1 → words ≡ get_or words 0 d ∷ []
-words-alone [] d one = absurd (omega (arith, one))
-words-alone (word ∷ []) d one = refl
-words-alone (word ∷ next ∷ others) d one = absurd (omega (arith, one))
-
--- the word of all shapes before an end, which is alone
+-- a single word with all shapes before an end
 pub one-word : (shapes : List Shape) (end : ℕ) (word : ShapeWord) → end < 64 → end ≤ length shapes → IsShapeWord shapes end 0 word
     → AreShapeWords shapes end (word ∷ [])
 one-word shapes end word few within is = record {

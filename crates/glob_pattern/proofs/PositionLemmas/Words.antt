@@ -1,5 +1,7 @@
--- Words of 63 shapes after a character, from the tokens that have taken it.
-use Rattle.std.proofs.Common.{◌≡◌, ℕ, zero, suc, ◌+◌, ◌-◌, ◌*◌, ◌%◌, ◌^◌, ◌<◌, ◌≤◌, ◌≢◌, ◌⊎◌, ◌↔◌, Bool, false, IsTrue, nat_eq, not, List, [], ◌∷◌, length, get_or, set, bit_and, bit_or, sym, subst, get_or-set_other, get_or-set_same, ◌/◌, inl, inr, ⊎_elim, arith, add-zero, add-suc}
+-- Words of 63 shapes after a character, given the tokens that took it.
+use Rattle.std.proofs.Common.{◌≡◌, ℕ, zero, suc, ◌+◌, ◌-◌, ◌*◌, ◌%◌, ◌^◌, ◌<◌, ◌≤◌, ◌≢◌, ◌⊎◌, ◌↔◌, Bool, false, IsTrue}
+use Rattle.std.proofs.Common.{nat_eq, not, List, [], ◌∷◌, length, get_or, set, bit_and, bit_or, sym, subst}
+use Rattle.std.proofs.Common.{get_or-set_other, get_or-set_same, ◌/◌, inl, inr, ⊎_elim, arith, add-zero, add-suc}
 use mir.Val.{bool_byte}
 use Rattle.std.specs.Int.Count.{ones}
 use Rattle.std.proofs.lemmas.Bool.{cases_eq, eqb-true, eq-eqb, eqb-false, ne_eqb, not-true, false≢true}
@@ -11,7 +13,9 @@ use Rattle.glob_pattern.specs.Private.Positions.{word_end, IsShapeWord, IsAliveW
 use Rattle.glob_pattern.proofs.PositionLemmas.Alive.{MayEnd, ComesAlive, ComesWhole, IsAlive-step, PrefixSplits-step, HasTaken-none}
 use Rattle.glob_pattern.proofs.PositionLemmas.DeadPlaces.{dead-later}
 use Rattle.glob_pattern.proofs.PositionLemmas.Spreading.{spread}
-use Rattle.glob_pattern.proofs.BitLemmas.SetBits.{IsBitSet-cases, IsBitSet-or, IsBitSet-and, IsBitSet-zero, IsBitSet-spread_low, IsBitSet-spread_next, IsBitSet-moved_low, IsBitSet-moved_next, bit_below, highest_set}
+use Rattle.glob_pattern.proofs.BitLemmas.SetBits.{IsBitSet-cases, IsBitSet-or, IsBitSet-and, IsBitSet-zero}
+use Rattle.glob_pattern.proofs.BitLemmas.SetBits.{IsBitSet-spread_low, IsBitSet-spread_next, IsBitSet-moved_low}
+use Rattle.glob_pattern.proofs.BitLemmas.SetBits.{IsBitSet-moved_next, bit_below, highest_set}
 use Rattle.glob_pattern.proofs.BitLemmas.LowestBits.{ones_within}
 use Rattle.glob_pattern.specs.declared.matcher.Shape.{Shape}
 use Rattle.glob_pattern.specs.declared.matcher.Shape.TheVariants.{One, Deep}
@@ -42,7 +46,8 @@ module _ (table : Table) (shapes : List Shape) (end start : ℕ) (word : ShapeWo
   ones-in_word alive short = ones_within (word_end end start - start) (bit_and alive word.tokens)
       (λ j set. let within = asked-in_word alive short j set in omega arith)
 
-  module _ (p alive took : ℕ) (answers : (j : ℕ) → j < 64 → IsBitSet took j ↔ (IsBitSet (bit_and alive word.tokens) j × IsTrue (table.takes (start + j) (p - 1)))) where
+  module _ (p alive took : ℕ) (answers : (j : ℕ) → j < 64 → IsBitSet took j ↔ (IsBitSet (bit_and alive word.tokens) j
+      × IsTrue (table.takes (start + j) (p - 1)))) where
     -- what the tokens answer that are alive
     pub IsTakenWord-asked : 0 < p → IsAliveWord table shapes end start (p - 1) alive → IsTakenWord table shapes end start p took
     unfolding HasTaken
@@ -76,13 +81,23 @@ module _ (table : Table) (shapes : List Shape) (end start : ℕ) (word : ShapeWo
 
     -- the tokens of the word whose pieces may end
     ending-may : (j : ℕ) → start + j < word_end end start
-        → IsBitSet ending j ↔ (HasTaken table shapes (start + j) k × (get_or shapes (start + j) One ≡ Deep → MayEnd table shapes (start + j) k))
+        → IsBitSet ending j ↔ (HasTaken table shapes (start + j) k × (get_or shapes (start + j) One ≡ Deep
+        → MayEnd table shapes (start + j) k))
     ending-may j within =
         let bound = are.recursive j (omega arith) in
         let token = taken.taken j within in
         let ending_bit = ends j (omega arith) in (
-          λ h. (token.0 (ending_bit.0 h).0, λ deep. ⊎_elim (λ here. inr (rw at at here)) (λ free. inl (last (λ more. free (bound.1 (within, deep, more))))) (ending_bit.0 h).1),
-          λ (took_it, may). ending_bit.1 (token.1 took_it, ⊎_elim (λ set. ⊎_elim (λ e. absurd (let lim = (bound.0 set).2 in omega arith)) (λ here. inl (rw at here)) (may (bound.0 set).1)) inr (IsBitSet-cases word.recursive j)),
+          λ h. (
+            token.0 (ending_bit.0 h).0,
+            λ deep. ⊎_elim (λ here. inr (rw at at here))
+                (λ free. inl (last (λ more. free (bound.1 (within, deep, more))))) (ending_bit.0 h).1,
+          ),
+          λ (took_it, may). ending_bit.1 (
+            token.1 took_it,
+            ⊎_elim (λ set. ⊎_elim (λ e. absurd (let lim =
+                (bound.0 set).2 in omega arith)) (λ here. inl (rw at here)) (may (bound.0 set).1)) inr
+                (IsBitSet-cases word.recursive j),
+          ),
         )
       where
         last : (start + j + 1 < length shapes → ⊥) → suc (start + j) ≡ length shapes
@@ -116,13 +131,15 @@ module _ (table : Table) (shapes : List Shape) (end start : ℕ) (word : ShapeWo
         (λ h. prefix.0 (same.0 h), λ h. same.1 (prefix.1 h))
 
     -- what the word says after the character, where `closed` has the positions to which those spread that have begun
-    pub IsAliveWord-stepped : (closed : ℕ) → ((j : ℕ) → j < 64 → IsBitSet closed j ↔ IsBitSet (spread (begun_of ending whole) word.wildcards 0) j)
+    pub IsAliveWord-stepped : (closed : ℕ) → ((j : ℕ) → j < 64 → IsBitSet closed j ↔ IsBitSet
+        (spread (begun_of ending whole) word.wildcards 0) j)
         → IsAliveWord table shapes end start k (bit_or (bit_and took word.wildcards) closed)
     IsAliveWord-stepped closed spreads = record {
       alive = λ j within.
           let or = IsBitSet-or (bit_and took word.wildcards) closed j in
           let and = IsBitSet-and took word.wildcards j in
-          let step : IsAlive table shapes (start + j) k ↔ ComesAlive table shapes (get_or shapes (start + j) One) (start + j) k = IsAlive-step table shapes (start + j) k in
+          let step : IsAlive table shapes (start + j) k ↔ ComesAlive table shapes (get_or shapes (start + j) One)
+          (start + j) k = IsAlive-step table shapes (start + j) k in
           let prefix = closed-whole closed spreads j (omega arith) in
           let grows = wildcards-are j within in
           let token = taken.taken j within in (
@@ -133,7 +150,8 @@ module _ (table : Table) (shapes : List Shape) (end start : ℕ) (word : ShapeWo
           let or = IsBitSet-or (bit_and took word.wildcards) closed j in
           let and = IsBitSet-and took word.wildcards j in
           let prefix = rw e at (closed-whole closed spreads j (omega arith)) in (
-            λ h. ⊎_elim (λ s. absurd (let past = ((are.wildcards j (omega arith)).0 (and.0 s).1).0 in omega arith)) (λ c. prefix.0 c) (or.0 h),
+            λ h. ⊎_elim (λ s. absurd (let past = ((are.wildcards j (omega arith)).0 (and.0 s).1).0 in omega arith))
+                (λ c. prefix.0 c) (or.0 h),
             λ w. or.1 (inr (prefix.1 w)),
           );
     }
@@ -209,7 +227,7 @@ module _ (table : Table) (shapes : List Shape) (end k : ℕ) (alive : List ℕ)
       let later : table.characters - k + k ≡ table.characters = omega (arith, le) in
       dead-later table shapes end within (table.characters - k) k (none-in_words all some none) (inr (rw later whole))
 
--- a word that is alone
+-- a single word
 pub AreAlive-alone : (table : Table) (shapes : List Shape) (end k word : ℕ) → IsAliveWord table shapes end 0 k word
     → AreAlive table shapes end k 0 1 (word ∷ [])
 AreAlive-alone table shapes end k word says = record {

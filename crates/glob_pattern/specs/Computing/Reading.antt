@@ -1,4 +1,4 @@
--- Reading a pattern, as a computation: its tokens or its fault.
+-- Reading a pattern, as a computation: its tokens, or its fault.
 use Rattle.std.specs.Prelude.{◌≡◌, ℕ, zero, suc, ◌+◌, ◌||◌, not, nat_le, ◌==◌, if◌then◌else◌, List, [], ◌∷◌, length, drop, slice_index, Option, Some, None, Result, Ok, Err, option_map, ⊤}
 use Rattle.std.specs.List.{position_from}
 use Rattle.glob_text.specs.Characters.{slash}
@@ -12,7 +12,7 @@ use Rattle.glob_pattern.specs.declared.error.PatternRefusal.TheVariants.{Syntax,
 use Rattle.glob_pattern.specs.declared.token.bracket.Entry.{Entry}
 use Rattle.glob_pattern.specs.declared.token.Token.TheVariants.{Literal, AnyChar, AnySequence, Recursive, OneOf, NoneOf}
 
--- the stars at place f as a unit: its token and where it ends
+-- the stars at place f as a unit: its token, and the place after it
 abbrev pub stars_at : Text → ℕ → Option (Token × ℕ)
 stars_at text f =
     if not (has text (f + 1) star) then Some (AnySequence, f + 1)
@@ -36,7 +36,7 @@ bracket_at text f =
     if has text (f + 1) exclamation_mark then bracket_from NoneOf text (f + 2)
     else bracket_from OneOf text (f + 1)
 
--- the unit at place f, which is before the end and has no star right before it
+-- the unit at place f, which must be before the end and not right after a star
 abbrev pub unit_at : Text → ℕ → Option (Token × ℕ)
 unit_at text f =
     if slice_index text f == question_mark then Some (AnyChar, f + 1)
@@ -44,29 +44,29 @@ unit_at text f =
     else if slice_index text f == open_bracket then bracket_at text f
     else Some (Literal (slice_index text f), f + 1)
 
--- the refusal reports this place and this message
+-- the refusal reports this place and message
 abbrev pub IsRefusalAt : (place : ℕ) → (message : List ℕ) → PatternRefusal → Type 0
 IsRefusalAt place message (Syntax e) = (e.pos ≡ place) × (e.msg.now ≡ message)
 IsRefusalAt place message Memory = ⊥
 
--- what a refusal reports where no unit is found at place f: the fault there, or a failed allocation
+-- what a refusal reports if place f has no unit: the fault there, or a failed allocation
 abbrev pub RefusesAt : Text → ℕ → PatternRefusal → Type 0
 RefusesAt text f (Syntax e) =
     (unit_at text f ≡ None) × (e.pos ≡ (fault_at text f).place) × (e.msg.now ≡ (fault_at text f).message)
 RefusesAt text f Memory = ⊤
 
--- a token before those that were read
+-- a token in front of those that were read
 abbrev pub reading_with_first : Token → Result (List Token) Fault → Result (List Token) Fault
 reading_with_first t (Ok ts) = Ok (t ∷ ts)
 reading_with_first t (Err fault) = Err fault
 
--- The unit at place f, if there is one, before what is read from its end on; else the fault.
+-- the unit at place f in front of what is read after it, or the fault at place f if it has no unit
 abbrev pub reading_after_unit : Text → ℕ → (ℕ → Result (List Token) Fault) → Option (Token × ℕ)
     → Result (List Token) Fault
 reading_after_unit text f read None = Err (fault_at text f)
 reading_after_unit text f read (Some (t, e)) = reading_with_first t (read e)
 
--- the tokens of the units from place f on, or the fault, where n is more than the number of characters left
+-- the tokens of the units from place f on, or the fault; n must be more than the number of characters left
 unfoldable pub units_from : ℕ → Text → ℕ → Result (List Token) Fault
 units_from zero text f = Ok []
 units_from (suc n) text f =
@@ -78,6 +78,6 @@ abbrev pub tokens_of_reading : Result (List Token) Fault → Result (List Token)
 tokens_of_reading (Ok units) = Ok (tokens_of_units units)
 tokens_of_reading (Err fault) = Err fault
 
--- the tokens of an accepted text, or the fault of another
+-- the tokens of an accepted text, or the fault of any other
 abbrev pub reading_of : Text → Result (List Token) Fault
 reading_of text = tokens_of_reading (units_from (suc (length text)) text 0)

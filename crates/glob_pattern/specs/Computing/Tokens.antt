@@ -1,4 +1,4 @@
--- The tokens of a pattern, as a value, and their kinds.
+-- The tokens of a pattern as a list, and their kinds.
 use Rattle.std.specs.Prelude.{List, []}
 use Rattle.std.specs.Result.{result_unwrap_or}
 use Rattle.glob_text.specs.Text.{Text}
@@ -8,11 +8,11 @@ use Rattle.glob_pattern.specs.declared.pattern.tokens.TokenKind.{TokenKind}
 use Rattle.glob_pattern.specs.declared.pattern.tokens.TokenKind.TheVariants as kind
 use Rattle.glob_pattern.specs.declared.token.Token.TheVariants.{Literal, AnyChar, AnySequence, Recursive, OneOf, NoneOf}
 
--- the tokens of an accepted text
+-- the tokens of an accepted text; none for any other
 unfoldable pub tokens_of : (pattern : Text) → List Token
 tokens_of pattern = result_unwrap_or (reading_of pattern) []
 
--- what kind of token it is
+-- the kind of a token
 abbrev pub kind_of : Token → TokenKind
 kind_of (Literal c) = kind.Literal
 kind_of AnyChar = kind.AnyChar

@@ -1,4 +1,4 @@
--- The characters that patterns give a meaning, besides `/` and `.`.
+-- The characters with a meaning in patterns, besides `/` and `.`.
 use Rattle.std.specs.Prelude.{ℕ, Bool, ◌||◌, ◌==◌}
 
 -- `*`
@@ -25,6 +25,6 @@ exclamation_mark = 33
 abbrev pub hyphen : ℕ
 hyphen = 45
 
--- `?`, `*` and `[`, with which a unit begins that is no plain character
+-- `?`, `*` or `[`: a unit that begins with one is not a literal
 abbrev pub is_wildcard : ℕ → Bool
 is_wildcard c = c == question_mark || c == star || c == open_bracket

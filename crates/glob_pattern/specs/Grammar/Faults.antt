@@ -1,4 +1,4 @@
--- The fault of a text that is no pattern: its place and its message.
+-- The fault of a text that is not accepted as a pattern: its place and its message.
 use Rattle.std.specs.Prelude.{◌≡◌, ℕ, ◌+◌, ◌-◌, ◌<◌, not, if◌then◌else◌, List, length, codes, bytes_eq, ⊤}
 use Rattle.glob_pattern.specs.Grammar.Characters.{star}
 use Rattle.glob_text.specs.Text.{Text, opens, has}
@@ -9,20 +9,19 @@ use Rattle.glob_pattern.specs.declared.error.PatternErrorKind.TheVariants.{Wildc
 use Rattle.glob_pattern.specs.declared.error.PatternRefusal.{PatternRefusal}
 use Rattle.glob_pattern.specs.declared.error.PatternRefusal.TheVariants.{Syntax, Memory}
 
--- the message for three stars or more, for two stars that are no component of their own, and for a bracket that is not
--- closed
+-- the messages: for three or more stars, for two stars that are not a whole component, and for an unclosed bracket
 abbrev pub message_of : PatternErrorKind → List ℕ
 message_of Wildcards = codes "wildcards are either regular `*` or recursive `**`"
 message_of Recursive = codes "recursive wildcards must form a single path component"
 message_of Range = codes "invalid range pattern"
 
--- the number of a kind, for C and the page
+-- the number of a kind, for C and the web page
 abbrev pub number_of : PatternErrorKind → ℕ
 number_of Wildcards = 0
 number_of Recursive = 1
 number_of Range = 2
 
--- the kind that has the message, or else the last one
+-- the kind with this message, or else `Range`
 abbrev pub kind_of : (message : List ℕ) → PatternErrorKind
 kind_of message =
     if bytes_eq message (message_of Wildcards) then Wildcards
@@ -34,9 +33,9 @@ pub record Fault : Type 0 where
   pub place : ℕ
   pub message : List ℕ
 
--- The fault at place f, where a unit should begin and none does. The character there is a `[` that is not closed, or
--- the first of several stars: of three or more, or of two that are no component of their own, because of what is
--- before them or else because of what follows.
+-- The fault at place f, where a unit should begin and none does: an unclosed `[`, or stars. Three or more stars are
+-- reported at the third. Two stars that are not a whole component are reported at the character before them, if that is
+-- the cause, or else right after them.
 abbrev pub fault_at : Text → ℕ → Fault
 fault_at text f =
     if not (has text f star) then record { place = f; message = message_of Range }
@@ -48,7 +47,7 @@ fault_at text f =
 abbrev pub NoUnitAt : Text → ℕ → Type 0
 NoUnitAt text f = (t : Token) (e : ℕ) → ¬ (UnitAt text f t e)
 
--- The first fault from the left: units reach a place before the end at which none is.
+-- the first fault from the left: there are units up to a place before the end, where none begins
 unfoldable pub IsFault : Text → Fault → Type 0
 IsFault text fault =
     (f : ℕ) × (units : List Token)

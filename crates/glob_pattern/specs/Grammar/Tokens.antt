@@ -1,4 +1,4 @@
--- What the units of a pattern stand for.
+-- Tokens: what the units of a pattern mean.
 use Rattle.std.specs.Prelude.{Bool, true, false, ◌&&◌, if◌then◌else◌, List, [], ◌∷◌}
 use Rattle.glob_pattern.specs.declared.token.bracket.Entry.{Entry}
 use Rattle.glob_pattern.specs.declared.token.Token as kept
@@ -6,7 +6,8 @@ use Rattle.glob_pattern.specs.declared.token.Token.TheVariants.{Literal, AnyChar
 use Rattle.glob_pattern.specs.declared.matcher.Shape.{Shape}
 use Rattle.glob_pattern.specs.declared.matcher.Shape.TheVariants as shape
 
--- A token: a literal character, any one (`?`), any sequence (`*`), a recursive wildcard (`**`), or a bracket with its entries.
+-- A token: a literal, any character (`?`), any sequence (`*`), a recursive wildcard (`**`), or a bracket with its
+-- entries.
 abbrev pub Token : Type 0
 Token = kept.Token (List Entry)
 
@@ -39,13 +40,13 @@ ends_recursive [] = false
 ends_recursive (t ∷ []) = is_recursive t
 ends_recursive (t ∷ u ∷ ts) = ends_recursive (u ∷ ts)
 
--- the tokens of units: neighbouring `**` are one token
+-- the tokens of units: neighbouring `**` become one
 abbrev pub tokens_of_units : List Token → List Token
 tokens_of_units [] = []
 tokens_of_units (t ∷ ts) =
     if is_recursive t && begins_recursive ts then tokens_of_units ts else t ∷ tokens_of_units ts
 
--- which pieces a token may match
+-- which pieces a token can match
 abbrev pub shape_of : Token → Shape
 shape_of (Literal c) = shape.One
 shape_of AnyChar = shape.One

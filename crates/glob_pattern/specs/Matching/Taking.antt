@@ -1,4 +1,4 @@
--- Which token takes which character, under the options.
+-- Which token takes which character under the options.
 use Rattle.std.specs.Prelude.{ℕ, Bool, ◌&&◌, ◌||◌, not, ◌==◌}
 use Rattle.glob_text.specs.Characters.{slash, dot}
 use Rattle.glob_pattern.specs.Grammar.Brackets.{is_same, holds}
@@ -6,15 +6,15 @@ use Rattle.glob_pattern.specs.Grammar.Tokens.{Token}
 use Rattle.glob_pattern.specs.declared.options.MatchOptions.{MatchOptions}
 use Rattle.glob_pattern.specs.declared.token.Token.TheVariants.{Literal, AnyChar, AnySequence, Recursive, OneOf, NoneOf}
 
--- the separator rule excludes c from wildcards: it is a `/`
+-- the separator rule is set and excludes c from wildcards, since it is a `/`
 abbrev pub is_excluded_separator : MatchOptions → ℕ → Bool
 is_excluded_separator o c = o.require_literal_separator && c == slash
 
--- the dot rule excludes c from wildcards: it is a leading dot at a component start
+-- the dot rule is set and excludes c from wildcards, since it is a `.` at a component start
 abbrev pub is_excluded_dot : MatchOptions → (opening : Bool) → ℕ → Bool
 is_excluded_dot o opening c = o.require_literal_leading_dot && opening && c == dot
 
--- some rule is set
+-- a rule is set
 abbrev pub has_rules : MatchOptions → Bool
 has_rules o = o.require_literal_separator || o.require_literal_leading_dot
 

@@ -1,4 +1,4 @@
--- The automaton of some tokens.
+-- The automaton of the first tokens of a list.
 use Rattle.std.specs.Prelude.{◌+◌, ◌*◌, ◌<◌, ◌≤◌, ℕ, List, length, map, take}
 use Rattle.std.specs.Int.{IsBitSet}
 use Rattle.glob_pattern.specs.Grammar.Tokens.{Token, shape_of}
@@ -6,7 +6,8 @@ use Rattle.glob_pattern.specs.Private.CharMasks.{AreCharMasks}
 use Rattle.glob_pattern.specs.Private.Positions.{IsShapeWord, AreShapeWords, EndsFreely, word_before}
 use Rattle.glob_pattern.specs.declared.pattern.automaton.Automaton.{Automaton}
 
--- of the tokens before number `end`, the shapes, the bit of the last if that may end anywhere, and the masks
+-- the automaton has the shapes and the masks of the tokens before `end`, and a bit for the last one only if it may end
+-- anywhere
 pub record IsAutomaton {A : Type 0} (tokens : List Token) (end : ℕ) (a : Automaton A) : Type 0 where
   pub within : end ≤ length tokens
   pub first_word : IsShapeWord (map shape_of tokens) end 0 a.first

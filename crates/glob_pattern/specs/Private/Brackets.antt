@@ -1,4 +1,4 @@
--- How a bracket stores its entries, and the ends of each.
+-- How a bracket stores its entries, and the ends of an entry.
 use Rattle.std.specs.Prelude.{ℕ, List, [], ◌∷◌}
 use Rattle.glob_pattern.specs.declared.token.bracket.Entry.{Entry}
 use Rattle.glob_pattern.specs.declared.token.bracket.Entry.TheVariants.{Single, Range}
@@ -10,7 +10,7 @@ abbrev pub entries_in : {A : Type 0} → Entries A → List Entry
 entries_in (One entry) = entry ∷ []
 entries_in (Many entries) = entries.items
 
--- the first and the last character of an entry; a single character is both
+-- the first and the last character of an entry, which are equal for a single one
 abbrev pub first_of : Entry → ℕ
 first_of (Single x) = x
 first_of (Range x y) = x

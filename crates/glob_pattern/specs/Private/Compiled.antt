@@ -8,7 +8,7 @@ use Rattle.glob_pattern.specs.declared.pattern.automaton.Automaton.{Automaton}
 use Rattle.glob_pattern.specs.declared.pattern.ends.Ends.{Ends}
 use Rattle.glob_pattern.specs.declared.pattern.needle.Needle.{Needle}
 
--- the ends of the tokens, a needle, and the shapes and masks of those between the ends
+-- the ends of the tokens, and a needle and the automaton of those between the ends
 pub record IsCompiled {A : Type 0} (tokens : List Token) (ends : Ends) (needle : Needle) (automaton : Automaton A) : Type 0 where
   pub at_ends : IsEnds tokens ends
   pub inside : IsNeedle (take (length tokens - ends.trail - ends.lead) (drop ends.lead tokens)) needle

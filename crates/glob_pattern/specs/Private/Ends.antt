@@ -1,4 +1,4 @@
--- The ends of a pattern: tokens of one character each, and literals among them, which are compared as bytes.
+-- The ends of a pattern: one-character tokens, and the literals among them, which are compared as bytes.
 use Rattle.std.specs.Prelude.{◌≡◌, ℕ, ◌+◌, ◌-◌, ◌<◌, ◌≤◌, Bool, true, false, List, length, map, take, drop, encode_utf8_all, slice_index_or}
 use Rattle.std.specs.Char.{to_ascii_lowercase}
 use Rattle.glob_text.specs.Text.{Text}
@@ -8,19 +8,19 @@ use Rattle.glob_pattern.specs.declared.matcher.Shape.TheVariants.{One}
 use Rattle.glob_pattern.specs.declared.pattern.ends.Ends.{Ends}
 use Rattle.glob_pattern.specs.declared.token.Token.TheVariants.{Literal}
 
--- the first `lead` shapes and the last `trail` are of one character, and they do not overlap
+-- the first `lead` and the last `trail` shapes are of one character, and do not overlap
 pub record HasOnes (shapes : List Shape) (lead trail : ℕ) : Type 0 where
   pub within : lead + trail ≤ length shapes
   pub first : (j : ℕ) → j < lead → slice_index_or shapes j One ≡ One
   pub last : (i : ℕ) → i < trail → slice_index_or shapes (length shapes - 1 - i) One ≡ One
 
--- the tokens are literals, of so many bytes of UTF-8
+-- the tokens are literals, with this many bytes of UTF-8
 pub record HasLiterals (tokens : List Token) (count : ℕ) : Type 0 where
   pub plain : Text
   pub tokens_are : tokens ≡ map Literal plain
   pub count_is : count ≡ length (encode_utf8_all plain)
 
--- the tokens of one character at both ends, and the literals among them
+-- the one-character tokens at both ends, and the literals among them
 pub record IsEnds (tokens : List Token) (ends : Ends) : Type 0 where
   pub ones : HasOnes (map shape_of tokens) ends.lead ends.trail
   pub few_first : ends.prefix.count ≤ ends.lead
@@ -28,7 +28,7 @@ pub record IsEnds (tokens : List Token) (ends : Ends) : Type 0 where
   pub first : HasLiterals (take ends.prefix.count tokens) ends.prefix.bytes
   pub last : HasLiterals (drop (length tokens - ends.suffix.count) tokens) ends.suffix.bytes
 
--- the bytes are the same, or case-insensitively they are once letters are in lower case
+-- the bytes are equal, or, case-insensitively, equal in lower case
 abbrev pub SameBytes : (case : Bool) → List ℕ → List ℕ → Type 0
 SameBytes true bytes other = bytes ≡ other
 SameBytes false bytes other = map to_ascii_lowercase bytes ≡ map to_ascii_lowercase other

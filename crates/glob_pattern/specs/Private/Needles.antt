@@ -1,4 +1,4 @@
--- Bytes of a pattern that are in each text that it matches.
+-- Needles: bytes of a pattern that every text it matches contains.
 use Rattle.std.specs.Prelude.{◌≡◌, ℕ, ◌+◌, ◌<◌, ◌≤◌, List, ◌++◌, length, map, take, drop, encode_utf8_all, slice_index_or}
 use Rattle.std.specs.Char.{to_ascii_lowercase}
 use Rattle.std.specs.Int.{bit_at}
@@ -7,7 +7,7 @@ use Rattle.glob_pattern.specs.Grammar.Tokens.{Token}
 use Rattle.glob_pattern.specs.declared.pattern.needle.Needle.{Needle}
 use Rattle.glob_pattern.specs.declared.token.Token.TheVariants.{Literal}
 
--- neighbouring tokens are plain characters, of which the needle has the bytes
+-- the needle has the bytes of neighbouring literals
 pub record IsNeedle (tokens : List Token) (needle : Needle) : Type 0 where
   pub front : List Token
   pub plain : Text
@@ -15,13 +15,13 @@ pub record IsNeedle (tokens : List Token) (needle : Needle) : Type 0 where
   pub tokens_are : tokens ≡ front ++ (map Literal plain ++ back)
   pub bytes_are : take needle.len needle.bytes ≡ encode_utf8_all plain
 
--- bit k is set if the kth byte from the place on is x once letters are in lower case
+-- bit k is set if the kth byte from the offset on is x, compared in lower case
 pub record AreLanes (bytes : List ℕ) (from x lanes : ℕ) : Type 0 where
   pub each : (k : ℕ) → k < 16 → from + k < length bytes
       → to_ascii_lowercase (slice_index_or bytes (from + k) 0) ≡ to_ascii_lowercase x
       → bit_at lanes k ≡ 1
 
--- the needle is at the offset, once letters are in lower case
+-- the needle is at the offset, compared in lower case
 pub record IsAt (bytes needle : List ℕ) (offset : ℕ) : Type 0 where
   pub within : offset + length needle ≤ length bytes
   pub folded : map to_ascii_lowercase (take (length needle) (drop offset bytes)) ≡ map to_ascii_lowercase needle

@@ -1,4 +1,4 @@
--- How far prefixes of the shapes reach: what the position sets of a match say.
+-- How far leading shapes reach: what the position sets of a match mean.
 use Rattle.std.specs.Prelude.{◌≡◌, ℕ, zero, suc, ◌<◌, ◌≤◌, ◌≢◌, ◌⊎◌, List, drop, slice_index_or, IsTrue}
 use Rattle.glob_pattern.specs.Matching.Splits.{Table, TakesAll, MayReach}
 use Rattle.glob_pattern.specs.declared.matcher.Shape.{Shape}
@@ -12,18 +12,18 @@ PrefixSplits table shapes (suc n) k =
     × MayReach table (slice_index_or shapes n One) (drop (suc n) shapes) i k
     × TakesAll table n i k
 
--- At place k the first n shapes are alive: they split the characters before it, or fewer, and the rest may begin a
--- piece of the next shape.
+-- Position n is alive at place k: the first n shapes split the characters up to there, or only up to an earlier place,
+-- and the next shape, which is not `One`, has a piece from there on that may go on.
 unfoldable pub IsAlive : Table → List Shape → (n k : ℕ) → Type 0
 IsAlive table shapes n k =
     (i : ℕ) × (i ≤ k) × PrefixSplits table shapes n i × TakesAll table n i k
     × ((i ≡ k) ⊎ (slice_index_or shapes n One ≢ One))
 
--- the first n shapes were alive at the place before place k, and token n takes the character between
+-- position n was alive one place before k, and token n takes the character in between
 unfoldable pub HasTaken : Table → List Shape → (n k : ℕ) → Type 0
 HasTaken table shapes n zero = ⊥
 HasTaken table shapes n (suc k) = IsAlive table shapes n k × IsTrue (table.takes n k)
 
--- at place k something is alive of the shapes before `end`, or all of them split the characters before it
+-- at place k a position before `end` is alive, or all shapes before `end` split the characters up to there
 abbrev pub IsAnyAlive : Table → List Shape → (end k : ℕ) → Type 0
 IsAnyAlive table shapes end k = ((n : ℕ) × (n < end) × IsAlive table shapes n k) ⊎ PrefixSplits table shapes end k

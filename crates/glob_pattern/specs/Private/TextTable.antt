@@ -8,7 +8,7 @@ use Rattle.glob_pattern.specs.Matching.Splits.{Table}
 use Rattle.glob_pattern.specs.declared.options.MatchOptions.{MatchOptions}
 use Rattle.glob_pattern.specs.declared.token.Token.TheVariants.{AnyChar}
 
--- No question is asked past the last token or the last character.
+-- The table of tokens and a text. Nobody asks past the last token or the last character.
 unfoldable pub table_of : MatchOptions → List Token → Text → Table
 table_of o tokens text = record {
   characters = length text;
@@ -18,7 +18,7 @@ table_of o tokens text = record {
       takes o (opens text place) (slice_index text place) (slice_index_or tokens token AnyChar);
 }
 
--- a component begins at the place of a part of a text; `opening`: one begins at its start
+-- a component begins at this place of a part of a text; `opening`: one begins at its start
 abbrev pub opens_within : (opening : Bool) → Text → ℕ → Bool
 opens_within opening part zero = opening
 opens_within opening part (suc k) = slice_index part k == slash

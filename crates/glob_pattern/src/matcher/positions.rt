@@ -1,6 +1,6 @@
-//! A bit-parallel automaton (NFA). Its states are positions: which numbers of leading tokens may have split the
-//! characters so far. Bit n of a word is set where the tokens before the word's nth are done, or the nth has begun and
-//! may go on. A character moves all positions at once.
+//! A bit-parallel automaton (NFA). Its states are positions: position n is alive if the first n tokens split the
+//! characters so far, or if token n has begun a piece that may go on. Each position is a bit, and a character moves all
+//! of them at once.
 ghost use Rattle.std.specs.Prelude.{◌≡◌, ℕ, ◌+◌, ◌*◌, ◌^◌, ◌<◌, ◌≤◌, ◌↔◌, List, [], ◌∷◌, length, slice_index, slice_index_or, IsTrue, IsOk, IfOk, map};
 ghost use Rattle.glob_pattern.specs.Matching.Splits.{Table};
 ghost use Rattle.glob_pattern.specs.Private.Prefixes.{PrefixSplits};
@@ -10,38 +10,26 @@ use super::shape_word::ShapeWord;
 use super::{Judge, Shape, Shaped, WORD};
 use std::alloc::{AllocError, Allocator};
 
-/// Which part of the shapes a run goes over.
+/// The shapes that a run goes over.
 #[derive(Clone, Copy)]
 pub struct Span {
-    /// How many leading shapes have to split all characters. Others may follow, which decide where a last `Deep` ends.
+    /// The number of leading shapes that have to split all characters. Whether shapes follow decides where a last
+    /// `Deep` ends.
     pub end: usize,
-    /// Positions of the word that has the last shape before `end`. Once one is alive, this shape takes all further
-    /// characters.
+    /// Bits in the word of the last shape before `end`: once one is alive, this shape takes all characters that are
+    /// left.
     pub accepting: u64,
 }
 
-/// The words from number `low` up to `high`: nothing is alive in any other.
+/// Words `low..high`. Nothing is alive in any other word.
 #[derive(Clone, Copy)]
 struct Live {
     low: usize,
     high: usize,
 }
 
-impl Span {
-    /// So many shapes, from the first on.
-    pub fn all(count: usize) -> Self
-        ensures end { result.end ≡ count }
-        ensures accepting { result.accepting ≡ 0 }
-    {
-        Span {
-            end: count,
-            accepting: 0,
-        }
-    }
-}
-
-/// Whether the shapes before the span's end split the characters. With one word it allocates nothing, and the call
-/// succeeds. Contracts alone read `tokens`, here and below: no body does.
+/// Whether the shapes before the span's end split the characters. With one word it allocates nothing, and succeeds.
+/// Only contracts read `tokens`, here and below.
 #[inline(always)]
 pub fn decide<A: Allocator + Copy, T: Shaped, J: Judge>(
     alloc: A,
@@ -63,31 +51,17 @@ pub fn decide<A: Allocator + Copy, T: Shaped, J: Judge>(
     ensures same { J.table judge.new ≡ J.table judge.old }
     ensures short { length words.now ≡ 1 → IsOk result }
 {
-    if words.len() == 1 {
-        Ok(run_word(tokens, words[0], span, judge))
-    } else {
-        let mut alive = vec![in alloc; 0; words.len()]?;
-        Ok(run_words(tokens, words, alive.as_mut_slice(), span, judge))
+    match words {
+        [word] if word.is_flat() => Ok(run(tokens, *word, true, span, judge)),
+        [word] => Ok(run(tokens, *word, false, span, judge)),
+        _ => {
+            let mut alive = vec![in alloc; 0; words.len()]?;
+            Ok(run_words(tokens, words, alive.as_mut_slice(), span, judge))
+        }
     }
 }
 
-/// [`decide`] where there is one word. The two loops differ in their step alone.
-#[inline(always)]
-fn run_word<T: Shaped, J: Judge>(tokens: &[T], word: ShapeWord, span: Span, judge: &mut J) -> bool
-    requires { CanRun (J.table judge.old) (map T.shape tokens.now) (word ∷ []) span
-        (J.place judge.old) (J.count judge.old) }
-    ensures decided { HasDecided (J.table judge.old) (map T.shape tokens.now) span
-        (J.count judge.old) (J.count judge.new) result }
-    ensures same { J.table judge.new ≡ J.table judge.old }
-{
-    if word.is_flat() {
-        run(tokens, word, true, span, judge)
-    } else {
-        run(tokens, word, false, span, judge)
-    }
-}
-
-/// [`run_word`], by the step of flat shapes if these are `flat`.
+/// [`decide`] for one word. Flat shapes have a faster step, which `flat` chooses.
 #[inline(always)]
 fn run<T: Shaped, J: Judge>(
     tokens: &[T],
@@ -117,7 +91,7 @@ fn run<T: Shaped, J: Judge>(
     false
 }
 
-/// [`decide`] where there are several words, with room for the position set: a zero for each word.
+/// [`decide`] for several words. `alive` is room for the position set: a zero for each word.
 #[inline(always)]
 fn run_words<T: Shaped, J: Judge>(
     tokens: &[T],
@@ -148,7 +122,7 @@ fn run_words<T: Shaped, J: Judge>(
     false
 }
 
-/// Asks the tokens of word `n` that are alive about the character last stepped over. Returns those that take it.
+/// Asks the tokens of word `n` that are alive about the last character stepped over. Returns those that take it.
 #[inline(always)]
 fn ask<T: Shaped, J: Judge>(
     tokens: &[T],
@@ -170,7 +144,7 @@ fn ask<T: Shaped, J: Judge>(
     judge.takes_each(n, alive & word.tokens)
 }
 
-/// Sets the words, which must be 0, to the position set before the first character.
+/// Sets the words, which must be 0, to the positions before the first character. Returns the live words.
 #[inline(always)]
 fn set_start<T: Shaped>(
     tokens: &[T],
@@ -202,7 +176,7 @@ fn set_start<T: Shaped>(
     }
 }
 
-/// The number of the word that has the last shape before number `end`, if there is one.
+/// The number of the word with the last shape before `end`; 0 if there is no such shape.
 #[inline(always)]
 fn word_before(end: usize) -> usize
     ensures { result ≡ word_before end }
@@ -210,7 +184,7 @@ fn word_before(end: usize) -> usize
     end.saturating_sub(1) / WORD
 }
 
-/// Whether the shapes before number `end` split the characters: whether the position after the last is in the set.
+/// Whether the shapes before `end` split the characters: whether the position after the last one is alive.
 #[inline(always)]
 fn is_whole<T: Shaped>(tokens: &[T], end: usize, alive: &[u64]) -> bool
     requires some { 0 < length alive.now }
@@ -219,13 +193,13 @@ fn is_whole<T: Shaped>(tokens: &[T], end: usize, alive: &[u64]) -> bool
         → AreAlive table (map T.shape tokens.now) end k 0 (length alive.now) alive.now
         → IsTrue result ↔ PrefixSplits table (map T.shape tokens.now) end k }
 {
-    // Where the last word is full this is its last bit.
+    // In a full last word this is the highest bit.
     let word = word_before(end);
     (alive[word] >> (end - WORD * word)) & 1 != 0
 }
 
-/// Steps the words to the judge's place, and returns those that are live there. Words in which nothing is alive are
-/// neither asked nor stepped, unless the word before them has come to its end.
+/// Steps the words to the judge's place. Returns the words that are live there. A word with nothing alive is skipped,
+/// unless the shapes before it split the characters so far.
 #[inline(always)]
 fn step_words<T: Shaped, J: Judge>(
     tokens: &[T],
@@ -261,7 +235,7 @@ fn step_words<T: Shaped, J: Judge>(
     next
 }
 
-/// What is alive in word `n` after the character last stepped over. `opens` and `whole` are as in [`ShapeWord::step`].
+/// What is alive in word `n` after the last character stepped over. `opens` and `whole` are as in [`ShapeWord::step`].
 #[inline(always)]
 fn step_word<T: Shaped, J: Judge>(
     tokens: &[T],
@@ -293,7 +267,7 @@ fn step_word<T: Shaped, J: Judge>(
 }
 
 impl Live {
-    /// These words and number `n`, unless that is 0.
+    /// These words and word `n`, unless that is 0.
     #[inline(always)]
     fn with(self, n: usize, word: u64) -> Self
         requires { n + 1 < 2 ^ 64 }

@@ -1,4 +1,4 @@
-//! The shapes of neighbouring tokens as bits, and one step of a position set over them.
+//! Shapes of neighbouring tokens as bits, and a step of a position set over them.
 ghost use Rattle.std.specs.Prelude.{◌≡◌, ℕ, ◌+◌, ◌-◌, ◌<◌, ◌≤◌, ◌≢◌, ◌⊎◌, ◌↔◌, false, length, map, IsTrue, IfOk};
 ghost use Rattle.std.specs.Int.{IsBitSet};
 ghost use Rattle.glob_pattern.specs.Private.Positions.{IsShapeWord, AreShapeWords, IsFlat, LeadsTo};
@@ -6,18 +6,18 @@ ghost use Rattle.glob_pattern.specs.Private.Positions.{IsShapeWord, AreShapeWord
 use super::{Shape, Shaped, WORD};
 use std::alloc::{AllocError, Allocator};
 
-/// The shapes of 63 neighbouring tokens, or fewer at the end: bit n is of the nth of them.
+/// The shapes of up to 63 neighbouring tokens: bit n is of the nth.
 #[derive(Clone, Copy)]
 pub struct ShapeWord {
-    /// The tokens that there are.
+    /// The bits that have a token.
     pub tokens: u64,
-    /// The wildcards, whose pieces may have any length.
+    /// Wildcards: their pieces may have any length.
     pub wildcards: u64,
-    /// Recursive wildcards that other tokens follow: a piece that is not empty ends at a component start.
+    /// Recursive wildcards before other tokens: a piece is empty or ends where a component starts.
     pub recursive: u64,
 }
 
-/// The words of the tokens before number `end`, at least one. Fails only if allocation fails.
+/// The shape words of the tokens before `end`, at least one word. Fails only if allocation fails.
 pub fn shape_words<A: Allocator + Copy, T: Shaped>(
     alloc: A,
     tokens: &[T],
@@ -42,7 +42,7 @@ impl ShapeWord {
         recursive: 0,
     };
 
-    /// The shapes of the tokens from number `start` up to `end`, or of the first 63 of them.
+    /// The shapes of the tokens from `start` up to `end`, or of the first 63 of them.
     pub fn new<T: Shaped>(tokens: &[T], end: usize, start: usize) -> Self
         requires start { start ≤ end }
         requires end { end ≤ length tokens.now }
@@ -55,7 +55,7 @@ impl ShapeWord {
         word
     }
 
-    /// These shapes and one more, which has others after it or not.
+    /// These shapes and one more. `followed`: other shapes come after it.
     fn with(self, bit: usize, shape: Shape, followed: bool) -> Self
         requires { bit < 64 }
         ensures tokens { (j : ℕ)
@@ -81,14 +81,14 @@ impl ShapeWord {
         word
     }
 
-    /// The positions that are alive after a character, from the tokens that took it. `opens`: a component starts after
-    /// the character. `whole`: the shapes before the first of these split the characters up to there.
+    /// The positions alive after a character, given the tokens that took it. `opens`: a component starts after the
+    /// character. `whole`: the shapes before this word split the characters up to there.
     #[inline(always)]
     pub fn step(self, took: u64, opens: bool, whole: bool) -> u64
         ensures { LeadsTo self took opens whole result }
     {
-        // A piece that ends lets the next token begin. A wildcard that begins may be empty, so that the one after it
-        // begins, too: adding the mask of wildcards carries a bit through each run of them.
+        // Where a piece ends, the next token begins. A wildcard may be empty, so that the token after it begins too:
+        // adding the mask of wildcards carries a bit through neighbouring ones.
         let ending = self.ending(took, opens);
         let begun = (ending << 1) | u64::from(whole);
         let sum = (begun & self.wildcards).wrapping_add(self.wildcards);
@@ -96,15 +96,15 @@ impl ShapeWord {
         (took & self.wildcards) | closed
     }
 
-    /// Whether pieces end anywhere and no two wildcards are neighbours: so in `*a?b*`, but not in `**/*`.
+    /// Whether pieces may end anywhere and no two wildcards are neighbours, as in `*a?b*`, but not in `**/*`.
     pub fn is_flat(self) -> bool
         ensures { IsTrue result → IsFlat self }
     {
         self.recursive == 0 && self.wildcards & (self.wildcards << 1) == 0
     }
 
-    /// [`step`](Self::step) after the first character. If the shapes are `flat`, a piece that ends lets at most one
-    /// wildcard begin after it: a shift takes the place of the sum.
+    /// [`step`](Self::step) for the only word, after a character. With `flat` shapes a piece that ends lets at most one
+    /// wildcard begin, so that a shift replaces the sum.
     #[inline(always)]
     pub fn step_by(self, flat: bool, took: u64, opens: bool) -> u64
         requires { IsTrue flat → IsFlat self }
@@ -118,7 +118,7 @@ impl ShapeWord {
         growing | (begun | ((begun & self.wildcards) << 1))
     }
 
-    /// Of the tokens that took a character, those whose pieces may end after it.
+    /// The tokens among those that took a character whose pieces may end after it.
     #[inline(always)]
     fn ending(self, took: u64, opens: bool) -> u64
         ensures { (j : ℕ) → j < 64

@@ -1,5 +1,4 @@
-//! The automaton of a pattern's tokens between the ends: their shapes as words of bits, and which of them take which
-//! characters.
+//! The automaton of the tokens between a pattern's ends: their shapes as words of bits, and the characters they take.
 ghost use Rattle.std.specs.Prelude.{◌≡◌, ℕ, ◌+◌, ◌*◌, ◌<◌, ◌≤◌, ◌↔◌, Bool, List, [], length, map, take, IsTrue, IsOk, IfOk, chars};
 ghost use Rattle.std.specs.Int.{IsBitSet};
 ghost use Rattle.glob_text.specs.Text.{Text};
@@ -20,20 +19,20 @@ use crate::token::taking::has_rules;
 use std::alloc::{AllocError, Allocator};
 use std::slice;
 
-/// What a run over tokens reads of them besides.
+/// What a run over tokens needs beside the tokens.
 #[derive(Drop)]
 pub struct Automaton<A: Allocator> {
-    // the shapes as bits: those of the first 63 tokens, and if there are more, those of all
+    // the shapes as bits: of the first 63 tokens, and of all tokens if there are more
     first: ShapeWord,
     words: Vec<ShapeWord, A>,
-    // the bit of the last token, in its word, if it is a wildcard whose pieces end anywhere
+    // the bit of the last token in its word, if it is a wildcard whose pieces may end anywhere
     accepting: u64,
     masks: CharMasks<A>,
 }
 
 impl<A: Allocator + Copy> Automaton<A> {
-    /// That of the tokens before number `end`. Of those after them it matters whether there are any: a last `**` ends
-    /// anywhere if there are none. Fails only if allocation fails.
+    /// The automaton of the tokens before `end`. Later tokens matter only to a last `**`: if there are none, it may end
+    /// anywhere. Fails only if allocation fails.
     pub fn new(alloc: A, tokens: &[Token<Bracket<A>>], end: usize) -> Result<Self, AllocError>
         requires { end ≤ length tokens.now }
         ensures { IfOk result (IsAutomaton tokens.now end) }
@@ -52,7 +51,7 @@ impl<A: Allocator + Copy> Automaton<A> {
         })
     }
 
-    /// That of no tokens. It allocates nothing.
+    /// The automaton of no tokens. It allocates nothing.
     pub fn empty(alloc: A) -> Self
         ensures { IsAutomaton [] 0 result }
     {
@@ -64,7 +63,7 @@ impl<A: Allocator + Copy> Automaton<A> {
         }
     }
 
-    /// The same on the same allocator. Fails only if allocation fails.
+    /// A copy on the same allocator. Fails only if allocation fails.
     pub fn clone(&self) -> Result<Self, AllocError>
         ensures { IfOk result (λ a. (tokens : List TokenOf) (end : ℕ)
             → IsAutomaton tokens end self.now → IsAutomaton tokens end a) }
@@ -77,8 +76,8 @@ impl<A: Allocator + Copy> Automaton<A> {
         })
     }
 
-    /// Whether the tokens before number `end` split the text, at whose start a component starts or not, and how many
-    /// questions it took. With at most 63 tokens the call succeeds.
+    /// Whether the tokens before `end` split the text, and how many questions that took. `opening`: a component starts
+    /// at the start of the text. With at most 63 tokens the call succeeds.
     #[inline(always)]
     pub fn matches(
         &self,
@@ -97,7 +96,7 @@ impl<A: Allocator + Copy> Automaton<A> {
         ensures short { end < 64 → IsOk result }
     {
         let accepting = self.accepting(options);
-        // The only token takes all that there may be.
+        // The only token takes everything.
         if end == 1 && accepting != 0 {
             return Ok((true, 0));
         }
@@ -123,7 +122,8 @@ impl<A: Allocator + Copy> Automaton<A> {
         }
     }
 
-    /// The bit of the last token, in its word, if it takes all that is left of any text: once it is alive, they match.
+    /// The bit of the last token in its word, if it takes all that is left of any text: once it is alive, the tokens
+    /// match.
     #[inline(always)]
     fn accepting(&self, options: MatchOptions) -> u64
         ensures ruled { IsTrue (has_rules options) → result ≡ 0 }
@@ -140,7 +140,7 @@ impl<A: Allocator + Copy> Automaton<A> {
     }
 }
 
-/// The bit of the last token before number `end`, in its word, if it is a wildcard whose pieces end anywhere.
+/// The bit of the last token before `end` in its word, if it is a wildcard whose pieces may end anywhere, or else 0.
 fn free_end<A: Allocator>(tokens: &[Token<Bracket<A>>], end: usize) -> u64
     requires { end ≤ length tokens.now }
     ensures { (j : ℕ) → IsBitSet result j

@@ -1,9 +1,9 @@
-//! Masks: for each class of characters, which of 63 neighbouring tokens take its characters.
-ghost use Rattle.std.specs.Prelude.{◌≡◌, ℕ, ◌+◌, ◌*◌, ◌<◌, ◌≤◌, ◌==◌, ◌/◌, ◌%◌, Bool, List, length, IfOk};
+//! Masks: for each class of characters, which of 63 neighbouring tokens take them.
+ghost use Rattle.std.specs.Prelude.{◌≡◌, ℕ, ◌+◌, ◌*◌, ◌<◌, ◌≤◌, ◌==◌, ◌/◌, ◌%◌, Bool, List, not, length, IfOk};
 ghost use Rattle.std.specs.List.{list_all};
 ghost use Rattle.glob_pattern.specs.Grammar.Tokens.{Token as TokenOf};
 ghost use Rattle.glob_pattern.specs.Private.Classes.{IsPartition, Separates, EachInterval, partition_of, columns_of};
-ghost use Rattle.glob_pattern.specs.Private.CharMasks.{AreCharMasks, AreRowsOf, AreRows, IsRow, class_of, mask_at, half_of, partition_in, is_plain};
+ghost use Rattle.glob_pattern.specs.Private.CharMasks.{AreCharMasks, AreRowsOf, AreRows, IsRow, class_of, mask_at, half_of, partition_in, is_plain, has_table};
 
 mod row;
 
@@ -16,51 +16,57 @@ use crate::token::taking::{has_rules, is_excluded_dot, is_excluded_separator};
 use row::{DOT, SEPARATOR, fill};
 use std::alloc::{AllocError, Allocator};
 
-/// For each class of characters, which tokens take its characters.
+/// For each class of characters, which tokens take them.
 #[derive(Drop)]
 pub enum CharMasks<A: Allocator> {
-    /// The masks of at most 63 tokens that list no character: those of the rules' classes, and of all characters.
+    /// At most 63 tokens that list no character: a mask for each of the two rules, and one for all other characters.
     Plain([u64; 3]),
-    /// The masks of other tokens.
+    /// More tokens that list no character: two rows of three such masks for each word.
+    PlainWords(Vec<u64, A>),
+    /// All other tokens.
     Listed(Box<Listed<A>, A>),
 }
 
-/// The masks of tokens, if some of these list characters.
+/// The masks of tokens, some of which list characters.
 #[derive(Drop)]
 pub struct Listed<A: Allocator> {
     /// The class of each ASCII character.
     ascii: [u8; ASCII],
-    /// Where the classes beyond ASCII begin, and how many have begun at some characters.
+    /// Where the classes beyond ASCII begin, and for some characters how many have begun.
     beyond: Vec<u32, A>,
     begun: Vec<u8, A>,
     /// Two rows for each word of tokens, case-sensitive and case-insensitive, with a mask for each class.
     masks: Vec<u64, A>,
 }
 
-/// The masks of one case.
+/// The masks of case-sensitive or of case-insensitive matching.
 #[derive(Clone, Copy)]
 pub struct Rows<'a> {
     classes: Classes<'a>,
+    /// The masks from the first such row on. Every second row is one.
     masks: &'a [u64],
-    /// How many masks a row has.
+    /// The number of masks in a row.
     columns: usize,
-    /// Which of a word's two rows is of this case.
-    half: usize,
 }
 
 impl<A: Allocator + Copy> CharMasks<A> {
-    /// The masks of the tokens, and of so many words. The last word may have no token. Fails only if allocation fails.
+    /// The masks of the tokens, in `words` words. The last word may have no token. Fails only if allocation fails.
     pub fn new(alloc: A, tokens: &[Token<Bracket<A>>], words: usize) -> Result<Self, AllocError>
         requires { 63 * words ≤ length tokens.now + 63 }
-        ensures { IfOk result (λ masks. AreCharMasks tokens.now words masks) }
+        ensures masks { IfOk result (λ masks. AreCharMasks tokens.now words masks) }
+        ensures table { IfOk result (λ masks. has_table masks ≡ not (list_all is_plain tokens.now)) }
     {
-        if words <= 1 && are_plain(tokens) {
-            let mut masks = [0; 3];
-            fill(&mut masks, Classes::NONE, tokens, 0, true);
-            return Ok(CharMasks::Plain(masks));
+        if !are_plain(tokens) {
+            let listed = Listed::new(alloc, tokens, words)?;
+            return Ok(CharMasks::Listed(Box::new(alloc, listed)?));
         }
-        let listed = Listed::new(alloc, tokens, words)?;
-        Ok(CharMasks::Listed(Box::new(alloc, listed)?))
+        if words > 1 {
+            let masks = rows_of(alloc, tokens, words, Classes::NONE)?;
+            return Ok(CharMasks::PlainWords(masks));
+        }
+        let mut masks = [0; 3];
+        fill(&mut masks, Classes::NONE, tokens, 0, true);
+        Ok(CharMasks::Plain(masks))
     }
 }
 
@@ -72,6 +78,7 @@ impl<A: Allocator + Copy> Clone for CharMasks<A> {
     fn clone(&self) -> Result<Self, AllocError> {
         match self {
             CharMasks::Plain(masks) => Ok(CharMasks::Plain(*masks)),
+            CharMasks::PlainWords(masks) => Ok(CharMasks::PlainWords(masks.clone()?)),
             CharMasks::Listed(listed) => {
                 let copy = listed.as_ref().clone()?;
                 let alloc = *Box::allocator(listed);
@@ -82,7 +89,7 @@ impl<A: Allocator + Copy> Clone for CharMasks<A> {
 }
 
 impl<A: Allocator> CharMasks<A> {
-    /// The masks of one case.
+    /// The masks of case-sensitive or of case-insensitive matching.
     #[inline(always)]
     pub fn rows(&self, case_sensitive: bool) -> Rows<'_>
         ensures { (tokens : List TokenOf) (words : ℕ) → AreCharMasks tokens words self.now
@@ -93,15 +100,24 @@ impl<A: Allocator> CharMasks<A> {
                 classes: Classes::NONE,
                 masks,
                 columns: 3,
-                half: 0,
             },
-            CharMasks::Listed(listed) => listed.rows(case_sensitive),
+            CharMasks::PlainWords(masks) => {
+                Rows::of(Classes::NONE, masks.as_slice(), case_sensitive)
+            }
+            CharMasks::Listed(listed) => {
+                let classes = Classes {
+                    ascii: &listed.ascii,
+                    beyond: listed.beyond.as_slice(),
+                    begun: listed.begun.as_slice(),
+                };
+                Rows::of(classes, listed.masks.as_slice(), case_sensitive)
+            }
         }
     }
 }
 
 impl<A: Allocator + Copy> Listed<A> {
-    /// The masks of the tokens, and of so many words. Fails only if allocation fails.
+    /// The masks of the tokens, in `words` words. Fails only if allocation fails.
     fn new(alloc: A, tokens: &[Token<Bracket<A>>], words: usize) -> Result<Self, AllocError>
         requires { 63 * words ≤ length tokens.now + 63 }
         ensures { IfOk result (λ l. (case : Bool)
@@ -140,43 +156,38 @@ impl<A: Allocator + Copy> Clone for Listed<A> {
     }
 }
 
-impl<A: Allocator> Listed<A> {
-    /// The masks of one case.
+impl<'a> Rows<'a> {
+    /// Picks the case-sensitive or the case-insensitive masks.
     #[inline(always)]
-    fn rows(&self, case_sensitive: bool) -> Rows<'_>
-        ensures { (tokens : List TokenOf) (words : ℕ) → ((case : Bool)
-            → AreRows tokens words case (partition_in self.now) self.now.masks.items
-            (half_of case))
+    fn of(classes: Classes<'a>, masks: &'a [u64], case_sensitive: bool) -> Self
+        ensures { (tokens : List TokenOf) (words : ℕ)
+            → ((case : Bool)
+            → AreRows tokens words case (partition_of classes.entry) masks.now (half_of case))
             → AreRowsOf tokens words case_sensitive result }
     {
-        let classes = Classes {
-            ascii: &self.ascii,
-            beyond: self.beyond.as_slice(),
-            begun: self.begun.as_slice(),
-        };
+        let columns = classes.count();
+        let start = if case_sensitive { 0 } else { columns };
         Rows {
             classes,
-            masks: self.masks.as_slice(),
-            columns: classes.count(),
-            half: usize::from(!case_sensitive),
+            masks: &masks[start.min(masks.len())..],
+            columns,
         }
     }
 }
 
 impl Rows<'_> {
-    /// Which of the word's tokens take the characters of the class.
+    /// The word's tokens that take the characters of the class.
     #[inline(always)]
     pub fn taking(self, word: usize, class: usize) -> u64
-        requires row { (2 * word + self.half) * self.columns + self.columns
-            ≤ length self.masks.now }
+        requires row { 2 * word * self.columns + self.columns ≤ length self.masks.now }
         requires class { class < self.columns }
         ensures { result ≡ mask_at self.entry.masks.now
-            ((2 * word + self.entry.half) * self.entry.columns + class) }
+            (2 * word * self.entry.columns + class) }
     {
-        self.masks[(2 * word + self.half) * self.columns + class]
+        self.masks[2 * word * self.columns + class]
     }
 
-    /// The class of a character. `opening`: a component starts at its place.
+    /// The class of a character under the options. `opening`: a component starts at its place.
     #[inline(always)]
     pub fn class_of(self, options: MatchOptions, opening: bool, c: char) -> usize
         requires { IsPartition (partition_of self.classes) }
@@ -194,7 +205,7 @@ impl Rows<'_> {
     }
 }
 
-/// The rows of so many words of tokens. Fails only if allocation fails.
+/// The rows of masks of `words` words of tokens. Fails only if allocation fails.
 fn rows_of<A: Allocator + Copy>(
     alloc: A,
     tokens: &[Token<Bracket<A>>],
@@ -213,7 +224,7 @@ fn rows_of<A: Allocator + Copy>(
     Ok(masks)
 }
 
-/// Makes these zeros so many rows of masks.
+/// Turns zeros into `rows` rows of masks.
 fn fill_rows<A: Allocator>(
     masks: &mut [u64],
     classes: Classes<'_>,
@@ -245,7 +256,7 @@ fn are_plain<A: Allocator>(tokens: &[Token<Bracket<A>>]) -> bool
     tokens.iter().all(is_plain)
 }
 
-/// Whether the token lists no character: it is neither a literal nor a bracket.
+/// Whether the token lists no character: it is a wildcard.
 fn is_plain<A: Allocator>(token: &Token<Bracket<A>>) -> bool
     ensures { result ≡ is_plain token.now }
 {

@@ -1,8 +1,8 @@
-//! Classes of characters: the characters of a class are taken by the same tokens.
+//! Classes of characters: all characters of a class are taken by the same tokens.
 //!
-//! What tokens list are intervals of characters. Between two neighbouring boundaries of intervals no token tells
-//! characters apart: that is a class. So the tokens of `*[a-z]x` have one class for `a` to `w`, one for `x`, one for
-//! `y` and `z`, the same three in upper case, and one each for what is before, between and after these.
+//! Tokens list intervals of characters. Between two neighbouring boundaries of intervals no token tells characters
+//! apart, so that these are a class. The tokens of `*[a-z]x` have one class for `a` to `w`, one for `x`, one for `y`
+//! and `z`, the same three in upper case, and one each for what is before, between and after these.
 ghost use Rattle.std.specs.Prelude.{◌≡◌, ℕ, ◌+◌, ◌<◌, ◌≤◌, Bool, List, length, slice_index, nat_le, IsTrue, IfOk};
 ghost use Rattle.std.specs.List.{All, Contains, prefix_len};
 ghost use Rattle.std.specs.List.Sorted.{IsNonDecreasing};
@@ -15,10 +15,10 @@ use std::alloc::{AllocError, Allocator};
 /// The class of the first characters, up to the first boundary.
 pub const FIRST: u8 = 2;
 
-/// How many characters ASCII has.
+/// The number of ASCII characters.
 pub const ASCII: usize = 128;
 
-/// Of how many characters beyond ASCII it is stored how many boundaries there are up to them.
+/// For this many characters, from the first boundary beyond ASCII on, the number of boundaries up to each is stored.
 const COUNTED: usize = 128;
 
 /// The class of each character.
@@ -26,21 +26,21 @@ const COUNTED: usize = 128;
 pub struct Classes<'a> {
     /// The class of each ASCII character.
     pub ascii: &'a [u8; ASCII],
-    /// The boundaries beyond ASCII, in order. At each a class begins, and they are numbered on.
+    /// The boundaries beyond ASCII, ascending. Each begins a class, and the numbers of the classes go on.
     pub beyond: &'a [u32],
-    /// How many of these there are up to each of some characters, from the first of these on.
+    /// The number of these boundaries up to each of some characters, which are counted from the first boundary.
     pub begun: &'a [u8],
 }
 
 impl Classes<'_> {
-    /// Each character is of the class `FIRST`.
+    /// All characters in the class `FIRST`.
     pub const NONE: Classes<'static> = Classes {
         ascii: &[FIRST; ASCII],
         beyond: &[],
         begun: &[],
     };
 
-    /// How many classes there are: all are below this number.
+    /// The number of classes. Every class is below it.
     #[inline(always)]
     pub fn count(self) -> usize
         ensures { result ≡ columns_of (partition_of self.entry) }
@@ -48,7 +48,7 @@ impl Classes<'_> {
         usize::from(self.ascii[ASCII - 1]) + 1 + self.beyond.len()
     }
 
-    /// The class of a character, whatever the rules.
+    /// The class of a character, without regard to the rules.
     #[inline(always)]
     pub fn class(self, c: char) -> usize
         requires { IsPartition (partition_of self) }
@@ -63,7 +63,7 @@ impl Classes<'_> {
     }
 }
 
-/// How many boundaries there are up to a character. It takes no struct, since one that is passed is in memory.
+/// The number of boundaries up to `c`. It takes slices, since a struct would be passed in memory.
 #[inline(never)]
 fn begun_at(boundaries: &[u32], counts: &[u8], c: char) -> usize
     requires rising { IsNonDecreasing boundaries.now }
@@ -83,17 +83,17 @@ fn begun_at(boundaries: &[u32], counts: &[u8], c: char) -> usize
     }
 }
 
-/// The boundaries of intervals of characters.
+/// The boundaries of character intervals.
 #[derive(Drop)]
 pub struct Boundaries<A: Allocator> {
-    /// Whether an interval begins at the ASCII character, or ends before it.
+    /// Whether an interval begins at this ASCII character or ends right before it.
     ascii: [bool; ASCII],
     /// The boundaries beyond ASCII.
     pub beyond: Vec<u32, A>,
 }
 
 impl<A: Allocator> Boundaries<A> {
-    /// The boundaries of the intervals of all literals and brackets, in either case. Fails only if allocation fails.
+    /// The boundaries of the intervals of all literals and brackets, in both cases. Fails only if allocation fails.
     pub fn of(alloc: A, tokens: &[Token<Bracket<A>>]) -> Result<Self, AllocError>
         ensures marked { IfOk result (λ b. EachInterval (HasInterval b) tokens.now) }
         ensures order { IfOk result (λ b. IsNonDecreasing b.beyond.items) }
@@ -109,7 +109,7 @@ impl<A: Allocator> Boundaries<A> {
         Ok(boundaries)
     }
 
-    /// Adds the intervals of the token. Fails only if allocation fails.
+    /// Adds the token's intervals. Fails only if allocation fails.
     fn mark_token(&mut self, token: &Token<Bracket<A>>) -> Result<(), AllocError>
         ensures marked { IfOk result (λ _. TokenIntervals (HasInterval self.new) token.now) }
         ensures grows { IfOk result (λ _. Grows self.old self.new) }
@@ -121,7 +121,7 @@ impl<A: Allocator> Boundaries<A> {
         }
     }
 
-    /// Adds the intervals of all entries. Fails only if allocation fails.
+    /// Adds the intervals of the entries. Fails only if allocation fails.
     fn mark_all(&mut self, entries: &[Entry]) -> Result<(), AllocError>
         ensures marked { IfOk result (λ _. All (EntryIntervals (HasInterval self.new)) entries.now) }
         ensures grows { IfOk result (λ _. Grows self.old self.new) }
@@ -133,8 +133,7 @@ impl<A: Allocator> Boundaries<A> {
         Ok(())
     }
 
-    /// Adds the characters from the first to the last, in either case if both are letters. Fails only if allocation
-    /// fails.
+    /// Adds the characters from `first` to `last`, in both cases if both are letters. Fails only if allocation fails.
     fn mark_cases(&mut self, first: char, last: char) -> Result<(), AllocError>
         ensures marked { IfOk result (λ _. EachCase (HasInterval self.new) first last) }
         ensures grows { IfOk result (λ _. Grows self.old self.new) }
@@ -148,7 +147,7 @@ impl<A: Allocator> Boundaries<A> {
         Ok(())
     }
 
-    /// Adds the characters from the first to the last. Fails only if allocation fails.
+    /// Adds the characters from `first` to `last`. Fails only if allocation fails.
     fn mark(&mut self, first: char, last: char) -> Result<(), AllocError>
         ensures marked { IfOk result (λ _. HasInterval self.new first last) }
         ensures grows { IfOk result (λ _. Grows self.old self.new) }
@@ -173,7 +172,7 @@ impl<A: Allocator> Boundaries<A> {
         Ok(())
     }
 
-    /// The boundaries beyond ASCII in order, without duplicates.
+    /// Sorts the boundaries beyond ASCII and removes duplicates.
     fn sort(&mut self)
         ensures order { IsNonDecreasing self.new.beyond.items }
         ensures grows { Grows self.old self.new }
@@ -182,7 +181,7 @@ impl<A: Allocator> Boundaries<A> {
         self.beyond.dedup();
     }
 
-    /// The class of each ASCII character: it rises by one at each boundary.
+    /// The class of each ASCII character. Each boundary raises it by one.
     pub fn ascii_classes(&self) -> [u8; ASCII]
         ensures { AreAsciiClasses self.now.ascii 128 result }
     {
@@ -194,7 +193,7 @@ impl<A: Allocator> Boundaries<A> {
         classes
     }
 
-    /// Writes the classes of eight characters, given the class before them, and returns that of the last.
+    /// Writes the classes of eight characters, given the class before them. Returns the class of the last one.
     #[inline(always)]
     fn number(&self, classes: &mut [u8; ASCII], start: usize, last: u8) -> u8
         requires within { start + 8 ≤ 128 }
@@ -213,7 +212,7 @@ impl<A: Allocator> Boundaries<A> {
         class
     }
 
-    /// Whether there is no boundary at eight characters, which are compared at once.
+    /// Whether none of eight characters has a boundary, by one comparison.
     #[inline(always)]
     fn has_none(&self, start: usize) -> bool
         requires { start + 8 ≤ 128 }
@@ -226,7 +225,7 @@ impl<A: Allocator> Boundaries<A> {
     }
 }
 
-/// Gives the class to eight characters.
+/// Gives eight characters the same class.
 #[inline(always)]
 fn keep(classes: &mut [u8; ASCII], start: usize, class: u8)
     requires { start + 8 ≤ 128 }
@@ -239,7 +238,7 @@ fn keep(classes: &mut [u8; ASCII], start: usize, class: u8)
     }
 }
 
-/// How many of these boundaries there are up to a character.
+/// The number of boundaries up to `c`, by binary search.
 #[inline(never)]
 fn begun_by_search(boundaries: &[u32], c: u32) -> usize
     requires { IsNonDecreasing boundaries.now }
@@ -252,8 +251,8 @@ fn begun_by_search(boundaries: &[u32], c: u32) -> usize
     )
 }
 
-/// How many boundaries there are up to each character, from the first boundary on: for those of a script with an
-/// alphabet nothing is searched. The list is empty if a byte cannot count the boundaries. Fails only if allocation
+/// The number of boundaries up to each of `COUNTED` characters, from the first boundary on: most alphabets then need no
+/// search. The list is empty if there is no boundary, or if there are too many for a byte. Fails only if allocation
 /// fails.
 pub fn counts_of<A: Allocator>(alloc: A, boundaries: &[u32]) -> Result<Vec<u8, A>, AllocError>
     ensures { IfOk result (λ counts. AreCounts boundaries.now counts.items) }
@@ -264,7 +263,7 @@ pub fn counts_of<A: Allocator>(alloc: A, boundaries: &[u32]) -> Result<Vec<u8, A
     }
 }
 
-/// How many boundaries there are up to each of so many characters, from this one on.
+/// The number of boundaries up to each of `COUNTED` characters, from `base` on.
 fn counts_from<A: Allocator>(
     alloc: A,
     boundaries: &[u32],
@@ -284,7 +283,7 @@ fn counts_from<A: Allocator>(
     Ok(counts)
 }
 
-/// How many boundaries there are up to a character, if there are at least so many.
+/// The number of boundaries up to `c`, which must be at least `least`.
 fn passed(boundaries: &[u32], least: usize, c: u64) -> usize
     requires within { least ≤ length boundaries.now }
     requires least { (k : ℕ) → k < least → slice_index boundaries.now k ≤ c }
@@ -297,7 +296,7 @@ fn passed(boundaries: &[u32], least: usize, c: u64) -> usize
     count
 }
 
-/// Whether both are letters of ASCII.
+/// Whether both are ASCII letters.
 pub fn are_letters(x: char, y: char) -> bool
     ensures { result ≡ are_letters x y }
 {

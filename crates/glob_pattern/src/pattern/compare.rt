@@ -1,4 +1,4 @@
-//! A pattern is compared, hashed and printed as its text.
+//! Patterns are compared, hashed and printed as their texts.
 ghost use Rattle.std.specs.Prelude.{Some, nat_eq, refl};
 ghost use Rattle.std.specs.Cmp.{partial_equiv_from_equiv};
 ghost use Rattle.std.specs.Cmp.Lexicographic.{pointwise, slice_cmp, nat_list_eq_equiv, nat_list_cmp_total, texts_ties, texts_po};
@@ -61,7 +61,7 @@ impl<A: Allocator> Hash for Pattern<A> {
     }
 }
 
-/// The pattern's text.
+/// Prints the pattern's text.
 impl<A: Allocator> fmt::Display for Pattern<A> {
     ghost output = { λ pattern. Some pattern };
 
@@ -70,7 +70,7 @@ impl<A: Allocator> fmt::Display for Pattern<A> {
     }
 }
 
-/// The pattern's text, with its name.
+/// Prints the type's name and the pattern's text.
 impl<A: Allocator> fmt::Debug for Pattern<A> {
     fn fmt<W: fmt::Write>(&self, f: &mut fmt::Formatter<W>) -> fmt::Result {
         f.debug_struct("Pattern")

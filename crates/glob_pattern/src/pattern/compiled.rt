@@ -1,5 +1,5 @@
-//! What a match reads of a pattern, and how a match goes: the ends of the text are compared, a needle is searched for,
-//! and what is between goes through the automaton.
+//! What a match reads of a pattern, and how it goes: it compares the ends of the text, searches for a needle, and runs
+//! the automaton over what is between.
 ghost use Rattle.std.specs.Prelude.{◌≡◌, ℕ, ◌+◌, ◌*◌, ◌<◌, ◌≤◌, ◌↔◌, [], length, map, IsTrue, IsOk, IfOk, IfNone, IfSome, chars, slice_index_or};
 ghost use Rattle.std.specs.Str.{is_utf8};
 ghost use Rattle.glob_pattern.specs.Grammar.Units.{HasTokens};
@@ -18,16 +18,16 @@ use crate::token::bracket::Bracket;
 use std::alloc::{AllocError, Allocator};
 use std::marker::Model;
 
-/// How many tokens between the ends are searched for a needle: a run of literals behind them seldom rejects more texts.
+/// How many tokens between the ends are searched for a needle. Later literals would seldom reject more texts.
 const SEARCHED: usize = 128;
 
-/// What a match reads of a pattern's tokens, made once when it is parsed.
+/// What a match reads of a pattern's tokens, made once at parsing.
 #[derive(Drop)]
 pub struct Compiled<A: Allocator> {
     tokens: Vec<Token<Bracket<A>>, A>,
     ends: Ends,
     needle: Needle,
-    // that of the tokens between the ends
+    // the automaton of the tokens between the ends
     automaton: Automaton<A>,
 }
 
@@ -52,8 +52,8 @@ impl<A: Allocator> Compiled<A> {
         self.tokens.as_slice()
     }
 
-    /// Whether the tokens, which are the pattern's, may match a text of these bytes: by the literals at its ends, and by
-    /// a needle. The bytes need not be UTF-8.
+    /// Whether the tokens, which are the pattern's, may match a text of these bytes, by the literals at its ends and a
+    /// needle. The bytes need not be UTF-8.
     #[inline(always)]
     pub fn may_match(&self, pattern: &str, bytes: &[u8], options: MatchOptions) -> bool
         requires { HasTokens (chars pattern.now) self.now }
@@ -64,7 +64,7 @@ impl<A: Allocator> Compiled<A> {
         self.ends.have_literals(tokens, pattern, bytes, options) && self.needle.may_be_in(bytes)
     }
 
-    /// The character of the token of this number, if there is one and it is a literal.
+    /// The character of token `number`, if there is such a token and it is a literal.
     pub fn literal_at(&self, number: usize) -> Option<char>
         ensures literal { IfSome result (λ c. slice_index_or self.now number AnyChar ≡ Literal c) }
         ensures none { IfNone result
@@ -86,7 +86,7 @@ impl<A: Allocator + Copy> Compiled<A> {
         let ends = Ends::of(list);
         let rest = &list[ends.lead..];
         let between = list.len() - ends.trail - ends.lead;
-        // Of fewer than three tokens none is a literal between others.
+        // The first and the last token between the ends are wildcards, so that a literal needs three.
         let needle = if between < 3 {
             Needle::NONE
         } else {
@@ -112,7 +112,7 @@ impl<A: Allocator + Copy> Compiled<A> {
         }
     }
 
-    /// The same on the same allocator. Fails only if allocation fails.
+    /// A copy on the same allocator. Fails only if allocation fails.
     pub fn clone(&self) -> Result<Self, AllocError>
         ensures { IfOk result (λ compiled. compiled ≡ self.now) }
     {
@@ -144,7 +144,7 @@ impl<A: Allocator + Copy> Compiled<A> {
         self.matches_in_full(pattern, text, options)
     }
 
-    /// The answer of [`matches`](Self::matches), out of line, for texts that may match by their first byte.
+    /// [`matches`](Self::matches) out of line, for texts that [`Ends::reject`] lets through.
     #[inline(never)]
     fn matches_in_full(
         &self,
@@ -157,14 +157,14 @@ impl<A: Allocator + Copy> Compiled<A> {
             (λ yes. IsTrue yes ↔ TokensMatch options self.now (chars text.now)) }
         ensures short { length self.now < 64 → IsOk result }
     {
-        // The compiler leaves out a count that is dropped here.
+        // The count is dropped here, and the compiler leaves it out.
         let (answer, _) = self.matches_asking(pattern, text, options)?;
         Ok(answer)
     }
 
-    /// The answer of [`matches`](Self::matches), and how many questions it took: how often a token was asked whether it
-    /// takes a character. Each token at an end counts, though the text may be rejected before it is asked. If one is at
-    /// the start, and the text is not empty, one more counts: [`Ends::reject`] may compare the first byte beforehand.
+    /// The answer of [`matches`](Self::matches), and how many times a token was asked whether it takes a character.
+    /// Each token at an end counts, even if the text is rejected before the token is asked. If there is one at the
+    /// start and the text is not empty, one more counts, since [`Ends::reject`] may compare the first byte.
     #[inline(always)]
     fn matches_asking(
         &self,
@@ -178,7 +178,7 @@ impl<A: Allocator + Copy> Compiled<A> {
         ensures most { IfOk result (λ counted. counted.1
             ≤ length self.now + length self.now * length (chars text.now)) }
 
-        // Under a rule each character of a match is asked about: no last wildcard takes the rest.
+        // With a rule set, a match asks about each character: no last wildcard takes the rest.
         ensures least { IfOk result (λ counted. IsTrue counted.0 → IsTrue (has_rules options)
             → length (chars text.now) ≤ counted.1) }
         ensures short { length self.now < 64 → IsOk result }
@@ -204,8 +204,8 @@ impl<A: Allocator + Copy> Compiled<A> {
         Ok((answer, asked + count))
     }
 
-    /// Whether the tokens match the text, and how many questions it takes to ask all of them about all of it. With at
-    /// most 63 tokens the call succeeds.
+    /// Whether the tokens match the text, and how many questions that takes if the automaton runs all tokens over all
+    /// of the text. With at most 63 tokens the call succeeds.
     #[inline(never)]
     pub fn matches_counted(
         &self,

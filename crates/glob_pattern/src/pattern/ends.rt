@@ -1,5 +1,5 @@
-//! What a text has to have at its ends: the literals with which a pattern begins and ends, compared as bytes, and the
-//! characters that other tokens of one character take there.
+//! What a text needs at its ends: the literals with which a pattern begins and ends, compared as bytes, and the
+//! characters that other one-character tokens take there.
 ghost use Rattle.std.specs.Prelude.{◌≡◌, ℕ, ◌+◌, ◌-◌, ◌≤◌, ◌↔◌, List, length, map, take, drop, IsTrue, IfSome, MatchOption, chars};
 ghost use Rattle.std.specs.Char.{len_utf8};
 ghost use Rattle.std.specs.Str.{IsUtf8};
@@ -17,12 +17,12 @@ use crate::token::bracket::Bracket;
 use crate::token::taking::{takes, takes_any};
 use std::alloc::Allocator;
 
-/// The tokens at both ends that take one character each, and the literals among them.
+/// The one-character tokens at both ends, and the literals among them.
 #[derive(Clone, Copy)]
 pub struct Ends {
-    /// How many tokens at the start take one character each.
+    /// The number of one-character tokens at the start.
     pub lead: usize,
-    /// How many of the other tokens at the end do.
+    /// The number of one-character tokens at the end, without those at the start.
     pub trail: usize,
     /// The literals with which the leading tokens begin.
     pub prefix: Literals,
@@ -33,18 +33,18 @@ pub struct Ends {
 /// Neighbouring literals.
 #[derive(Clone, Copy)]
 pub struct Literals {
-    /// How many there are.
+    /// Their number.
     pub count: usize,
-    /// How many bytes they have in UTF-8.
+    /// Their length in UTF-8, in bytes.
     pub bytes: usize,
 }
 
-/// What the tokens at the ends leave of a text.
+/// What the ends leave of a text.
 #[derive(Clone, Copy)]
 pub struct Part<'a> {
     /// The characters that are left.
     pub text: &'a str,
-    /// Whether a component starts with them.
+    /// Whether a component starts at its first character.
     pub opening: bool,
 }
 
@@ -52,7 +52,7 @@ impl Literals {
     /// No literals.
     const NONE: Literals = Literals { count: 0, bytes: 0 };
 
-    /// These and one more. `None`: there are more bytes than can be counted.
+    /// One literal more. `None`: there are more bytes than a `usize` can count.
     fn with(self, c: char) -> Option<Literals>
         ensures count { IfSome result (λ more. more.count ≡ self.count + 1) }
         ensures bytes { IfSome result (λ more. more.bytes ≡ self.bytes + len_utf8 c) }
@@ -65,7 +65,7 @@ impl Literals {
 }
 
 impl Ends {
-    /// Those of no tokens.
+    /// The ends of no tokens.
     pub const NONE: Ends = Ends {
         lead: 0,
         trail: 0,
@@ -73,7 +73,7 @@ impl Ends {
         suffix: Literals::NONE,
     };
 
-    /// Those of the tokens: for `src/*.rs` four literals at the start, and three at the end.
+    /// The ends of the tokens: for `src/*.rs`, four literals at the start and three at the end.
     pub fn of<A: Allocator>(tokens: &[Token<Bracket<A>>]) -> Self
         ensures { IsEnds tokens.now result }
     {
@@ -108,7 +108,7 @@ impl Ends {
         has_ends(bytes, prefix, suffix, options)
     }
 
-    /// Whether the text is rejected by its length or its first byte. It is cheap, so that callers have it inline.
+    /// Whether the length or the first byte of the text rejects it. This is cheap enough to inline into callers.
     #[inline(always)]
     pub fn reject<A: Allocator>(
         &self,
@@ -128,7 +128,7 @@ impl Ends {
         self.prefix.bytes > 0 && !are_same(&bytes[..1], &literals[..1], options)
     }
 
-    /// Takes the ends from a text: so those of `src/*.rs` leave `main` of `src/main.rs`. `None`: the text does not match.
+    /// Strips the ends off a text: those of `src/*.rs` leave `main` of `src/main.rs`. `None`: the text does not match.
     #[inline(always)]
     pub fn strip<'a, A: Allocator>(
         &self,
@@ -151,7 +151,7 @@ impl Ends {
         self.take_last(tokens, left, options)
     }
 
-    /// Takes the literals from the ends of a text. `None`: it does not have them.
+    /// Strips the literals off the ends of a text. `None`: the text does not match.
     #[inline(always)]
     fn strip_literals<'a, A: Allocator>(
         &self,
@@ -184,8 +184,8 @@ impl Ends {
         })
     }
 
-    /// Has the tokens between the first literals and the middle take a character each from the start of a part. `None`:
-    /// they do not.
+    /// Strips off the characters that the leading tokens after the literals take, one each. `None`: the text does not
+    /// match.
     #[inline(always)]
     fn take_first<'a, A: Allocator>(
         &self,
@@ -205,7 +205,7 @@ impl Ends {
         let mut opening = part.opening;
         let mut count = self.prefix.count;
         let ones = &tokens[..self.lead];
-        // A run of tokens that take any character is a count of characters.
+        // Tokens that take any character only need to be counted.
         while count < ones.len() && takes_any(&ones[count], options) {
             opening = rest.next()? == '/';
             count += 1;
@@ -224,8 +224,8 @@ impl Ends {
         })
     }
 
-    /// Has the tokens between the middle and the last literals take a character each from the end of a part. `None`:
-    /// they do not.
+    /// Strips off the characters that the trailing tokens before the literals take, one each. `None`: the text does not
+    /// match.
     #[inline(always)]
     fn take_last<'a, A: Allocator>(
         &self,
@@ -266,8 +266,8 @@ impl Ends {
     }
 }
 
-/// Whether the bytes begin with a prefix and end with a suffix, which do not overlap, in either case where the options
-/// say so.
+/// Whether the bytes begin with the prefix and end with the suffix, which must not overlap. The options say whether
+/// ASCII case counts.
 #[inline(always)]
 fn has_ends(bytes: &[u8], prefix: &[u8], suffix: &[u8], options: MatchOptions) -> bool
     ensures { IsTrue result ↔ HasEnds options.case_sensitive prefix.now suffix.now bytes.now }
@@ -278,13 +278,13 @@ fn has_ends(bytes: &[u8], prefix: &[u8], suffix: &[u8], options: MatchOptions) -
         && are_same(&bytes[..prefix.len()], prefix, options)
 }
 
-/// Whether two texts of the same length are the same, in either case where the options say so.
+/// Whether two texts of the same length are equal. The options say whether ASCII case counts.
 #[inline(always)]
 fn are_same(bytes: &[u8], other: &[u8], options: MatchOptions) -> bool
     requires { length bytes.now ≡ length other.now }
     ensures { IsTrue result ↔ SameBytes options.case_sensitive bytes.now other.now }
 {
-    // A call that compares no bytes may be slow.
+    // Saves a call that would compare no bytes.
     if other.is_empty() {
         return true;
     }
@@ -295,7 +295,7 @@ fn are_same(bytes: &[u8], other: &[u8], options: MatchOptions) -> bool
     }
 }
 
-/// Whether a component starts after the text: after a `/`, and after no characters if one starts before them.
+/// Whether a component starts after the text: after a `/`, or after no characters if one starts before them.
 #[inline(always)]
 fn opens_after(text: &str, opening: bool) -> bool
     ensures { result ≡ opens_within opening (chars text.now) (length (chars text.now)) }
@@ -306,7 +306,7 @@ fn opens_after(text: &str, opening: bool) -> bool
     }
 }
 
-/// How many tokens of one character there are before the first other: of those of `src/*.rs` four.
+/// The number of one-character tokens before the first other token: four for `src/*.rs`.
 fn leading_ones<A: Allocator>(tokens: &[Token<Bracket<A>>]) -> usize
     ensures { HasOnes (map shape_of tokens.now) result 0 }
 {
@@ -317,8 +317,8 @@ fn leading_ones<A: Allocator>(tokens: &[Token<Bracket<A>>]) -> usize
     lead
 }
 
-/// How many tokens of one character there are after the last other and the first `lead`: of those of `src/*.rs` three,
-/// and of those of `main.rs` none.
+/// The number of one-character tokens at the end, without the first `lead` tokens: three for `src/*.rs`, none for
+/// `main.rs`.
 fn trailing_ones<A: Allocator>(tokens: &[Token<Bracket<A>>], lead: usize) -> usize
     requires { HasOnes (map shape_of tokens.now) lead 0 }
     ensures { HasOnes (map shape_of tokens.now) lead result }
@@ -330,7 +330,7 @@ fn trailing_ones<A: Allocator>(tokens: &[Token<Bracket<A>>], lead: usize) -> usi
     trail
 }
 
-/// The literals with which the tokens begin.
+/// The literals at the start of the tokens.
 fn leading_literals<A: Allocator>(tokens: &[Token<Bracket<A>>]) -> Literals
     ensures within { result.count ≤ length tokens.now }
     ensures literals { HasLiterals (take result.count tokens.now) result.bytes }
@@ -345,7 +345,7 @@ fn leading_literals<A: Allocator>(tokens: &[Token<Bracket<A>>]) -> Literals
     literals
 }
 
-/// The literals with which the tokens end.
+/// The literals at the end of the tokens.
 fn trailing_literals<A: Allocator>(tokens: &[Token<Bracket<A>>]) -> Literals
     ensures within { result.count ≤ length tokens.now }
     ensures literals { HasLiterals (drop (length tokens.now - result.count) tokens.now)

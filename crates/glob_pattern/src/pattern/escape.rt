@@ -1,4 +1,4 @@
-//! Texts escaped, as patterns that match themselves.
+//! Escaped texts: patterns that match the text they are made from.
 ghost use Rattle.std.specs.Prelude.{◌≡◌, ◌++◌, IfOk, OnOk, chars, count_by, encode_utf8_all, string_bytes};
 ghost use Rattle.glob_pattern.specs.Escaping.{is_special, escaped_character, escaped_text};
 
@@ -6,8 +6,8 @@ use crate::pattern::Pattern;
 use std::alloc::{AllocError, Allocator};
 
 impl<A: Allocator> Pattern<A> {
-    /// The text as a pattern that matches it: each `?`, `*`, `[` and `]` is put in a bracket of its own, and every
-    /// other character as it is. So `a[1].rs` becomes `a[[]1[]].rs`. Fails only if allocation fails.
+    /// Escapes a text to a pattern that matches it: puts each `?`, `*`, `[` and `]` in a bracket of its own, and keeps
+    /// every other character. `a[1].rs` becomes `a[[]1[]].rs`. Fails only if allocation fails.
     ///
     /// ```text
     /// let escaped = Pattern::escape(alloc, "a[1].rs")?;
@@ -22,7 +22,7 @@ impl<A: Allocator> Pattern<A> {
         if specials == 0 {
             return String::from_str(alloc, s);
         }
-        // Each special character becomes three bytes.
+        // Each special character grows from one byte to three.
         let length = specials.saturating_mul(2).saturating_add(s.len());
         let mut escaped = String::with_capacity(alloc, length)?;
         for c in s.chars() {
@@ -32,7 +32,7 @@ impl<A: Allocator> Pattern<A> {
     }
 }
 
-/// How many special characters there are, which are of one byte each.
+/// The number of special characters, each of one byte.
 fn count_special(text: &str) -> usize
     ensures { result ≡ count_by is_special text.now }
 {
@@ -41,7 +41,7 @@ fn count_special(text: &str) -> usize
         .count()
 }
 
-/// Puts an escaped character at the end.
+/// Appends a character, escaped.
 #[inline(always)]
 fn push_escaped<A: Allocator>(escaped: &mut String<A>, c: char) -> Result<(), AllocError>
     ensures { OnOk result (string_bytes escaped.new

@@ -16,7 +16,7 @@ pub use mask_judge::MaskJudge;
 use std::alloc::Allocator;
 use std::str::Chars;
 
-/// A judge of a text's characters and a pattern's tokens, which asks the tokens one by one.
+/// A judge of a text's characters and a pattern's tokens. It asks the tokens one by one.
 #[derive(Drop)]
 pub struct TextJudge<'a, A: Allocator> {
     tokens: &'a [Token<Bracket<A>>],
@@ -25,8 +25,8 @@ pub struct TextJudge<'a, A: Allocator> {
     // a component starts at the start of the text
     opening: bool,
     rest: Chars<'a>,
-    // the character last stepped over and the one before it: `/` comes before the text, too, where a component starts
-    // there
+    // the last character stepped over and the one before it; if a component starts at the start of the text, the text
+    // counts as preceded by `/`
     current: char,
     before: char,
     count: u128,
@@ -35,8 +35,8 @@ pub struct TextJudge<'a, A: Allocator> {
 }
 
 impl<'a, A: Allocator> TextJudge<'a, A> {
-    /// A judge at the start of a text that was asked nothing. `opening`: a component starts there, as it does at the
-    /// start of a whole text, and at that of `b/c` in `a/b/c`.
+    /// A judge at the start of a text, with no questions asked. `opening`: a component starts there, as at the start of
+    /// a whole text, or of `b/c` in `a/b/c`.
     #[inline(always)]
     pub fn new(
         tokens: &'a [Token<Bracket<A>>],
@@ -84,7 +84,7 @@ impl<'a, A: Allocator> TextJudge<'a, A> {
         ensures stays { result ≡ false
             → (self.new.before ≡ self.old.before) × (self.new.current ≡ self.old.current) }
     {
-        // Named for the proof: what is left is UTF-8.
+        // Named for the proof: the rest is UTF-8.
         let _left = self.rest.as_str();
         let Some(c) = self.rest.next() else {
             return false;
@@ -94,7 +94,7 @@ impl<'a, A: Allocator> TextJudge<'a, A> {
         true
     }
 
-    /// Whether the token takes the character last stepped over.
+    /// Whether the token takes the last character stepped over.
     #[inline(always)]
     fn is_taken(&self, token: usize) -> bool
         requires stepped { 0 < place_before (chars self.now.text.now)

@@ -1,4 +1,4 @@
-//! Bytes of a pattern that each text it matches contains, searched for sixteen offsets at a time.
+//! Needles: bytes that every text matched by a pattern contains, searched for at sixteen offsets at a time.
 ghost use Rattle.std.specs.Prelude.{◌≡◌, ℕ, ◌+◌, ◌<◌, ◌≤◌, ◌⊎◌, ◌++◌, length, take, encode_utf8, IsTrue};
 ghost use Rattle.std.specs.Int.{IsBitSet};
 ghost use Rattle.glob_pattern.specs.Private.Needles.{IsNeedle, AreLanes, IsAt, ContainsFolded};
@@ -8,13 +8,13 @@ use crate::token::bracket::Bracket;
 use std::alloc::Allocator;
 use std::simd::prelude::*;
 
-/// How many offsets are searched at once, and how many bytes a needle has at most.
+/// The number of offsets searched at once, and the greatest length of a needle in bytes.
 const LANES: usize = 16;
 
-/// In this bit alone an ASCII letter in upper case differs from lower case.
+/// The one bit in which upper and lower case of an ASCII letter differ.
 const CASE: u8 = 0x20;
 
-/// Bytes that each matching text contains, in either case.
+/// Bytes that every matching text contains, in either case.
 #[derive(Clone, Copy)]
 pub struct Needle {
     bytes: [u8; LANES],
@@ -28,8 +28,8 @@ impl Needle {
         len: 0,
     };
 
-    /// The UTF-8 of the longest stretch of neighbouring literals, of which one past 16 bytes is cut into pieces. If
-    /// none has two bytes or more, it is of no use, and is not searched for.
+    /// The UTF-8 of the longest stretch of neighbouring literals. Stretches beyond 16 bytes are cut into pieces. A
+    /// needle of fewer than two bytes is useless, and is never searched for.
     pub fn of<A: Allocator>(tokens: &[Token<Bracket<A>>]) -> Needle
         ensures { IsNeedle tokens.now result }
     {
@@ -47,8 +47,8 @@ impl Needle {
         longest
     }
 
-    /// Adds a character, or leaves it alone if these are more than 16 bytes. In place: what was written by bytes and is
-    /// then copied as a whole is slow.
+    /// Appends a character, or starts over with it if there would be more than 16 bytes. In place, since copying an
+    /// array that was just written byte by byte is slow.
     fn add(&mut self, c: char)
         requires few { self.old.len ≤ 16 }
         ensures few { self.new.len ≤ 16 }
@@ -74,8 +74,8 @@ impl Needle {
         self.len = len;
     }
 
-    /// Whether the bytes may contain the needle. A needle of one byte, which most texts contain, is not searched for,
-    /// nor are texts of fewer than 16 bytes searched.
+    /// Whether the bytes may contain the needle. True without a search if the needle has fewer than two bytes, since
+    /// most texts contain those, or if the text has fewer than 16.
     #[inline(always)]
     pub fn may_be_in(&self, bytes: &[u8]) -> bool
         ensures { ContainsFolded bytes.now (take self.now.len self.now.bytes) → IsTrue result }
@@ -87,7 +87,7 @@ impl Needle {
     }
 }
 
-/// Whether the needle is in the bytes: only offsets are compared at which its first and its last byte are.
+/// Searches the bytes for the needle. Compares only at offsets where both its first and its last byte are.
 #[inline(never)]
 fn may_hold(bytes: &[u8], needle: &[u8]) -> bool
     requires long { 16 ≤ length bytes.now }
@@ -108,8 +108,7 @@ fn may_hold(bytes: &[u8], needle: &[u8]) -> bool
     false
 }
 
-/// Whether the needle is at an offset of which `found` has the bit, in either case: bit k is of the kth from `start`
-/// on.
+/// Whether the needle is at one of the offsets in `found`, in either case. Bit k is for the offset `start` + k.
 #[inline(always)]
 fn is_at_any(bytes: &[u8], needle: &[u8], start: usize, found: u64) -> bool
     requires { start < length bytes.now }
@@ -126,8 +125,8 @@ fn is_at_any(bytes: &[u8], needle: &[u8], start: usize, found: u64) -> bool
     false
 }
 
-/// Which of the sixteen bytes from an offset on are `x`, in either case for a letter: bit k is of the kth of them. Some
-/// others count too, as `[` does for `{`.
+/// Which of the sixteen bytes from an offset on are `x`, in either case: bit k is for the kth. A few other bytes count
+/// too, as `[` for `{`.
 #[inline(always)]
 fn same_lanes(bytes: &[u8], from: usize, x: u8) -> u64
     requires long { 16 ≤ length bytes.now }

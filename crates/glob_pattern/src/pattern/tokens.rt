@@ -1,4 +1,4 @@
-//! The tokens of a pattern, one by one: how many there are, of which kind, and what each takes.
+//! The tokens of a pattern one by one: their number, their kinds, and what each takes.
 ghost use Rattle.std.specs.Prelude.{◌≡◌, ◌<◌, length, slice_index_or, chars};
 ghost use Rattle.glob_pattern.specs.Grammar.Units.{HasTokens};
 ghost use Rattle.glob_pattern.specs.Matching.Literals.{HasCount};
@@ -13,7 +13,7 @@ use crate::token::bracket::Bracket;
 use crate::token::taking::takes;
 use std::alloc::Allocator;
 
-/// What kind of token it is. That of the pattern `?` is `AnyChar`.
+/// The kind of a token: the pattern `?` has one token, of the kind `AnyChar`.
 #[derive(Clone, Copy, Debug, PartialEq, Eq)]
 pub enum TokenKind {
     /// A character.
@@ -22,15 +22,15 @@ pub enum TokenKind {
     AnyChar,
     /// `*`, any number of characters.
     AnySequence,
-    /// `**`, any number of whole components. Neighbours are one token.
+    /// `**`, any number of whole components. Neighbouring ones are one token.
     Recursive,
-    /// `[..]`, a character that the bracket holds.
+    /// `[..]`, a character in the bracket.
     OneOf,
-    /// `[!..]`, a character that the bracket does not hold.
+    /// `[!..]`, a character that is not in the bracket.
     NoneOf,
 }
 
-/// How many tokens a pattern has: `[a-z]*` has two. At most one for each character.
+/// The number of tokens of a pattern, at most one per character: two for `[a-z]*`.
 #[inline(always)]
 pub fn tokens_len<A: Allocator>(pattern: &Pattern<A>) -> usize
     ensures count { result ≡ length (tokens_of (chars pattern.now)) }
@@ -49,7 +49,7 @@ fn tokens_in<A: Allocator>(pattern: &Pattern<A>) -> &[Token<Bracket<A>>]
     pattern.compiled.tokens()
 }
 
-/// What kind of token the one of this number is, counted from 0.
+/// The kind of a token, counted from 0: token 1 of `a*` is an `AnySequence`. There must be such a token.
 #[inline(always)]
 pub fn token_kind<A: Allocator>(pattern: &Pattern<A>, token: usize) -> TokenKind
     requires { token < length (tokens_of (chars pattern.now)) }
@@ -65,8 +65,8 @@ pub fn token_kind<A: Allocator>(pattern: &Pattern<A>, token: usize) -> TokenKind
     }
 }
 
-/// Whether the token of this number, counted from 0, takes the character. `opening`: a component starts at its place.
-/// So token 1 of `a*` takes any character.
+/// Whether a token, counted from 0, takes the character. There must be such a token. `opening`: a component starts at
+/// the character's place. With no rule set, token 1 of `a*` takes any character.
 #[inline(always)]
 pub fn token_takes<A: Allocator>(
     pattern: &Pattern<A>,

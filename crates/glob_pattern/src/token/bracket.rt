@@ -7,7 +7,7 @@ use std::alloc::{AllocError, Allocator, Global};
 use std::marker::Model;
 use std::slice;
 
-/// So many entries have room at once: those of most brackets with several, whose list then never grows.
+/// The initial capacity of a list of entries. Most brackets never need more.
 const FEW: usize = 16;
 
 /// An entry of a bracket.
@@ -15,12 +15,12 @@ const FEW: usize = 16;
 pub enum Entry {
     /// One character.
     Single(char),
-    /// The characters from the first to the second, by their numbers.
+    /// The characters from the first to the second, by code point.
     Range(char, char),
 }
 
 impl Entry {
-    /// The first and the last character. A single character is both.
+    /// The first and the last character, which are equal for a single one.
     pub fn ends(self) -> (char, char)
         ensures first { result.0 ≡ first_of self }
         ensures last { result.1 ≡ last_of self }
@@ -50,7 +50,7 @@ pub struct Bracket<A: Allocator = Global> {
     entries: Entries<A>,
 }
 
-/// The entries of a bracket. Most have one, as `[0-9]`, and take no memory for it.
+/// The entries of a bracket. Most brackets have one, as in `[0-9]`, which takes no allocation.
 #[derive(Drop)]
 enum Entries<A: Allocator> {
     One(Entry),
@@ -68,7 +68,7 @@ impl<A: Allocator> Model for Bracket<A> {
 }
 
 impl<A: Allocator> Bracket<A> {
-    /// The entries of a bracket's content. Fails only if allocation fails.
+    /// Reads the entries of a bracket's content. Fails only if allocation fails.
     pub fn read(alloc: A, content: &[char]) -> Result<Self, AllocError>
         ensures { IfOk result (λ bracket. bracket ≡ entries_of content.now) }
     {
@@ -90,7 +90,8 @@ impl<A: Allocator> Bracket<A> {
         }
     }
 
-    /// Whether an entry holds `c`. Case-insensitively, ASCII letters in either case are the same.
+    /// Whether an entry holds `c`. Case-insensitively, a single ASCII letter holds either case, and a range between two
+    /// of them also holds the ASCII characters whose lower case is between those of its ends.
     pub fn holds(&self, c: char, case_sensitive: bool) -> bool
         ensures { result ≡ holds case_sensitive c self.now }
     {
@@ -115,7 +116,7 @@ impl<A: Allocator + Copy> Clone for Bracket<A> {
     }
 }
 
-/// The entries of a bracket's content, as a list. Fails only if allocation fails.
+/// Reads the entries of a bracket's content into a list. Fails only if allocation fails.
 fn read_entries<A: Allocator>(alloc: A, content: &[char]) -> Result<Vec<Entry, A>, AllocError>
     ensures { IfOk result (λ entries. entries.items ≡ entries_of content.now) }
 {
@@ -132,8 +133,7 @@ fn read_entries<A: Allocator>(alloc: A, content: &[char]) -> Result<Vec<Entry, A
     Ok(entries)
 }
 
-/// Whether `c` and `x` are the same character. Case-insensitively, two of ASCII are also the same if their lowercase
-/// forms are.
+/// Whether `c` and `x` are equal, or, case-insensitively, are ASCII characters with the same lower case.
 pub fn is_same(case_sensitive: bool, c: char, x: char) -> bool
     ensures { result ≡ is_same case_sensitive c x }
 {
@@ -144,8 +144,8 @@ pub fn is_same(case_sensitive: bool, c: char, x: char) -> bool
             && c.to_ascii_lowercase() == x.to_ascii_lowercase())
 }
 
-/// Whether `c` is in the range from `x` to `y` once all are in lowercase. The three are of ASCII, and both ends
-/// letters.
+/// Whether `c` is in the range from `x` to `y` once all are in lower case. False unless all three are ASCII and both
+/// ends are letters.
 fn is_in_folded_range(x: char, y: char, c: char) -> bool
     ensures { result ≡ in_folded_range x y c }
 {

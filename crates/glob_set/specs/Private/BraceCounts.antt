@@ -1,4 +1,4 @@
--- Counts of alternatives, which are at most the largest `usize`.
+-- Numbers of alternatives, which stop at the largest `usize`.
 use Rattle.std.specs.Prelude.{◌≡◌, ℕ, ◌-◌, ◌^◌, ◌≤◌, min, true, false, List, [], ◌∷◌, ◌++◌, length}
 use Rattle.glob_text.specs.Text.{Text}
 use Rattle.glob_set.specs.declared.braces.counting.Opened.{Opened}
@@ -10,20 +10,20 @@ use Rattle.glob_set.specs.Braces.{HasAlternatives, HasEnded}
 abbrev pub largest : ℕ
 largest = 2 ^ 64 - 1
 
--- the count is that number, or the largest one if the number is larger
+-- the count is the number, or the largest `usize` if the number is larger
 abbrev pub IsCount : (count number : ℕ) → Type 0
 IsCount count number = count ≡ min number largest
 
--- so many alternatives: at least one
+-- the count is that of the texts, and there is at least one
 abbrev pub IsCountOf : (count : ℕ) → List Text → Type 0
 IsCountOf count texts = IsCount count (length texts) × (1 ≤ length texts)
 
--- balanced lexemes have so many alternatives
+-- balanced lexemes with this many alternatives
 abbrev pub CountsAlternatives : List Lexeme → (count : ℕ) → Type 0
 CountsAlternatives lexemes count =
     (ts : List Text) × HasAlternatives true lexemes ts × IsCountOf count ts
 
--- within a `{` are some ended by commas, `found` in all, and one more with `count` alternatives
+-- in a `{` there are branches ended by commas, with `found` alternatives, and one more with `count`
 pub record CountsGroup (inner : List Lexeme) (found count : ℕ) : Type 0 where
   pub ended : List Lexeme
   pub last : List Lexeme
@@ -35,7 +35,7 @@ pub record CountsGroup (inner : List Lexeme) (found count : ℕ) : Type 0 where
   pub found_is : IsCount found (length ended_texts)
   pub count_is : IsCountOf count last_texts
 
--- the lexemes so far, with each `{` without its `}`, the last first
+-- the lexemes so far, with the open `{`, the last one first
 abbrev pub CountsSoFar : List Lexeme → (count : ℕ) → List Opened → Type 0
 CountsSoFar lexemes count [] = CountsAlternatives lexemes count
 CountsSoFar lexemes count (o ∷ os) =

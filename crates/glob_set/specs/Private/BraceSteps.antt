@@ -7,13 +7,12 @@ use Rattle.glob_set.specs.declared.braces.lexemes.Lexeme.{Lexeme}
 use Rattle.glob_set.specs.declared.braces.lexemes.Lexeme.TheVariants.{Literal, Open, Comma, Close}
 use Rattle.glob_set.specs.Braces.{comma, each_with, joined}
 
--- a `{` without its `}` so far: the alternatives before it, and those between it and its last comma
+-- an open `{`: the alternatives before it, and those between it and its last comma
 pub record OpenGroup : Type 0 where
   pub before : List Text
   pub found : List Text
 
--- the alternatives of what follows the last `{` without its `}`, or the comma after it, and all such `{`, the last
--- first
+-- the alternatives since the last open `{` or its last comma, and all open `{`, the last one first
 pub record Reading : Type 0 where
   pub texts : List Text
   pub groups : List OpenGroup
@@ -37,7 +36,7 @@ after_lexeme Open r =
 after_lexeme Comma r = after_comma r.texts r.groups
 after_lexeme Close r = after_close r.texts r.groups
 
--- after more lexemes
+-- after all these lexemes
 abbrev pub after_lexemes : Reading → List Lexeme → Reading
 after_lexemes r [] = r
 after_lexemes r (l ∷ ls) = after_lexemes (after_lexeme l r) ls
@@ -47,10 +46,10 @@ abbrev pub start_reading : Reading
 start_reading = record { texts = [] ∷ []; groups = [] }
 
 module _ {A : Type 0} where
-  -- a group of the code, with its texts in bytes
+  -- a group of the code as an open `{`, with its texts in bytes
   abbrev pub group_of : Group A → OpenGroup
   group_of g = record { before = map string_bytes g.before.items; found = map string_bytes g.found.items }
 
-  -- what the code has read, with the last `{` first
+  -- what the code has read, with the last open `{` first
   abbrev pub reading_of : List (String A) → List (Group A) → Reading
   reading_of texts groups = record { texts = map string_bytes texts; groups = reverse (map group_of groups) }

@@ -1,4 +1,4 @@
--- The patterns that have a key by which a text is looked up.
+-- The patterns that have a key of a text.
 use Rattle.std.specs.Prelude.{◌≡◌, ◌≢◌, ℕ, ◌+◌, ◌-◌, ◌<◌, ◌≤◌, ◌⊎◌, Bool, List, [], ◌∷◌, length, slice_index, slice_index_or, Option, Some, None, IsTrue, Contains}
 use Rattle.glob_text.specs.Characters.{slash}
 use Rattle.glob_set.specs.declared.components.Component as component
@@ -7,25 +7,25 @@ use Rattle.glob_set.specs.declared.key.Key.TheVariants.{Component, Beginning, En
 use Rattle.glob_set.specs.Private.Components.{slot_of}
 use Rattle.glob_set.specs.Private.Keys.{hash_of}
 
--- numbers, and whether one more had no room
+-- numbers, and whether one was left out
 pub record FoundNumbers : Type 0 where
   pub items : List ℕ
   pub is_full : Bool
 
--- the few, until there are many
+-- the few numbers, until there are many
 abbrev pub few_or_many : (few many : List ℕ) → List ℕ
 few_or_many few [] = few
 few_or_many few (n ∷ ns) = n ∷ ns
 
--- the number is there, or one had no room
+-- the number is there, or one was left out
 abbrev pub Keeps : FoundNumbers → ℕ → Type 0
 Keeps found number = IsTrue found.is_full ⊎ Contains found.items number
 
--- each number that is in the first is in the second
+-- no number is lost, and left-out numbers stay reported
 unfoldable pub KeepsAll : (old new : FoundNumbers) → Type 0
 KeepsAll old new = (number : ℕ) → Keeps old number → Keeps new number
 
--- each pattern with a key that is asked for is there
+-- each pattern with a key that is asked for is there, or a number was left out
 unfoldable pub Finds : (keys : List (Option Key)) → (asked : Key → Type 0) → FoundNumbers → Type 0
 Finds keys asked found =
     (number : ℕ) (key : Key) → number < length keys → slice_index_or keys number None ≡ Some key → asked key
@@ -35,26 +35,26 @@ Finds keys asked found =
 abbrev pub HasHash : (hash : ℕ) → Key → Type 0
 HasHash hash key = hash_of key ≡ hash
 
--- the slot of a key in a table of so many, or that of patterns without one
+-- the slot of a key in a table of `slots`; patterns without a key have the slot after these
 abbrev pub key_slot : (key : Option Key) → (slots : ℕ) → ℕ
 key_slot (Some key) slots = slot_of (hash_of key) slots
 key_slot None slots = slots
 
--- the key is of a component that has been read before the byte, or of its beginning
+-- the key is that of the component that ends before the byte, or of the part that was read
 abbrev pub IsReadBefore : component.Component → (byte : ℕ) → Key → Type 0
 IsReadBefore c byte (Component hash) = (byte ≡ slash) × (c.hash ≡ hash)
 IsReadBefore c byte (Beginning hash len) = c ≡ record { hash = hash; len = len }
 IsReadBefore c byte (Ending hash len) = ⊥
 IsReadBefore c byte (Extension hash len) = ⊥
 
--- the first pattern in a slot from a number on is this one, or there is none
+-- the next pattern in the slot, from number `from` on; the number of patterns if there is none
 pub record IsNext (keys : List (Option Key)) (slots slot from next : ℕ) : Type 0 where
   pub after : from ≤ next
   pub within : next ≤ length keys
   pub here : next < length keys → key_slot (slice_index_or keys next None) slots ≡ slot
   pub between : (k : ℕ) → from ≤ k → k < next → key_slot (slice_index_or keys k None) slots ≢ slot
 
--- each slot leads to its first pattern, and each pattern to the next in its slot
+-- each slot leads to its first pattern, and each pattern to the next one in its slot
 pub record AreLinked (keys : List (Option Key)) (firsts nexts : List ℕ) : Type 0 where
   pub some : 1 < length firsts
   pub as_many : length nexts ≡ length keys

@@ -1,4 +1,4 @@
-//! How many alternatives lexemes have, and whether their braces are balanced.
+//! The number of alternatives of lexemes, and whether their braces are balanced.
 ghost use Rattle.std.specs.Prelude.{◌≡◌, List, [], ◌∷◌, ◌++◌, length, reverse, IfOk, IfErr};
 ghost use Rattle.glob_set.specs.Braces.{RefusesLexemes};
 ghost use Rattle.glob_set.specs.declared.braces.lexemes.Lexeme.{Lexeme as Kept};
@@ -8,19 +8,19 @@ use crate::braces::error::{BraceError, BraceRefusal};
 use crate::braces::lexemes::Lexeme;
 use std::alloc::Allocator;
 
-/// A `{` without its `}` so far. Counts of alternatives are at most the largest `usize`.
+/// A `{` that is still open. Numbers of alternatives stop at `usize::MAX`.
 #[derive(Clone, Copy)]
 pub struct Opened {
     /// Its place, in characters from 0.
     pub place: usize,
-    /// How many alternatives there are before it.
+    /// The number of alternatives before it.
     pub before: usize,
-    /// How many there are between it and its last comma.
+    /// The number of alternatives between it and its last comma.
     pub found: usize,
 }
 
-/// How many alternatives the lexemes have, at most the largest `usize`. The error is the first brace from the left that
-/// has no partner, or a failed allocation.
+/// The number of alternatives of the lexemes, which stops at `usize::MAX`. The error is the first brace from the left
+/// that has no partner, or a failed allocation.
 pub fn count_of<A: Allocator>(alloc: A, lexemes: &[Lexeme]) -> Result<usize, BraceRefusal>
     ensures counted { IfOk result (CountsAlternatives lexemes.now) }
     ensures refused { IfErr result (RefusesLexemes lexemes.now) }
@@ -36,7 +36,8 @@ pub fn count_of<A: Allocator>(alloc: A, lexemes: &[Lexeme]) -> Result<usize, Bra
     }
 }
 
-/// The count of what follows the last `{` without its `}`, or the comma after it, with one more lexeme.
+/// Reads one more lexeme. `count` is the number of alternatives since the last open `{` or its last comma; the result
+/// is the new one.
 fn count_lexeme<A: Allocator>(
     opened: &mut Vec<Opened, A>,
     count: usize,

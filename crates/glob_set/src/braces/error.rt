@@ -6,12 +6,12 @@ use std::alloc::{AllocError, AllocFailed};
 use std::error::Error;
 use std::fmt;
 
-/// What is wrong with the braces of a text. Places are in characters, counted from 0: of `a{b`, `Unclosed(1)`.
+/// What is wrong with the braces of a text. Places are in characters from 0: `a{b` has the error `Unclosed(1)`.
 #[derive(Clone, Copy, Debug, PartialEq, Eq)]
 pub enum BraceError {
-    /// The first `}` that no `{` before it belongs to.
+    /// The first `}` without a `{` before it that is its partner.
     Unmatched(usize),
-    /// The first `{` that no `}` after it belongs to.
+    /// The first `{` without a `}` after it that is its partner.
     Unclosed(usize),
     /// More than [`MOST_ALTERNATIVES`](crate::braces::MOST_ALTERNATIVES) alternatives.
     TooMany,
@@ -34,10 +34,10 @@ impl fmt::Display for BraceError {
 
 impl Error for BraceError {}
 
-/// Why a text was not expanded, by [`expand`](crate::braces::expand).
+/// Why [`expand`](crate::braces::expand) refused a text.
 #[derive(Clone, Copy, Debug, PartialEq, Eq)]
 pub enum BraceRefusal {
-    /// The fault of the text: of `a}`, that its `}` is at place 1.
+    /// The fault of the text: `Unmatched(1)` for `a}`.
     Syntax(BraceError),
     /// Out of memory: an allocation failed.
     Memory,

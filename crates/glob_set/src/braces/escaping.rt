@@ -1,12 +1,12 @@
-//! Texts escaped, as patterns with braces that match themselves.
+//! Escaped texts: patterns with braces that match the text they are made from.
 ghost use Rattle.std.specs.Prelude.{◌≡◌, IfOk, OnOk, ◌++◌, chars, encode_utf8_all, string_bytes};
 ghost use Rattle.glob_set.specs.BraceEscaping.{StandsFor, escaped_character, escaped_text, is_special};
 
 use std::alloc::{AllocError, Allocator};
 
-/// The text as a pattern with braces that matches it: each `?`, `*`, `[`, `]`, `{` and `}` is put in a bracket of its
-/// own, and every other character as it is. So `{a}*` becomes `[{]a[}][*]`, which [`expand`](crate::braces::expand)
-/// returns as it is. Fails only if allocation fails.
+/// Escapes a text to a pattern with braces that matches it: puts each `?`, `*`, `[`, `]`, `{` and `}` in a bracket of
+/// its own, and keeps every other character. `{a}*` becomes `[{]a[}][*]`, which is its own only alternative in
+/// [`expand`](crate::braces::expand). Fails only if allocation fails.
 pub fn escape<A: Allocator>(alloc: A, text: &str) -> Result<String<A>, AllocError>
     ensures escaped { IfOk result
         (λ escaped. chars (string_bytes escaped) ≡ escaped_text (chars text.now)) }
@@ -19,7 +19,7 @@ pub fn escape<A: Allocator>(alloc: A, text: &str) -> Result<String<A>, AllocErro
     Ok(escaped)
 }
 
-/// Puts an escaped character at the end.
+/// Appends a character, escaped.
 fn push_escaped<A: Allocator>(escaped: &mut String<A>, c: char) -> Result<(), AllocError>
     ensures { OnOk result (string_bytes escaped.new
         ≡ string_bytes escaped.old ++ encode_utf8_all (escaped_character c)) }
@@ -32,7 +32,7 @@ fn push_escaped<A: Allocator>(escaped: &mut String<A>, c: char) -> Result<(), Al
     escaped.push(']')
 }
 
-/// Whether the character is special in a pattern or a brace.
+/// Whether the character has a meaning in patterns or braces.
 fn is_special(c: char) -> bool
     ensures { result ≡ is_special c }
 {

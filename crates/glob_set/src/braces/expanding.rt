@@ -7,12 +7,12 @@ use crate::braces::lexemes::Lexeme;
 use std::alloc::{AllocError, Allocator, Global};
 use std::mem;
 
-/// A `{` without its `}` so far.
+/// A `{` that is still open.
 #[derive(Drop)]
 pub struct Group<A: Allocator = Global> {
-    /// The alternatives of what is before it.
+    /// The alternatives of the text before it.
     pub before: Vec<String<A>, A>,
-    /// Those of what is between it and its last comma.
+    /// The alternatives between it and its last comma.
     pub found: Vec<String<A>, A>,
 }
 
@@ -32,7 +32,7 @@ pub fn expand_all<A: Allocator + Copy>(
     Ok(texts)
 }
 
-/// The alternatives of nothing: an empty text.
+/// The alternatives of no lexemes: an empty text.
 fn empty_text<A: Allocator + Copy>(alloc: A) -> Result<Vec<String<A>, A>, AllocError>
     ensures { IfOk result (λ texts. map string_bytes texts.items ≡ [] ∷ []) }
 {
@@ -41,7 +41,7 @@ fn empty_text<A: Allocator + Copy>(alloc: A) -> Result<Vec<String<A>, A>, AllocE
     Ok(texts)
 }
 
-/// Reads a lexeme. The texts are the alternatives of what follows the last `{` or the comma after it.
+/// Reads a lexeme. `texts` are the alternatives since the last open `{` or its last comma.
 fn step<A: Allocator + Copy>(
     alloc: A,
     texts: &mut Vec<String<A>, A>,
@@ -81,7 +81,7 @@ fn step<A: Allocator + Copy>(
     }
 }
 
-/// Puts a character at the end of each text.
+/// Appends a character to each text.
 fn push_to_each<A: Allocator>(texts: &mut Vec<String<A>, A>, c: char) -> Result<(), AllocError>
     ensures { OnOk result (map string_bytes texts.new.items
         ≡ each_with (map string_bytes texts.old.items) (encode_utf8 c)) }
@@ -92,7 +92,7 @@ fn push_to_each<A: Allocator>(texts: &mut Vec<String<A>, A>, c: char) -> Result<
     Ok(())
 }
 
-/// Each of the first texts with each of the second ones behind it, in order of the first.
+/// Each of the first texts followed by each of the second ones, in the order of the first.
 fn joined<A: Allocator + Copy>(
     alloc: A,
     firsts: &[String<A>],
@@ -108,7 +108,7 @@ fn joined<A: Allocator + Copy>(
     Ok(texts)
 }
 
-/// Puts the first text with each of the second ones behind it at the end.
+/// Appends to `texts` the first text followed by each of the second ones.
 fn push_joined<A: Allocator + Copy>(
     alloc: A,
     first: &str,

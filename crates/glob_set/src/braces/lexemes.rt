@@ -5,10 +5,10 @@ ghost use Rattle.glob_set.specs.Braces.{lexemes, lexeme_at, lexeme_of, end_at, b
 use glob_pattern::close_from;
 use std::alloc::{AllocError, Allocator};
 
-/// What a character is: a brace, a comma, or itself.
+/// What a character means to braces.
 #[derive(Clone, Copy)]
 pub enum Lexeme {
-    /// The character, which is no brace and no comma, or is in a bracket.
+    /// A character that is not a brace or a comma, or is in a bracket.
     Literal(char),
     /// `{`
     Open,
@@ -18,7 +18,7 @@ pub enum Lexeme {
     Close,
 }
 
-/// The lexemes of a text, one for each of its characters.
+/// The lexemes of a text, one per character.
 pub fn lexemes_of<A: Allocator + Copy>(alloc: A, text: &str) -> Result<Vec<Lexeme, A>, AllocError>
     ensures { IfOk result (λ found. found.items ≡ lexemes (chars text.now)) }
 {
@@ -40,7 +40,8 @@ fn lexemes_in<A: Allocator>(alloc: A, text: &[char]) -> Result<Vec<Lexeme, A>, A
     Ok(found)
 }
 
-/// The end of the bracket that a place is in, or that place. The last bracket that begins before it has the end `last`.
+/// The end of the bracket that contains `place`, or `place` if none does. `last` is the end of the last bracket that
+/// begins before it.
 fn end_at(text: &[char], place: usize, last: usize) -> usize
     requires { place < length text.now }
     ensures { result ≡ end_at text.now place last }
@@ -52,7 +53,7 @@ fn end_at(text: &[char], place: usize, last: usize) -> usize
     }
 }
 
-/// What the character at a place is, where those before `end` are in a bracket.
+/// What the character at `place` means, if a bracket goes up to `end`.
 fn lexeme_at(place: usize, end: usize, c: char) -> Lexeme
     ensures { result ≡ lexeme_at place end c }
 {
@@ -63,7 +64,7 @@ fn lexeme_at(place: usize, end: usize, c: char) -> Lexeme
     }
 }
 
-/// What the character is outside of brackets.
+/// What the character means outside brackets.
 fn lexeme_of(c: char) -> Lexeme
     ensures { result ≡ lexeme_of c }
 {
@@ -75,7 +76,7 @@ fn lexeme_of(c: char) -> Lexeme
     }
 }
 
-/// The place after the bracket that begins at a place, or that place if none does.
+/// The place after the bracket that begins at `place`, or `place` if none does.
 fn bracket_end(text: &[char], place: usize) -> usize
     requires { place < length text.now }
     ensures { result ≡ bracket_end text.now place }

@@ -5,18 +5,17 @@ ghost use Rattle.glob_set.specs.Private.Asking.{AreAsked, AreMatches, IsFirstOf,
 ghost use Rattle.glob_set.specs.Private.Pairs.{text_bits};
 ghost use Rattle.glob_set.specs.Sets.{AreShort, MatchesAt};
 
-use crate::buckets::bucket_at;
 use crate::found::Found;
 use crate::pairs::{Need, text_bits, text_class};
 use crate::set::PatternSet;
 use std::alloc::{AllocError, Allocator};
 
-/// How many patterns of a list make it worthwhile to know the bits of the text.
-const MANY: usize = 3;
+/// The bits of a text are computed if a list has at least this many patterns to ask. Fewer are asked faster without.
+const FEWEST_WITH_BITS: usize = 3;
 
 impl<A: Allocator + Copy> PatternSet<A> {
-    /// The numbers of the patterns without a key that may match the text. Those of the others go into `found`; if an
-    /// allocation for them fails, all patterns are listed.
+    /// The patterns without a key that may match the text. Those with a key go into `found`. If an allocation for them
+    /// fails, all patterns are listed.
     #[inline(always)]
     pub(crate) fn listed_for(&self, text: &str, found: &mut Found<A>) -> &[usize]
         requires { found.old ≡ record { items = []; is_full = false } }
@@ -27,10 +26,10 @@ impl<A: Allocator + Copy> PatternSet<A> {
         if found.is_full() {
             return self.all.numbers();
         }
-        bucket_at(self.buckets.as_slice(), text_class(bytes))
+        self.buckets.of_class(text_class(bytes))
     }
 
-    /// The first of the numbers whose pattern matches the text.
+    /// The first of these numbers whose pattern matches the text.
     #[inline(always)]
     pub(crate) fn first_of(
         &self,
@@ -53,7 +52,7 @@ impl<A: Allocator + Copy> PatternSet<A> {
         Ok(None)
     }
 
-    /// The last of the numbers whose pattern matches the text.
+    /// The last of these numbers whose pattern matches the text.
     #[inline(always)]
     pub(crate) fn last_of(
         &self,
@@ -78,7 +77,7 @@ impl<A: Allocator + Copy> PatternSet<A> {
         Ok(None)
     }
 
-    /// Replaces the content of `numbers` by the numbers of all patterns that match the text, in any order.
+    /// Replaces the content of `numbers` with the numbers of all patterns that match the text, in any order.
     pub(crate) fn find_matches<B: Allocator>(
         &self,
         text: &str,
@@ -108,7 +107,7 @@ impl<A: Allocator + Copy> PatternSet<A> {
         self.push_of(found.numbers(), text, bits, numbers)
     }
 
-    /// Adds those of the numbers whose patterns match the text.
+    /// Adds those of the asked numbers whose patterns match the text.
     fn push_of<B: Allocator>(
         &self,
         asked: &[usize],
@@ -134,7 +133,7 @@ impl<A: Allocator + Copy> PatternSet<A> {
         Ok(())
     }
 
-    /// Whether the pattern of this number matches the text, whose bits are known or not.
+    /// Whether pattern `number` matches the text. `bits` are the bits of the text, if they are known.
     #[inline(always)]
     fn matches_at(&self, number: usize, text: &str, bits: Option<u128>) -> Result<bool, AllocError>
         requires number { number < length self.now.patterns }
@@ -150,7 +149,7 @@ impl<A: Allocator + Copy> PatternSet<A> {
     }
 }
 
-/// Whether a text of these bits, if they are known, lacks one that is needed.
+/// Whether a text with these bits, if they are known, lacks one that is needed.
 #[inline(always)]
 fn lacks(need: &Need, bits: Option<u128>) -> bool
     ensures { IsTrue result → IsSomeAnd bits (λ known. bit_or need.now.bits known ≢ known) }
@@ -161,18 +160,18 @@ fn lacks(need: &Need, bits: Option<u128>) -> bool
     }
 }
 
-/// The bits of the text, unless few patterns are asked about it: these are tried sooner than its bits are known.
+/// The bits of the text, unless only few patterns are asked about it.
 #[inline(always)]
 pub(crate) fn bits_for(text: &str, listed: &[usize], found: &[usize]) -> Option<u128>
     ensures { IfSome result (λ known. known ≡ text_bits text.now) }
 {
-    if listed.len() < MANY && found.len() < MANY {
+    if listed.len() < FEWEST_WITH_BITS && found.len() < FEWEST_WITH_BITS {
         return None;
     }
     Some(text_bits(text.as_bytes()))
 }
 
-/// The lower of two numbers, or the one that there is.
+/// The lower of two numbers, or the only one, or none.
 pub(crate) fn earlier(one: Option<usize>, other: Option<usize>) -> Option<usize>
     ensures { result ≡ earlier one other }
 {
@@ -183,7 +182,7 @@ pub(crate) fn earlier(one: Option<usize>, other: Option<usize>) -> Option<usize>
     }
 }
 
-/// The higher of two numbers, or the one that there is.
+/// The higher of two numbers, or the only one, or none.
 pub(crate) fn later(one: Option<usize>, other: Option<usize>) -> Option<usize>
     ensures { result ≡ later one other }
 {

@@ -16,18 +16,21 @@ shortest_pieces-requires-clause-bytes g c =
 pub rests_of-requires-clause-taken : goal.rests_of-requires-clause-taken
 rests_of-requires-clause-taken g c =
     let is : c.as_slice.result.now ≡ chars c.args.text.now = c.as_slice.ensures.value ∙ c.in_ok-characters.ensures in
-    rw is (TakesRest-from_Matches c.args.options (chars c.args.pattern.now) (chars c.args.text.now) (c.in_ok-matches_with.ensures.answer.0 c.if-not-branch.false))
+    rw is (TakesRest-from_Matches c.args.options (chars c.args.pattern.now) (chars c.args.text.now)
+    (c.in_ok-matches_with.ensures.answer.0 c.if-not-branch.false))
 
 pub shortest_pieces-requires-clause-taken : goal.shortest_pieces-requires-clause-taken
 shortest_pieces-requires-clause-taken g c =
     let is : c.as_slice-2.result.now ≡ chars c.args.text.now = c.as_slice-2.ensures.value ∙ c.in_ok-characters.ensures in
-    rw is (TakesRest-from_Matches c.args.options (chars c.args.pattern.now) (chars c.args.text.now) (c.in_ok-matches_with.ensures.answer.0 c.if-not-branch.false))
+    rw is (TakesRest-from_Matches c.args.options (chars c.args.pattern.now) (chars c.args.text.now)
+    (c.in_ok-matches_with.ensures.answer.0 c.if-not-branch.false))
 
 pub returns-clause-pieces : goal.returns-clause-pieces
 returns-clause-pieces g c =
     let is : c.as_slice-2.result.now ≡ chars c.args.text.now = c.as_slice-2.ensures.value ∙ c.in_ok-characters.ensures in
     AreCaptures-from_ends c.args.options (tokens_of (chars c.args.pattern.now)) (chars c.args.text.now) c.in_ok-pieces.pieces.items
-    (subst (λ text. HasShortestEnds c.args.options (tokens_of (chars c.args.pattern.now)) text c.in_ok-pieces.pieces.items) is c.in_ok-pieces.ensures)
+    (subst (λ text. HasShortestEnds c.args.options (tokens_of (chars c.args.pattern.now)) text
+    c.in_ok-pieces.pieces.items) is c.in_ok-pieces.ensures)
 
 pub returns-in_err-matches_with-clause-large : goal.returns-in_err-matches_with-clause-large
 returns-in_err-matches_with-clause-large g c = large_at_memory _ c.if-is_too_large.ensures _ c.from_residual.ensures.1

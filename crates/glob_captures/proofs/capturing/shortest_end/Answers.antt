@@ -1,4 +1,5 @@
-use Rattle.std.proofs.Common.{chars, ◌≡◌, ◌≢◌, ◌+◌, ◌-◌, ◌<◌, ◌≤◌, ℕ, Bool, true, false, not, [], length, get_or, refl, sym, ap, ◌∙◌, subst, arith}
+use Rattle.std.proofs.Common.{chars, ◌≡◌, ◌≢◌, ◌+◌, ◌-◌, ◌<◌, ◌≤◌, ℕ, Bool, true, false, not, [], length, get_or, refl}
+use Rattle.std.proofs.Common.{sym, ap, ◌∙◌, subst, arith}
 use Rattle.std.proofs.lemmas.Bool.{false≢true}
 use Rattle.std.proofs.lemmas.List.{get_or_default}
 use Rattle.glob_pattern.specs.Computing.Tokens.{tokens_of}
@@ -21,13 +22,15 @@ is-true false h = absurd (false≢true (sym h))
 pub returns-then-not-form-clause-high : goal.returns-then-not-form-clause-high
 returns-then-not-form-clause-high g c =
     let inside : c.args.place < length c.args.text.now =
-    room c.args.options (tokens_of (chars c.args.pattern.now)) c.args.text.now c.args.token c.args.place c.form_of-form.result c.requires.token c.form_of-form.ensures
+    room c.args.options (tokens_of (chars c.args.pattern.now)) c.args.text.now c.args.token c.args.place
+    c.form_of-form.result c.requires.token c.form_of-form.ensures
     (is-false c.form_of-form.result.grows c.if-not-form.true) c.requires.taken in
     omega arith
 
 pub returns-then-not-form-clause-end : goal.returns-then-not-form-clause-end
 returns-then-not-form-clause-end g c =
-    shortest_one c.args.options (tokens_of (chars c.args.pattern.now)) c.args.text.now c.args.token c.args.place c.form_of-form.result c.requires.token c.form_of-form.ensures
+    shortest_one c.args.options (tokens_of (chars c.args.pattern.now)) c.args.text.now c.args.token c.args.place
+    c.form_of-form.result c.requires.token c.form_of-form.ensures
     (is-false c.form_of-form.result.grows c.if-not-form.true) c.requires.taken
 
 pub overflow_sub-result-then-token-span-2 : goal.overflow_sub-result-then-token-span-2
@@ -36,7 +39,8 @@ overflow_sub-result-then-token-span-2 g c =
     omega (
       arith,
       c.tokens_len.ensures.count,
-      rest-room c.args.options tokens c.args.text.now c.args.span c.requires.span c.args.token (omega arith) c.requires.token c.args.place c.requires.taken,
+      rest-room c.args.options tokens c.args.text.now c.args.span c.requires.span c.args.token
+          (omega arith) c.requires.token c.args.place c.requires.taken,
     )
 
 pub returns-then-token-span-clause-low : goal.returns-then-token-span-clause-low
@@ -47,7 +51,8 @@ returns-then-token-span-clause-low g c =
     let end : ℕ = length text - (length tokens - 1 - n) in
     let shortest : IsShortestEnd (table_of c.args.options tokens text) n (shape_at tokens n) (shapes_from tokens (n + 1)) c.args.place end =
     shortest_last c.args.options tokens text c.args.span c.requires.span n (omega arith) c.requires.token c.args.place c.requires.taken in
-    let low : c.args.place ≤ end = MayReach-le (table_of c.args.options tokens text) (shape_at tokens n) (shapes_from tokens (n + 1)) c.args.place end shortest.reach in
+    let low : c.args.place ≤ end = MayReach-le (table_of c.args.options tokens text) (shape_at tokens n)
+    (shapes_from tokens (n + 1)) c.args.place end shortest.reach in
     omega (arith, c.tokens_len.ensures.count, low)
 
 pub returns-then-token-span-clause-end : goal.returns-then-token-span-clause-end
@@ -55,17 +60,20 @@ returns-then-token-span-clause-end g c =
     let tokens = tokens_of (chars c.args.pattern.now) in
     let text = c.args.text.now in
     let n = c.args.token in
-    subst (λ m. IsShortestEnd (table_of c.args.options tokens text) n (shape_at tokens n) (shapes_from tokens (n + 1)) c.args.place (length text - (m - 1 - n))) (sym c.tokens_len.ensures.count)
+    subst (λ m. IsShortestEnd (table_of c.args.options tokens text) n (shape_at tokens n) (shapes_from tokens (n + 1))
+    c.args.place (length text - (m - 1 - n))) (sym c.tokens_len.ensures.count)
     (shortest_last c.args.options tokens text c.args.span c.requires.span n (omega arith) c.requires.token c.args.place c.requires.taken)
 
 pub first_end-requires-clause-many : goal.first_end-requires-clause-many
 first_end-requires-clause-many g c =
     let tokens = tokens_of (chars c.args.pattern.now) in
     let i : ℕ = c.args.span.last - 1 - c.args.token in
-    let more : grows (shape_at tokens c.args.token) ≡ true = sym c.form_of-form.ensures.many ∙ is-true c.form_of-form.result.grows c.if-not-form.false in
+    let more : grows (shape_at tokens c.args.token) ≡ true = sym c.form_of-form.ensures.many
+    ∙ is-true c.form_of-form.result.grows c.if-not-form.false in
     let other : c.args.token ≢ c.args.span.last = omega arith in
     let index = inner-index tokens c.args.span c.args.token c.requires.span c.requires.token more other in
-    let row = inner-row tokens c.args.span c.args.token c.requires.span c.requires.token more other c.args.options c.args.text.now c.args.rests.now c.requires.rests in
+    let row = inner-row tokens c.args.span c.args.token c.requires.span c.requires.token more other c.args.options
+    c.args.text.now c.args.rests.now c.requires.rests in
     let read : get_or c.args.rests.now i [] ≡ c.as_slice-next.result.now =
     get_or_default c.args.rests.now i [] c.index-rests-span.result (omega (arith, index, c.requires.rests.many))
     ∙ sym c.index-rests-span.is ∙ sym c.as_slice-next.ensures in
@@ -75,16 +83,20 @@ pub returns-else-token-span-clause-end : goal.returns-else-token-span-clause-end
 returns-else-token-span-clause-end g c =
     let tokens = tokens_of (chars c.args.pattern.now) in
     let i : ℕ = c.args.span.last - 1 - c.args.token in
-    let more : grows (shape_at tokens c.args.token) ≡ true = sym c.form_of-form.ensures.many ∙ is-true c.form_of-form.result.grows c.if-not-form.false in
+    let more : grows (shape_at tokens c.args.token) ≡ true = sym c.form_of-form.ensures.many
+    ∙ is-true c.form_of-form.result.grows c.if-not-form.false in
     let other : c.args.token ≢ c.args.span.last = omega arith in
     let index = inner-index tokens c.args.span c.args.token c.requires.span c.requires.token more other in
-    let row = inner-row tokens c.args.span c.args.token c.requires.span c.requires.token more other c.args.options c.args.text.now c.args.rests.now c.requires.rests in
+    let row = inner-row tokens c.args.span c.args.token c.requires.span c.requires.token more other c.args.options
+    c.args.text.now c.args.rests.now c.requires.rests in
     let read : get_or c.args.rests.now i [] ≡ c.as_slice-next.result.now =
     get_or_default c.args.rests.now i [] c.index-rests-span.result (omega (arith, index, c.requires.rests.many))
     ∙ sym c.index-rests-span.is ∙ sym c.as_slice-next.ensures in
-    shortest_first c.args.options tokens c.args.text.now c.args.token c.args.place c.form_of-form.result c.requires.token c.form_of-form.ensures
+    shortest_first c.args.options tokens c.args.text.now c.args.token c.args.place c.form_of-form.result
+    c.requires.token c.form_of-form.ensures
     c.as_slice-next.result.now c.first_end.result (is-true c.form_of-form.result.grows c.if-not-form.false)
-    (subst (λ places. AreRests c.args.options tokens c.args.text.now (c.args.token + 1) 0 places) read row) c.first_end.ensures c.requires.taken
+    (subst (λ places. AreRests c.args.options tokens c.args.text.now (c.args.token + 1) 0 places) read row)
+    c.first_end.ensures c.requires.taken
 
 pub first_end-requires-clause-within : goal.first_end-requires-clause-within
 first_end-requires-clause-within g c = c.requires.place
@@ -104,20 +116,23 @@ returns-else-token-span-clause-high g c = c.first_end.ensures.high
 pub overflow_sub-span : goal.overflow_sub-span
 overflow_sub-span g c =
     let tokens = tokens_of (chars c.args.pattern.now) in
-    let more : grows (shape_at tokens c.args.token) ≡ true = sym c.form_of-form.ensures.many ∙ is-true c.form_of-form.result.grows c.if-not-form.false in
+    let more : grows (shape_at tokens c.args.token) ≡ true = sym c.form_of-form.ensures.many
+    ∙ is-true c.form_of-form.result.grows c.if-not-form.false in
     let other : c.args.token ≢ c.args.span.last = omega arith in
     omega (arith, inner-index tokens c.args.span c.args.token c.requires.span c.requires.token more other)
 
 pub bounds-rests-span : goal.bounds-rests-span
 bounds-rests-span g c =
     let tokens = tokens_of (chars c.args.pattern.now) in
-    let more : grows (shape_at tokens c.args.token) ≡ true = sym c.form_of-form.ensures.many ∙ is-true c.form_of-form.result.grows c.if-not-form.false in
+    let more : grows (shape_at tokens c.args.token) ≡ true = sym c.form_of-form.ensures.many
+    ∙ is-true c.form_of-form.result.grows c.if-not-form.false in
     let other : c.args.token ≢ c.args.span.last = omega arith in
     omega (arith, inner-index tokens c.args.span c.args.token c.requires.span c.requires.token more other, c.requires.rests.many)
 
 pub offset_bounds-rests-span : goal.offset_bounds-rests-span
 offset_bounds-rests-span g c =
     let tokens = tokens_of (chars c.args.pattern.now) in
-    let more : grows (shape_at tokens c.args.token) ≡ true = sym c.form_of-form.ensures.many ∙ is-true c.form_of-form.result.grows c.if-not-form.false in
+    let more : grows (shape_at tokens c.args.token) ≡ true = sym c.form_of-form.ensures.many
+    ∙ is-true c.form_of-form.result.grows c.if-not-form.false in
     let other : c.args.token ≢ c.args.span.last = omega arith in
     omega (arith, inner-index tokens c.args.span c.args.token c.requires.span c.requires.token more other, c.requires.rests.many)

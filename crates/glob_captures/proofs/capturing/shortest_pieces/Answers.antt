@@ -18,7 +18,12 @@ loop-token-init g c = record {
 
 pub bytes_of-requires : goal.bytes_of-requires
 bytes_of-requires g c =
-    omega (arith, length-encodes_piece c.args.text.now c.loop-token.place (c.shortest_end-after.result - c.loop-token.place), c.requires.bytes)
+    omega (
+      arith,
+      length-encodes_piece c.args.text.now c.loop-token.place (c.shortest_end-after.result -
+          c.loop-token.place),
+      c.requires.bytes,
+    )
 
 pub overflow_add-end : goal.overflow_add-end
 overflow_add-end g c =
@@ -39,10 +44,13 @@ loop-token-preserved g c =
     let i = c.loop-token.place in
     let j = c.shortest_end-after.result in
     let later = byte_place_later text i j c.shortest_end-after.ensures.low in
-    let end : c.loop-token.start + c.bytes_of.result ≡ byte_place text j = omega (arith, later, c.loop-token.invariant.start, c.bytes_of.ensures) in
+    let end : c.loop-token.start + c.bytes_of.result ≡ byte_place text j = omega
+    (arith, later, c.loop-token.invariant.start, c.bytes_of.ensures) in
     let piece : ℕ → ℕ → Piece = λ a b. record { start = a; end = b } in
-    let same : piece c.loop-token.start (c.loop-token.start + c.bytes_of.result) ≡ piece (byte_place text i) (byte_place text j) = ap₂ piece c.loop-token.invariant.start end in
-    let more = LacksOnly-more o tokens text c.loop-token.token i (omega arith) c.loop-token.pieces.items j c.shortest_end-after.ensures.end c.loop-token.invariant.found in
+    let same : piece c.loop-token.start (c.loop-token.start + c.bytes_of.result) ≡ piece (byte_place text i)
+    (byte_place text j) = ap₂ piece c.loop-token.invariant.start end in
+    let more = LacksOnly-more o tokens text c.loop-token.token i (omega arith) c.loop-token.pieces.items j
+    c.shortest_end-after.ensures.end c.loop-token.invariant.found in
     record {
       within = c.shortest_end-after.ensures.high;
       start = end;
@@ -56,4 +64,5 @@ returns g c =
     let at : c.loop-token.token ≡ length tokens = omega arith in
     HasShortestEnds-all c.args.options tokens c.args.text.now c.loop-token.place c.loop-token.pieces.items
     (subst (λ n. TakesRest c.args.options tokens c.args.text.now n c.loop-token.place) at c.loop-token.invariant.taken)
-    (subst (λ n. LacksOnly c.args.options tokens c.args.text.now n c.loop-token.place c.loop-token.pieces.items) at c.loop-token.invariant.found)
+    (subst (λ n. LacksOnly c.args.options tokens c.args.text.now n c.loop-token.place c.loop-token.pieces.items) at
+    c.loop-token.invariant.found)

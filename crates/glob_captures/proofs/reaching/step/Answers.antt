@@ -30,9 +30,11 @@ loop-place-preserved g c =
     let was = inv.fronts i (omega arith) within in
     let took = inv.took within in
     let waits : IsTrue c.may_wait-waits.result ↔ Waits o tokens text n i = rw c.may_wait-waits.ensures
-    (Waits-step o tokens text n i form c.requires.token c.form_of-form.ensures (get_or c.loop-place.whole i false) c.loop-place.took was took) in
+    (Waits-step o tokens text n i form c.requires.token c.form_of-form.ensures (get_or c.loop-place.whole i false)
+    c.loop-place.took was took) in
     let ends : IsTrue c.may_end.result ↔ TakeFront o tokens text (n + 1) i = rw c.may_end.ensures
-    (TakeFront-step o tokens text n i form c.requires.token c.form_of-form.ensures (get_or c.loop-place.whole i false) c.loop-place.took was took) in
+    (TakeFront-step o tokens text n i form c.requires.token c.form_of-form.ensures (get_or c.loop-place.whole i false)
+    c.loop-place.took was took) in
     record {
       many = length-set c.loop-place.whole i c.may_end.result ∙ inv.many;
       room = length-set c.loop-place.alive i c.may_wait-waits.result ∙ inv.room;
@@ -41,7 +43,8 @@ loop-place-preserved g c =
       waits = row_more (Waits o tokens text n) c.loop-place.alive i c.may_wait-waits.result (omega (arith, inv.room)) inv.waits waits;
       took = λ more.
           elim c.if-place-text.branch [
-            | then-place-text w ↦ rw (w.took-is, w.takes_next-took.ensures) (Took-step o tokens text n i c.may_wait-waits.result _ waits refl)
+            | then-place-text w ↦ rw (w.took-is, w.takes_next-took.ensures) (Took-step o tokens text n i
+                c.may_wait-waits.result _ waits refl)
             | else-place-text w ↦ absurd (omega (arith, w.if-place-text.false))
           ];
     }

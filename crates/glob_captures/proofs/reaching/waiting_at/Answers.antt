@@ -30,11 +30,15 @@ loop-token-preserved g c =
     let place = c.args.place in
     let fronts = c.step.ensures.fronts in
     let waits = c.step.ensures.waits in
-    let whole_len : c.loop-token.whole.len ≡ length c.loop-token.whole.items = omega (arith, c.as_mut_slice.ensures.len, ap length c.as_mut_slice.ensures.value) in
-    let alive_len : c.loop-token.alive.len ≡ length c.loop-token.alive.items = omega (arith, c.as_mut_slice-in-loop-token.ensures.len, ap length c.as_mut_slice-in-loop-token.ensures.value) in
-    let whole : take c.loop-token.whole.len (c.step.new.whole ++ drop (length c.step.new.whole) c.loop-token.whole.items) ≡ c.step.new.whole =
+    let whole_len : c.loop-token.whole.len ≡ length c.loop-token.whole.items = omega
+    (arith, c.as_mut_slice.ensures.len, ap length c.as_mut_slice.ensures.value) in
+    let alive_len : c.loop-token.alive.len ≡ length c.loop-token.alive.items = omega
+    (arith, c.as_mut_slice-in-loop-token.ensures.len, ap length c.as_mut_slice-in-loop-token.ensures.value) in
+    let whole : take c.loop-token.whole.len (c.step.new.whole ++ drop (length c.step.new.whole)
+    c.loop-token.whole.items) ≡ c.step.new.whole =
     written_back c.loop-token.whole.items c.step.new.whole c.loop-token.whole.len (fronts.many ∙ sym inv.fronts.many) whole_len in
-    let alive : take c.loop-token.alive.len (c.step.new.alive ++ drop (length c.step.new.alive) c.loop-token.alive.items) ≡ c.step.new.alive =
+    let alive : take c.loop-token.alive.len (c.step.new.alive ++ drop (length c.step.new.alive)
+    c.loop-token.alive.items) ≡ c.step.new.alive =
     written_back c.loop-token.alive.items c.step.new.alive c.loop-token.alive.len (waits.many ∙ sym inv.room) alive_len in
     let within : place ≤ length text = c.requires in
     let read : c.index.result.now ≡ get_or c.step.new.alive place false =
@@ -51,13 +55,15 @@ loop-token-preserved g c =
                 (listed_push (λ m. Waits o tokens text m place) c.loop-token.waiting.items n inv.waiting (here.0 w.if-index.true))
             | else-index w ↦
                 rw w.waiting-is
-                (listed_kept (λ m. Waits o tokens text m place) c.loop-token.waiting.items n inv.waiting (λ wait. false≢true (sym w.if-index.false ∙ here.1 wait)))
+                (listed_kept (λ m. Waits o tokens text m place) c.loop-token.waiting.items n inv.waiting
+                (λ wait. false≢true (sym w.if-index.false ∙ here.1 wait)))
           ];
       ascending =
           elim c.if-index.branch [
             | then-index+in_ok-push w ↦
                 rw (w.waiting-is, w.in_ok-push.ensures.items)
-                (all_pairs_push (λ number later. number < later) c.loop-token.waiting.items n inv.ascending (listed_below _ c.loop-token.waiting.items n inv.waiting))
+                (all_pairs_push (λ number later. number < later) c.loop-token.waiting.items n inv.ascending
+                (listed_below _ c.loop-token.waiting.items n inv.waiting))
             | else-index w ↦ rw w.waiting-is inv.ascending
           ];
     }
@@ -67,4 +73,5 @@ returns-clause-waiting g c =
     let o = c.args.options in
     let tokens = tokens_of (chars c.args.pattern.now) in
     let all : c.loop-token.token ≡ length tokens = omega arith in
-    λ m. subst (λ n. Contains c.loop-token.waiting.items m ↔ ((m < n) × Waits o tokens c.args.text.now m c.args.place)) all (c.loop-token.invariant.waiting m)
+    λ m. subst (λ n. Contains c.loop-token.waiting.items m ↔ ((m < n) × Waits o tokens c.args.text.now m c.args.place))
+    all (c.loop-token.invariant.waiting m)

@@ -22,7 +22,8 @@ loop-done-init g c =
           (AreRests-start o tokens text n c.form_of-form.result row c.requires.token c.form_of-form.ensures c.requires.next));
       old = λ k below.
           rw (get_or-set_other row l k c.is_taken.result false (omega arith)) (c.requires.next.rest k (omega arith) (omega arith));
-      rest = subst (λ k. IsTrue (get_or row l false) ↔ TakesRest o tokens text (n + 1) k) at (c.requires.next.rest l (omega arith) (omega arith));
+      rest = subst (λ k. IsTrue (get_or row l false) ↔ TakesRest o tokens text (n + 1) k) at (c.requires.next.rest l
+          (omega arith) (omega arith));
       more = subst (λ k. IsTrue false ↔ TakesMore o tokens text n k) at (TakesMore-at_end o tokens text n);
     }
 
@@ -46,7 +47,8 @@ loop-done-preserved g c =
     let was : IsTrue (get_or row k false) ↔ TakesRest o tokens text (n + 1) k = inv.old k (omega arith) in
     let rest : IsTrue c.is_taken-in-loop-done.result ↔ TakesRest o tokens text n k =
     rw c.is_taken-in-loop-done.ensures
-    (TakesRest-step o tokens text n k (get_or row k false) c.takes_more-more.result form c.requires.token c.form_of-form.ensures was more) in
+    (TakesRest-step o tokens text n k (get_or row k false) c.takes_more-more.result form c.requires.token
+    c.form_of-form.ensures was more) in
     record {
       rests = subst (λ from. AreRests o tokens text n from (set row k c.is_taken-in-loop-done.result)) here
           (AreRests-more o tokens text n k row c.is_taken-in-loop-done.result (omega arith)

@@ -15,8 +15,14 @@ overflow_sub-text g c =
     let tokens = tokens_of (chars c.args.pattern.now) in
     let last = c.args.span.last in
     let below : last < length tokens = c.requires.span.inside (omega (arith, c.requires.some, c.requires.span.within)) in
-    let some : (j : ℕ) × TakesRest c.args.options tokens c.args.text.now last j = later-rest c.args.options tokens c.args.text.now last (omega arith) c.requires.taken in
-    omega (arith, c.tokens_len.ensures.count, rest-room c.args.options tokens c.args.text.now c.args.span c.requires.span last (omega arith) below some.0 some.1)
+    let some : (j : ℕ) × TakesRest c.args.options tokens c.args.text.now last j = later-rest c.args.options tokens
+    c.args.text.now last (omega arith) c.requires.taken in
+    omega (
+      arith,
+      c.tokens_len.ensures.count,
+      rest-room c.args.options tokens c.args.text.now c.args.span
+          c.requires.span last (omega arith) below some.0 some.1,
+    )
 
 pub returns : goal.returns
 returns g c =

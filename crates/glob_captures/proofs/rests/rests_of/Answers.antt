@@ -1,4 +1,5 @@
-use Rattle.std.proofs.Common.{◌≡◌, ◌≢◌, ◌+◌, ◌-◌, ◌<◌, chars, [], ◌∷◌, ◌++◌, length, get_or, take, drop, IsTrue, sym, ap, ◌∙◌, subst, ⊎_elim, arith}
+use Rattle.std.proofs.Common.{◌≡◌, ◌≢◌, ◌+◌, ◌-◌, ◌<◌, chars, [], ◌∷◌, ◌++◌, length, get_or, take, drop, IsTrue, sym}
+use Rattle.std.proofs.Common.{ap, ◌∙◌, subst, ⊎_elim, arith}
 use Rattle.std.proofs.lemmas.Bool.{cases_eq}
 use Rattle.std.proofs.lemmas.Result.{err_from_is_err_and}
 use Rattle.std.proofs.lemmas.List.{length_push, get_or_append_left, get_or_at}
@@ -27,7 +28,8 @@ loop-done-preserved g c =
     let kept = c.in_ok-kept.kept in
     let many : length rows ≡ n = inv.many in
     let len : old.len ≡ length old.items = omega (arith, c.as_mut_slice.ensures.len, ap length c.as_mut_slice.ensures.value) in
-    let whole : take old.len (new ++ drop (length new) old.items) ≡ new = written_back old.items new old.len (c.add_token.ensures.many ∙ sym inv.row.many) len in
+    let whole : take old.len (new ++ drop (length new) old.items) ≡ new = written_back old.items new old.len
+    (c.add_token.ensures.many ∙ sym inv.row.many) len in
     let read : c.as_slice.result.now ≡ new = c.as_slice.ensures.value ∙ whole in
     let e : c.push.new.self.items ≡ rows ++ kept ∷ [] = c.in_ok-push.ensures.items in
     let at : last - n ≡ last + 1 - (n + 1) = omega arith in
@@ -37,10 +39,12 @@ loop-done-preserved g c =
       rows = λ i below more. rw e
           (⊎_elim
           (λ (here : i ≡ n).
-          let grown : IsTrue (grows (shape_at tokens (last - n - 1))) = subst (λ j. IsTrue (grows (shape_at tokens (last - j - 1)))) here more in
+          let grown : IsTrue (grows (shape_at tokens (last - n - 1))) = subst
+          (λ j. IsTrue (grows (shape_at tokens (last - j - 1)))) here more in
           let row : get_or (rows ++ kept ∷ []) n [] ≡ new = get_or_at rows kept [] [] n many ∙ c.in_ok-kept.ensures grown ∙ read in
           subst (λ j. AreRests o tokens text (last - j) 0 (get_or (rows ++ kept ∷ []) j [])) (sym here) (rw row c.add_token.ensures))
-          (λ (other : i ≢ n). let few : i < length rows = omega arith in rw (get_or_append_left rows (kept ∷ []) [] i few) (inv.rows i (omega arith) more))
+          (λ (other : i ≢ n). let few : i < length rows = omega arith in rw (get_or_append_left rows (kept ∷ []) [] i
+          few) (inv.rows i (omega arith) more))
           (cases_eq i n));
     }
 
@@ -56,7 +60,8 @@ pub loop-done-init : goal.loop-done-init
 loop-done-init g c =
     let first : c.args.span.last + 1 ≡ c.args.span.last + 1 - 0 = omega arith in
     record {
-      row = subst (λ m. AreRests c.args.options (tokens_of (chars c.args.pattern.now)) c.args.text.now m 0 c.in_ok-row.row.items) first c.in_ok-row.ensures;
+      row = subst (λ m. AreRests c.args.options (tokens_of (chars c.args.pattern.now)) c.args.text.now m 0
+          c.in_ok-row.row.items) first c.in_ok-row.ensures;
       many = ap length c.in_ok-rows.ensures.items;
       rows = λ i below. absurd (omega (arith, below));
     }
@@ -83,4 +88,5 @@ pub add_token-requires-clause-next : goal.add_token-requires-clause-next
 add_token-requires-clause-next g c =
     let next : c.args.span.last + 1 - c.loop-done.done ≡ c.args.span.last - c.loop-done.done + 1 = omega arith in
     rw c.as_mut_slice.ensures.value
-    (subst (λ m. AreRests c.args.options (tokens_of (chars c.args.pattern.now)) c.args.text.now m 0 c.loop-done.row.items) next c.loop-done.invariant.row)
+    (subst (λ m. AreRests c.args.options (tokens_of (chars c.args.pattern.now)) c.args.text.now m 0
+    c.loop-done.row.items) next c.loop-done.invariant.row)

@@ -5,7 +5,8 @@ use Rattle.glob_captures.proofs.ByteLemmas.{length-encodes_push, length-encodes_
 use Rattle.glob_captures.proofs.steps.bytes_of.Goals as goal
 
 -- the bytes with one character more
-more : (cs : List ℕ) (i c : ℕ) → i < length cs → c ≡ get_or cs i c → length (encode_utf8_all (take (i + 1) cs)) ≡ length (encode_utf8_all (take i cs)) + length (encode_utf8 c)
+more : (cs : List ℕ) (i c : ℕ) → i < length cs → c ≡ get_or cs i c → length (encode_utf8_all (take (i + 1) cs)) ≡
+    length (encode_utf8_all (take i cs)) + length (encode_utf8 c)
 more cs i c below is =
     ap (λ xs. length (encode_utf8_all xs)) (take_more cs i c below)
     ∙ length-encodes_push (take i cs) (get_or cs i c) ∙ ap (λ x. length (encode_utf8_all (take i cs)) + length (encode_utf8 x)) (sym is)

@@ -16,7 +16,8 @@ loop-end-preserved c =
     record {
       low = omega (arith, c.loop-end.invariant.low, c.after_stars-end.ensures.low);
       high = c.after_stars-end.ensures.high;
-      read = IsRead-more c.args.text.now c.args.place c.loop-end.end c.after_stars-end.result c.loop-end.invariant.read stars.0 stars.1 c.after_stars-end.ensures.after;
+      read = IsRead-more c.args.text.now c.args.place c.loop-end.end c.after_stars-end.result c.loop-end.invariant.read
+          stars.0 stars.1 c.after_stars-end.ensures.after;
     }
 
 pub returns-clause-end : goal.returns-clause-end

@@ -14,19 +14,23 @@ returns-in-Literal-clause-end c =
           elim others [
             | inl any ↦
                 subst (λ k. IsTokenEnd c.args.text.now c.args.place k c.min.result) (sym any)
-                (IsTokenEnd-plain c.args.text.now c.args.place kind.AnyChar c.min.result refl (λ m within end. omega (arith, c.min.ensures, end)))
+                (IsTokenEnd-plain c.args.text.now c.args.place kind.AnyChar c.min.result refl (λ m within end. omega
+                (arith, c.min.ensures, end)))
             | inr sequence ↦
                 subst (λ k. IsTokenEnd c.args.text.now c.args.place k c.min.result) (sym sequence)
-                (IsTokenEnd-plain c.args.text.now c.args.place kind.AnySequence c.min.result refl (λ m within end. omega (arith, c.min.ensures, end)))
+                (IsTokenEnd-plain c.args.text.now c.args.place kind.AnySequence c.min.result refl
+                (λ m within end. omega (arith, c.min.ensures, end)))
           ]
     ]
 
 pub returns-in-OneOf-clause-end : goal.returns-in-OneOf-clause-end
 returns-in-OneOf-clause-end c =
     subst (λ k. IsTokenEnd c.args.text.now c.args.place k c.bracket_end.result) (sym c.in-OneOf.is)
-    (IsTokenEnd-plain c.args.text.now c.args.place kind.OneOf c.bracket_end.result refl (λ m within end. sym (c.bracket_end.ensures.closes m end)))
+    (IsTokenEnd-plain c.args.text.now c.args.place kind.OneOf c.bracket_end.result refl (λ m within end. sym
+    (c.bracket_end.ensures.closes m end)))
 
 pub returns-in-NoneOf-clause-end : goal.returns-in-NoneOf-clause-end
 returns-in-NoneOf-clause-end c =
     subst (λ k. IsTokenEnd c.args.text.now c.args.place k c.bracket_end-in-NoneOf.result) (sym c.in-NoneOf.is)
-    (IsTokenEnd-plain c.args.text.now c.args.place kind.NoneOf c.bracket_end-in-NoneOf.result refl (λ m within end. sym (c.bracket_end-in-NoneOf.ensures.closes m end)))
+    (IsTokenEnd-plain c.args.text.now c.args.place kind.NoneOf c.bracket_end-in-NoneOf.result refl (λ m within end. sym
+    (c.bracket_end-in-NoneOf.ensures.closes m end)))

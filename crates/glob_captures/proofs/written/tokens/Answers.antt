@@ -1,4 +1,5 @@
-use Rattle.std.proofs.Common.{chars, ◌≡◌, ◌+◌, ◌-◌, ◌<◌, ◌≤◌, ℕ, [], ◌∷◌, ◌++◌, List, length, map, take, drop, get_or, refl, sym, ap, ap₂, subst, ◌∙◌, arith}
+use Rattle.std.proofs.Common.{chars, ◌≡◌, ◌+◌, ◌-◌, ◌<◌, ◌≤◌, ℕ, [], ◌∷◌, ◌++◌, List, length, map, take, drop, get_or}
+use Rattle.std.proofs.Common.{refl, sym, ap, ap₂, subst, ◌∙◌, arith}
 use Rattle.std.specs.Prelude.{encode_utf8_all}
 use Rattle.std.proofs.lemmas.List.{take_all, take_more, drop_more, drop_all, map-append, get_or-map, length-map}
 use Rattle.std.proofs.lemmas.Str.{encodes-chars}
@@ -17,7 +18,8 @@ use Rattle.glob_captures.proofs.written.tokens.Goals as goal
 pub loop-token-init : goal.loop-token-init
 loop-token-init g c =
     let tokens = tokens_of (chars c.args.pattern.now) in
-    let is : c.as_slice-text.result.now ≡ chars c.args.pattern.now = c.as_slice-text.ensures.value ∙ c.in_ok-characters.ensures ∙ ap chars c.as_str.ensures.text in
+    let is : c.as_slice-text.result.now ≡ chars c.args.pattern.now = c.as_slice-text.ensures.value
+    ∙ c.in_ok-characters.ensures ∙ ap chars c.as_str.ensures.text in
     let read = c.tokens_len-token-end.ensures.read in
     record {
       within = omega arith;
@@ -61,7 +63,13 @@ loop-token-preserved g c =
     let list = c.loop-token.list.items in
     let below : n < length tokens = omega (arith, c.tokens_len-token-end.ensures.count) in
     let many : length kinds ≡ length tokens = length-map tokens kind_of in
-    let end : c.loop-token.start + c.bytes_of.result ≡ byte_place text j = omega (arith, byte_place_later text i j c.token_end-after.ensures.low, inv.start, c.bytes_of.ensures) in
+    let end : c.loop-token.start + c.bytes_of.result ≡ byte_place text j = omega (
+      arith,
+      byte_place_later text i j
+          c.token_end-after.ensures.low,
+      inv.start,
+      c.bytes_of.ensures,
+    ) in
     let written : Written = record {
       kind = c.token_kind-kind.result;
       piece = record { start = c.loop-token.start; end = c.loop-token.start + c.bytes_of.result };
@@ -69,9 +77,11 @@ loop-token-preserved g c =
     let piece : ℕ → ℕ → Piece = λ a b. record { start = a; end = b } in
     let at : written.piece ≡ piece (byte_place text i) (byte_place text j) = ap₂ piece inv.start end in
     let items : c.push.new.self.items ≡ list ++ written ∷ [] = c.in_ok-push.ensures.items in
-    let kind : get_or kinds n c.token_kind-kind.result ≡ c.token_kind-kind.result = get_or-map kind_of tokens n AnyChar _ below ∙ sym c.token_kind-kind.ensures in
+    let kind : get_or kinds n c.token_kind-kind.result ≡ c.token_kind-kind.result = get_or-map kind_of tokens n AnyChar
+    _ below ∙ sym c.token_kind-kind.ensures in
     let token : Token = get_or tokens n AnyChar in
-    let next = end_of_token text i j token (drop (n + 1) tokens) (drop n tokens) c.token_kind-kind.result c.token_end-after.ensures.end c.token_kind-kind.ensures (drop_more tokens n AnyChar below) inv.left in
+    let next = end_of_token text i j token (drop (n + 1) tokens) (drop n tokens) c.token_kind-kind.result
+    c.token_end-after.ensures.end c.token_kind-kind.ensures (drop_more tokens n AnyChar below) inv.left in
     record {
       within = c.token_end-after.ensures.high;
       start = end;
@@ -81,7 +91,8 @@ loop-token-preserved g c =
           ∙ ap (λ k. take n kinds ++ k ∷ []) (sym kind)
           ∙ sym (take_more kinds n c.token_kind-kind.result (omega (arith, many)));
       adjacent = rw items (AreAdjacent-push list 0 c.loop-token.start written inv.adjacent refl (omega arith));
-      written = rw (items, take_more tokens n AnyChar below) (AreWritten-push text 0 (take n tokens) list i token written j inv.written next.0 at);
+      written = rw (items, take_more tokens n AnyChar below) (AreWritten-push text 0 (take n tokens) list i token
+          written j inv.written next.0 at);
       left = next.1;
     }
 
@@ -93,7 +104,8 @@ pub returns-clause-kinds : goal.returns-clause-kinds
 returns-clause-kinds g c =
     let tokens = tokens_of (chars c.args.pattern.now) in
     c.loop-token.invariant.kinds
-    ∙ take_all c.loop-token.token (map kind_of tokens) (omega (arith, length-map tokens kind_of, c.loop-token-test.false, c.tokens_len-token-end.ensures.count))
+    ∙ take_all c.loop-token.token (map kind_of tokens)
+    (omega (arith, length-map tokens kind_of, c.loop-token-test.false, c.tokens_len-token-end.ensures.count))
 
 pub returns-clause-written : goal.returns-clause-written
 returns-clause-written g c =
@@ -101,9 +113,11 @@ returns-clause-written g c =
     let text = c.as_slice-text.result.now in
     let n = c.loop-token.token in
     let list = c.loop-token.list.items in
-    let is : text ≡ chars c.args.pattern.now = c.as_slice-text.ensures.value ∙ c.in_ok-characters.ensures ∙ ap chars c.as_str.ensures.text in
+    let is : text ≡ chars c.args.pattern.now = c.as_slice-text.ensures.value ∙ c.in_ok-characters.ensures
+    ∙ ap chars c.as_str.ensures.text in
     let all : length tokens ≤ n = omega (arith, c.loop-token-test.false, c.tokens_len-token-end.ensures.count) in
     let left = subst (TokensFrom text c.loop-token.place) (drop_all n tokens all) c.loop-token.invariant.left in
     let whole : AreWritten text 0 tokens list c.loop-token.place =
     subst (λ ts. AreWritten text 0 ts list c.loop-token.place) (take_all n tokens all) c.loop-token.invariant.written in
-    subst (λ t. AreWritten t 0 tokens list (length t)) is (subst (AreWritten text 0 tokens list) (end_of_text text c.loop-token.place left) whole)
+    subst (λ t. AreWritten t 0 tokens list (length t)) is (subst (AreWritten text 0 tokens list)
+    (end_of_text text c.loop-token.place left) whole)

@@ -3,13 +3,16 @@ use Rattle.std.proofs.lemmas.Bool.{false_from_ne_true}
 use Rattle.std.proofs.lemmas.List.{take-take}
 use Rattle.glob_lines.specs.LineFaults.{IsMemory, IsWrite}
 use Rattle.glob_lines.specs.Lines.{Selected, CopiesSelected, CopiesSomeSelected, CopiesSelectedBytes, CopiesWholeSelected}
-use Rattle.glob_lines.proofs.LineLemmas.CopiedRecords.{AreCopied-more, AreCopied-last, AreCopied-whole, AreCopied-some, AreCopied-some_more, AreCopied-bytes_more, IsBlock-last, IsBlock-whole}
+use Rattle.glob_lines.proofs.LineLemmas.CopiedRecords.{AreCopied-more, AreCopied-last, AreCopied-whole, AreCopied-some}
+use Rattle.glob_lines.proofs.LineLemmas.CopiedRecords.{AreCopied-some_more, AreCopied-bytes_more, IsBlock-last}
+use Rattle.glob_lines.proofs.LineLemmas.CopiedRecords.{IsBlock-whole}
 use Rattle.glob_lines.proofs.LineLemmas.MatchingLines.{selected_decided}
 use Rattle.glob_lines.proofs.LineLemmas.Passing.{IsErrAnd-passed}
 use Rattle.glob_lines.proofs.copying.copy_selected.Goals as goal
 
 -- two views of a buffer have the same front
-same_front : (view other buffer : List ℕ) (filled whole : ℕ) → view ≡ buffer → other ≡ buffer → whole ≤ length (take filled view) → take whole other ≡ take whole (take filled view)
+same_front : (view other buffer : List ℕ) (filled whole : ℕ) → view ≡ buffer → other ≡ buffer → whole ≤ length
+    (take filled view) → take whole other ≡ take whole (take filled view)
 same_front view other buffer filled whole is other_is fits =
     ap (take whole) (other_is ∙ sym is) ∙ sym (take-take whole filled view (omega (arith, fits, length-take filled view)))
 
@@ -29,7 +32,8 @@ returns-in_err-last-clause-memory g c = λ is.
     let read = c.in_ok-len.ensures in
     let empty = c.if-len-eq0.true in
     AreCopied-some_more c.args.end (Selected selects) (selected_decided selects) _ _ _ _ _ _ _ _ _ _ c.loop.invariant.copied
-    (IsBlock-last c.args.end (Selected selects) _ _ c.loop.input.items c.read_piece.new.input.items c.loop.partial c.in_ok-len.len read.bytes empty (read.end empty)) _
+    (IsBlock-last c.args.end (Selected selects) _ _ c.loop.input.items c.read_piece.new.input.items c.loop.partial
+    c.in_ok-len.len read.bytes empty (read.end empty)) _
     (ap (take c.loop.partial) c.deref.ensures.value ∙ read.front)
     (c.in_err-last.ensures.memory (IsErrAnd-passed _ _ IsMemory c.from_residual-in_err-last.ensures.1 is))
 
@@ -40,7 +44,8 @@ returns-in_err-last-clause-write_fault g c = λ is.
     let read = c.in_ok-len.ensures in
     let empty = c.if-len-eq0.true in
     AreCopied-bytes_more c.args.end (Selected selects) (selected_decided selects) _ _ _ _ _ _ _ _ _ _ c.loop.invariant.copied
-    (IsBlock-last c.args.end (Selected selects) _ _ c.loop.input.items c.read_piece.new.input.items c.loop.partial c.in_ok-len.len read.bytes empty (read.end empty)) _
+    (IsBlock-last c.args.end (Selected selects) _ _ c.loop.input.items c.read_piece.new.input.items c.loop.partial
+    c.in_ok-len.len read.bytes empty (read.end empty)) _
     (ap (take c.loop.partial) c.deref.ensures.value ∙ read.front)
     (c.in_err-last.ensures.write_fault (IsErrAnd-passed _ _ IsWrite c.from_residual-in_err-last.ensures.1 is))
 
@@ -51,7 +56,8 @@ returns-then-len-eq0-clause-records g c =
     let read = c.in_ok-len.ensures in
     let empty = c.if-len-eq0.true in
     rw c.saturating_add.ensures (AreCopied-last c.args.end (Selected selects) _ _ _ _ _ _ _ _ _ _ c.loop.invariant.copied
-    (IsBlock-last c.args.end (Selected selects) _ _ c.loop.input.items c.read_piece.new.input.items c.loop.partial c.in_ok-len.len read.bytes empty (read.end empty)) (read.end empty) _
+    (IsBlock-last c.args.end (Selected selects) _ _ c.loop.input.items c.read_piece.new.input.items c.loop.partial
+    c.in_ok-len.len read.bytes empty (read.end empty)) (read.end empty) _
     (ap (take c.loop.partial) c.deref.ensures.value ∙ read.front)
     c.in_ok-last.ensures.records)
 
@@ -63,7 +69,8 @@ returns-in_err-copied-clause-memory g c = λ is.
     let whole = c.whole_len-whole in
     let read = c.in_ok-len.ensures in
     AreCopied-some_more c.args.end (Selected selects) (selected_decided selects) _ _ _ _ _ _ _ _ _ _ c.loop.invariant.copied
-    (IsBlock-whole c.args.end (Selected selects) _ _ c.loop.input.items c.read_piece.new.input.items (take filled c.deref-in-loop.result.now) c.loop.partial c.in_ok-len.len whole.result
+    (IsBlock-whole c.args.end (Selected selects) _ _ c.loop.input.items c.read_piece.new.input.items
+    (take filled c.deref-in-loop.result.now) c.loop.partial c.in_ok-len.len whole.result
     read.front read.bytes (ap (take filled) c.deref-in-loop.ensures.value) whole.ensures.whole) _
     (same_front _ _ _ filled whole.result c.deref-in-loop.ensures.value c.deref-in-loop-2.ensures.value whole.ensures.bound)
     (c.in_err-copied.ensures.memory (IsErrAnd-passed _ _ IsMemory c.from_residual-in_err-copied.ensures.1 is))
@@ -76,7 +83,8 @@ returns-in_err-copied-clause-write_fault g c = λ is.
     let whole = c.whole_len-whole in
     let read = c.in_ok-len.ensures in
     AreCopied-bytes_more c.args.end (Selected selects) (selected_decided selects) _ _ _ _ _ _ _ _ _ _ c.loop.invariant.copied
-    (IsBlock-whole c.args.end (Selected selects) _ _ c.loop.input.items c.read_piece.new.input.items (take filled c.deref-in-loop.result.now) c.loop.partial c.in_ok-len.len whole.result
+    (IsBlock-whole c.args.end (Selected selects) _ _ c.loop.input.items c.read_piece.new.input.items
+    (take filled c.deref-in-loop.result.now) c.loop.partial c.in_ok-len.len whole.result
     read.front read.bytes (ap (take filled) c.deref-in-loop.ensures.value) whole.ensures.whole) _
     (same_front _ _ _ filled whole.result c.deref-in-loop.ensures.value c.deref-in-loop-2.ensures.value whole.ensures.bound)
     (c.in_err-copied.ensures.write_fault (IsErrAnd-passed _ _ IsWrite c.from_residual-in_err-copied.ensures.1 is))
@@ -87,16 +95,19 @@ loop-preserved g c =
     let filled = c.loop.partial + c.in_ok-len.len in
     let whole = c.whole_len-whole in
     let read = c.in_ok-len.ensures in
-    let value : take filled c.deref-in-loop.result.now ≡ take filled c.read_piece.new.input.items = ap (take filled) c.deref-in-loop.ensures.value in
+    let value : take filled c.deref-in-loop.result.now ≡ take filled c.read_piece.new.input.items = ap
+    (take filled) c.deref-in-loop.ensures.value in
     let left_is : filled - whole.result ≤ vec_len c.move_front.new.bytes = omega (arith, c.move_front.ensures.len, read.fits) in
     record {
       no_read_failed = false_from_ne_true _ read.failed.0;
       no_write_failed = false_from_ne_true _ c.in_ok-copied.ensures.failed.0;
       within = left_is;
       copied = rw c.saturating_add-count.ensures (AreCopied-more c.args.end (Selected selects) _ _ _ _ _ _ _ _ _ _ _ c.loop.invariant.copied
-          (IsBlock-whole c.args.end (Selected selects) _ _ c.loop.input.items c.read_piece.new.input.items (take filled c.deref-in-loop.result.now) c.loop.partial c.in_ok-len.len whole.result
+          (IsBlock-whole c.args.end (Selected selects) _ _ c.loop.input.items c.read_piece.new.input.items
+          (take filled c.deref-in-loop.result.now) c.loop.partial c.in_ok-len.len whole.result
           read.front read.bytes value whole.ensures.whole)
-          whole.ensures.whole whole.ensures.rest _ (same_front _ _ _ filled whole.result c.deref-in-loop.ensures.value c.deref-in-loop-2.ensures.value whole.ensures.bound)
+          whole.ensures.whole whole.ensures.rest _ (same_front _ _ _ filled whole.result c.deref-in-loop.ensures.value
+          c.deref-in-loop-2.ensures.value whole.ensures.bound)
           c.in_ok-copied.ensures.records _ (c.move_front.ensures.moved ∙ ap (drop whole.result) (sym value)));
     }
 

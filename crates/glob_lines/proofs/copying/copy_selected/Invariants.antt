@@ -9,5 +9,7 @@ invariant-loop g l = record {
   no_read_failed : l.reader.failed ≡ false;
   no_write_failed : l.writer.failed ≡ false;
   within : l.partial ≤ vec_len l.input;
-  copied : AreCopied l.end (Selected (g.S.Selection.selects l.selection)) (g.R.Read.remaining l.initial.reader.inner) (g.R.Read.remaining l.reader.inner) (take l.partial l.input.items) (g.W.Write.contents l.initial.writer.inner) (g.W.Write.contents l.writer.inner) l.count;
+  copied : AreCopied l.end (Selected (g.S.Selection.selects l.selection)) (g.R.Read.remaining l.initial.reader.inner)
+      (g.R.Read.remaining l.reader.inner) (take l.partial l.input.items) (g.W.Write.contents l.initial.writer.inner)
+      (g.W.Write.contents l.writer.inner) l.count;
 }

@@ -11,5 +11,7 @@ returns-clause-moved g c =
     let n = c.args.end - start in
     let whole : start + n ≡ c.args.end = omega (arith, c.requires.order) in
     let same : n ≡ 0 + n = omega arith in
-    let first : take n (paste all 0 (drop start all) n) ≡ take n (drop start all) = ap (λ k. take k (paste all 0 (drop start all) n)) same ∙ take-paste all 0 (drop start all) n (omega arith) (omega (arith, length-drop start all, c.requires.within)) in
+    let first : take n (paste all 0 (drop start all) n) ≡ take n (drop start all) = ap
+    (λ k. take k (paste all 0 (drop start all) n)) same ∙ take-paste all 0 (drop start all) n (omega arith)
+    (omega (arith, length-drop start all, c.requires.within)) in
     ap (take n) c.copy_within.ensures.items ∙ first ∙ sym (drop-take start n all) ∙ ap (λ m. drop start (take m all)) whole

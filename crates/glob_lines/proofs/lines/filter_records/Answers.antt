@@ -1,5 +1,6 @@
 use Rattle.std.proofs.lemmas.Result.{IfOk-weaker, err_from_is_err_and}
-use Rattle.glob_lines.proofs.LineLemmas.Filtering.{records_by_selected, some_records_by_selected, some_bytes_by_selected, some_records_by_none}
+use Rattle.glob_lines.proofs.LineLemmas.Filtering.{records_by_selected, some_records_by_selected}
+use Rattle.glob_lines.proofs.LineLemmas.Filtering.{some_bytes_by_selected, some_records_by_none}
 use Rattle.glob_lines.proofs.lines.filter_records.Goals as goal
 
 pub returns-in_err-input-clause-records : goal.returns-in_err-input-clause-records
@@ -14,14 +15,17 @@ returns-in_err-input-clause-memory g c = λ _. some_records_by_none c.args.end c
 pub returns-clause-records : goal.returns-clause-records
 returns-clause-records g c =
     let read = c.in_ok-input.ensures in
-    IfOk-weaker c.write_records.result _ _ (records_by_selected c.args.end c.args.options c.args.pattern.now _ _ _ read.bytes read.end _ _) (rw c.deref.ensures.value at c.write_records.ensures.records)
+    IfOk-weaker c.write_records.result _ _ (records_by_selected c.args.end c.args.options c.args.pattern.now _ _ _
+    read.bytes read.end _ _) (rw c.deref.ensures.value at c.write_records.ensures.records)
 
 pub returns-clause-memory : goal.returns-clause-memory
 returns-clause-memory g c = λ is.
     let read = c.in_ok-input.ensures in
-    some_records_by_selected c.args.end c.args.options c.args.pattern.now _ _ _ read.bytes read.end _ _ (rw c.deref.ensures.value at (c.write_records.ensures.memory is))
+    some_records_by_selected c.args.end c.args.options c.args.pattern.now _ _ _ read.bytes read.end _ _
+    (rw c.deref.ensures.value at (c.write_records.ensures.memory is))
 
 pub returns-clause-write_fault : goal.returns-clause-write_fault
 returns-clause-write_fault g c = λ is.
     let read = c.in_ok-input.ensures in
-    some_bytes_by_selected c.args.end c.args.options c.args.pattern.now _ _ _ read.bytes read.end _ _ (rw c.deref.ensures.value at (c.write_records.ensures.write_fault is))
+    some_bytes_by_selected c.args.end c.args.options c.args.pattern.now _ _ _ read.bytes read.end _ _
+    (rw c.deref.ensures.value at (c.write_records.ensures.write_fault is))

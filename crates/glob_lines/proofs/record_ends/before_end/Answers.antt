@@ -15,10 +15,12 @@ pub returns-then-ends-eq0 : goal.returns-then-ends-eq0
 returns-then-ends-eq0 c =
     let bytes = take 16 (drop c.args.start c.args.bytes.now) in
     let long : length bytes ≡ 16 = length-chunk c.args.start 16 c.args.bytes.now c.requires in
-    sym (cond-true _ _ _ (eq-eqb _ 0 c.if-ends-eq0.true)) ∙ first-lane c.args.end bytes _ long (bitmask_splat w8 eqb bytes 16 c.args.end long (omega arith))
+    sym (cond-true _ _ _ (eq-eqb _ 0 c.if-ends-eq0.true)) ∙ first-lane c.args.end bytes _ long
+    (bitmask_splat w8 eqb bytes 16 c.args.end long (omega arith))
 
 pub returns-else-ends-eq0 : goal.returns-else-ends-eq0
 returns-else-ends-eq0 c =
     let bytes = take 16 (drop c.args.start c.args.bytes.now) in
     let long : length bytes ≡ 16 = length-chunk c.args.start 16 c.args.bytes.now c.requires in
-    sym (cond-false _ _ _ (ne_eqb _ 0 c.if-ends-eq0.false)) ∙ first-lane c.args.end bytes _ long (bitmask_splat w8 eqb bytes 16 c.args.end long (omega arith))
+    sym (cond-false _ _ _ (ne_eqb _ 0 c.if-ends-eq0.false)) ∙ first-lane c.args.end bytes _ long
+    (bitmask_splat w8 eqb bytes 16 c.args.end long (omega arith))

@@ -9,7 +9,8 @@ loop-start-preserved c =
     let start = c.loop-start.start in
     let rest = drop start bytes in
     let long = length-drop start bytes in
-    let past = first-past (λ b. b == c.args.end) 16 rest (omega (arith, long, c.loop-start-test.true)) (omega (arith, c.if-before-lt-LANES.false, c.before_end-before.ensures)) in
+    let past = first-past (λ b. b == c.args.end) 16 rest (omega (arith, long, c.loop-start-test.true))
+    (omega (arith, c.if-before-lt-LANES.false, c.before_end-before.ensures)) in
     record {
       within = omega (arith, c.loop-start-test.true);
       past = rw (← (drop-drop 16 start bytes)) (omega (arith, c.loop-start.invariant.past, past));

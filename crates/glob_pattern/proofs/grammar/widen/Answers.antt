@@ -12,7 +12,8 @@ loop-n-preserved c =
     let b = get_or bytes n 0 in
     record {
       count = length-set c.loop-n.characters n b ∙ i.count;
-      written = take_more_set c.loop-n.characters n b (omega (arith, i.count, c.loop-n-test.true)) ∙ ap (λ l. l ++ b ∷ []) i.written ∙ sym (take_more bytes n 0 c.loop-n-test.true);
+      written = take_more_set c.loop-n.characters n b (omega (arith, i.count, c.loop-n-test.true)) ∙ ap
+          (λ l. l ++ b ∷ []) i.written ∙ sym (take_more bytes n 0 c.loop-n-test.true);
       ascii = λ t.
           let (before, here) = and_parts c.loop-n.ascii c.is_ascii-ascii.result t in
           let below : b < 128 = ltb-true b 128 (rw c.is_ascii-ascii.ensures at here) in

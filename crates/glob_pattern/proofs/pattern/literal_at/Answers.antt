@@ -17,7 +17,8 @@ unfolding HasLiteral
 returns-clause-literal g c =
     let read = rw c.pattern.view_is at c.pattern.invariant in
     IfSome-map c.literal_at.result
-    (λ x is tokens has. subst (λ ts. get_or ts c.args.number AnyChar ≡ Literal x) (one_reading (chars c.args.pattern.now) c.pattern.inside.compiled tokens read has) is)
+    (λ x is tokens has. subst (λ ts. get_or ts c.args.number AnyChar ≡ Literal x)
+    (one_reading (chars c.args.pattern.now) c.pattern.inside.compiled tokens read has) is)
     c.literal_at.ensures.literal
 
 pub returns-clause-none : goal.returns-clause-none

@@ -1,4 +1,4 @@
-//! A row of masks: for each class of characters, which of 63 neighbouring tokens take its characters.
+//! A row of masks: for each class of characters, which of 63 neighbouring tokens take them.
 ghost use Rattle.std.specs.Prelude.{◌≡◌, ℕ, ◌+◌, ◌<◌, ◌≤◌, ◌↔◌, ◌==◌, ◌&&◌, not, List, length, true, bit_xor};
 ghost use Rattle.std.specs.List.{All};
 ghost use Rattle.glob_pattern.specs.Grammar.Brackets.{is_same, in_range, holds, entry_holds};
@@ -19,10 +19,10 @@ pub const SEPARATOR: usize = 0;
 /// The class of a `.` that the dot rule excludes from wildcards.
 pub const DOT: usize = 1;
 
-/// Of 63 neighbouring tokens, those of some kinds.
+/// Some kinds of tokens, among 63 neighbouring ones.
 #[derive(Clone, Copy)]
 struct Kinds {
-    /// Those that take all characters but those they list: wildcards and `[!..]`.
+    /// Tokens that take all characters except those they list: wildcards and `[!..]`.
     others: u64,
     /// Brackets.
     brackets: u64,
@@ -39,7 +39,7 @@ impl Kinds {
     };
 }
 
-/// Makes a row of zeros that of the tokens from number `start` on.
+/// Turns a row of zeros into the row of the tokens from `start` on.
 pub fn fill<A: Allocator>(
     row: &mut [u64],
     classes: Classes<'_>,
@@ -61,7 +61,7 @@ pub fn fill<A: Allocator>(
     finish(row, classes, kinds, case_sensitive);
 }
 
-/// Makes the masks of the tokens that list a character those of the tokens that take it.
+/// Turns the masks of tokens that list a character into those of tokens that take it.
 #[inline(always)]
 fn finish(row: &mut [u64], classes: Classes<'_>, kinds: Kinds, case_sensitive: bool)
     requires partition { IsPartition (partition_of classes) }
@@ -88,7 +88,8 @@ fn invert(row: &mut [u64], bits: u64)
     }
 }
 
-/// Lists a token: sets its bit in the masks of the characters that it lists, and in those of its kinds.
+/// Lists a token: sets its bit in the masks of the characters that it lists, and in those of its kinds. Returns the
+/// kinds.
 #[inline(always)]
 fn list_token<A: Allocator>(
     row: &mut [u64],
@@ -141,7 +142,7 @@ fn list_token<A: Allocator>(
     }
 }
 
-/// Sets the bit in the mask of the character, and case-insensitively in that of its other case.
+/// Sets the bit in the mask of the character, and case-insensitively also in that of its other case.
 #[inline(always)]
 fn list_literal(row: &mut [u64], classes: Classes<'_>, bit: usize, c: char, case_sensitive: bool)
     requires partition { IsPartition (partition_of classes) }
@@ -177,7 +178,7 @@ fn list_char(row: &mut [u64], classes: Classes<'_>, bit: usize, c: char)
     list_class(row, bit, classes.class(c));
 }
 
-/// Sets the bit in the masks of the characters that some entry holds.
+/// Sets the bit in the masks of the characters that an entry holds.
 fn list_all(
     row: &mut [u64],
     classes: Classes<'_>,
@@ -199,8 +200,8 @@ fn list_all(
     }
 }
 
-/// Sets the bit in the masks of the characters from the first to the last, and case-insensitively of those of the other
-/// case, if both are letters.
+/// Sets the bit in the masks of the characters from `first` to `last`. If both are letters, case-insensitively also in
+/// those of the other case.
 #[inline(always)]
 fn list_cases(
     row: &mut [u64],
@@ -228,7 +229,7 @@ fn list_cases(
     list_interval(row, classes, bit, upper, last_upper);
 }
 
-/// Whether the characters between are listed in either case: case-insensitively, if both ends are letters.
+/// Whether a range holds either case: case-insensitively, if both ends are letters.
 #[inline(always)]
 fn has_cases(case_sensitive: bool, first: char, last: char) -> bool
     ensures { result ≡ (not case_sensitive && are_letters first last) }
@@ -236,7 +237,7 @@ fn has_cases(case_sensitive: bool, first: char, last: char) -> bool
     !case_sensitive && are_letters(first, last)
 }
 
-/// Sets the bit in the masks of the characters from the first to the last.
+/// Sets the bit in the masks of the characters from `first` to `last`.
 #[inline(always)]
 fn list_interval(row: &mut [u64], classes: Classes<'_>, bit: usize, first: char, last: char)
     requires partition { IsPartition (partition_of classes) }
@@ -252,7 +253,7 @@ fn list_interval(row: &mut [u64], classes: Classes<'_>, bit: usize, first: char,
     }
 }
 
-/// Sets the bit in the masks from the first to the last.
+/// Sets the bit in the masks from `first` to `last`.
 #[inline(always)]
 fn paint(row: &mut [u64], bit: usize, first: usize, last: usize)
     requires bit { bit < 63 }

@@ -1,4 +1,4 @@
-//! A judge that asks all tokens of a word at once.
+//! A judge that answers for all tokens of a word at once.
 ghost use Rattle.glob_text.specs.Characters.{slash};
 ghost use Rattle.glob_pattern.specs.Private.Classes.{partition_of};
 ghost use Rattle.std.specs.Prelude.{◌≡◌, ◌*◌, ◌<◌, ◌≤◌, ◌==◌, length, chars};
@@ -12,14 +12,14 @@ use crate::matcher::Judge;
 use crate::pattern::char_masks::{CharMasks, Rows};
 use std::alloc::Allocator;
 
-/// A judge that reads from masks which tokens take a character.
+/// A judge that looks up in masks which tokens take a character.
 #[derive(Drop)]
 pub struct MaskJudge<'a, A: Allocator> {
     judge: TextJudge<'a, A>,
     rows: Rows<'a>,
-    // how many words the masks have
+    // the number of words in the masks
     words: usize,
-    // the class of the character last stepped over
+    // the class of the last character stepped over
     class: usize,
     ghost enough: { length judge.tokens.now ≤ 63 * words },
     ghost masked: { AreRowsOf judge.tokens.now words judge.options.case_sensitive rows },
@@ -29,7 +29,7 @@ pub struct MaskJudge<'a, A: Allocator> {
 }
 
 impl<'a, A: Allocator> MaskJudge<'a, A> {
-    /// The judge, which has not stepped, with the masks of its tokens, of so many words.
+    /// The judge, which must not have stepped, with the masks of its tokens in `words` words.
     #[inline(always)]
     pub fn new(judge: TextJudge<'a, A>, masks: &'a CharMasks<A>, words: usize) -> Self
         requires enough { length judge.tokens.now ≤ 63 * words }

@@ -5,4 +5,5 @@ use Rattle.glob_rules.proofs.lines.is_path.Goals as goal
 
 pub returns : goal.returns
 returns c =
-    any_from_yields_List (λ x. x == 47) _ _ _ c.any.ensures.ran (YieldsList-from_slice c.args.text.now cc) (λ x b q k. search (rules, tests))
+    any_from_yields_List (λ x. x == 47) _ _ _ c.any.ensures.ran (YieldsList-from_slice c.args.text.now cc)
+    (λ x b q k. search (rules, tests))

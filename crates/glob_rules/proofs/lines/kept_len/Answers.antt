@@ -11,5 +11,6 @@ loop-place-preserved c =
     record {
       within = c.kept_after-kept.ensures.within;
       so_far = rw (c.kept_after-kept.ensures.kept, c.escapes-escaped.ensures)
-          (sym (fold_more next_kept none_kept text place 0 inside ∙ ap (λ k. next_kept k (get_or text place 0)) (sym c.loop-place.invariant.so_far)));
+          (sym (fold_more next_kept none_kept text place 0 inside ∙ ap (λ k. next_kept k (get_or text place 0))
+          (sym c.loop-place.invariant.so_far)));
     }

@@ -6,4 +6,5 @@ use Rattle.glob_rules.proofs.listing.is_in_any.Goals as goal
 
 pub returns : goal.returns
 returns c =
-    any_from_yields_List (is_within c.args.c) _ _ _ c.any.ensures.ran (YieldsList-from_slice c.args.spans.now cc) (λ x b q k. search (rules, tests))
+    any_from_yields_List (is_within c.args.c) _ _ _ c.any.ensures.ran (YieldsList-from_slice c.args.spans.now cc)
+    (λ x b q k. search (rules, tests))

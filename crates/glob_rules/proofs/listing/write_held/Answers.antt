@@ -17,7 +17,8 @@ loop-place-preserved g c =
           filtered-yes p ORDER c.args.glob.now.items c.loop-place.glob.items i inside c.loop-place.invariant c.if-holds.glob.items
           (ap (λ v. v.items) w.glob-is ∙ w.in_ok-push.ensures.items) (sym c.holds.ensures ∙ w.if-holds.true)
       | else-holds w ↦
-          ap (λ v. v.items) w.glob-is ∙ filtered-no p ORDER c.args.glob.now.items c.loop-place.glob.items i inside c.loop-place.invariant (sym c.holds.ensures ∙ w.if-holds.false)
+          ap (λ v. v.items) w.glob-is ∙ filtered-no p ORDER c.args.glob.now.items c.loop-place.glob.items i inside
+          c.loop-place.invariant (sym c.holds.ensures ∙ w.if-holds.false)
     ]
 
 pub returns : goal.returns

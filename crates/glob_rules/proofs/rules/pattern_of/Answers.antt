@@ -18,8 +18,10 @@ IfOk-of (Ok x) P R Q first h = first x h
 IfOk-of (Err e) P R Q first h = tt
 
 -- a line is refused as its translation is
-RefusesPattern-of : (line : ℕ) (glob text : Text) (refused : PatternRefusal) (refusal : RuleRefusal) → text ≡ glob → Refuses (chars text) refused
-    → ((e : PatternError) → refused ≡ pattern.Syntax e → refusal ≡ refusals.Line line reasons.Pattern) → (refused ≡ pattern.Memory → refusal ≡ refusals.Memory)
+RefusesPattern-of : (line : ℕ) (glob text : Text) (refused : PatternRefusal) (refusal : RuleRefusal) → text ≡ glob
+    → Refuses (chars text) refused
+    → ((e : PatternError) → refused ≡ pattern.Syntax e → refusal ≡ refusals.Line line reasons.Pattern) →
+    (refused ≡ pattern.Memory → refusal ≡ refusals.Memory)
     → RefusesPattern line glob refusal
 RefusesPattern-of line glob text (pattern.Syntax e) refusal same fault syntax memory =
     rw (syntax e refl) (refl, refl, IsNoPattern-fault glob text _ same fault)
@@ -29,6 +31,8 @@ pub returns-clause-refused : goal.returns-clause-refused
 returns-clause-refused g c =
     let glob = c.args.glob.now in
     let text = c.in_ok-text.text.now in
-    let same : text ≡ glob = IfOk-mapped c.from_utf8.result _ (λ e d. ⊥) (λ read. read.now ≡ glob) c.in_ok-text.ensures.cases (IfOk-of c.from_utf8.result _ _ _ (λ read h. h.0) c.from_utf8.ensures.cases) in
-    IfErr-mapped c.new.result c.map_err-2.result _ (Refuses (chars text)) (RefusesPattern c.args.line glob) c.map_err-2.ensures.cases c.new.ensures.refused
+    let same : text ≡ glob = IfOk-mapped c.from_utf8.result _ (λ e d. ⊥) (λ read. read.now ≡ glob)
+    c.in_ok-text.ensures.cases (IfOk-of c.from_utf8.result _ _ _ (λ read h. h.0) c.from_utf8.ensures.cases) in
+    IfErr-mapped c.new.result c.map_err-2.result _ (Refuses (chars text)) (RefusesPattern c.args.line glob)
+    c.map_err-2.ensures.cases c.new.ensures.refused
     (λ e d fault made. RefusesPattern-of c.args.line glob text e d same fault (λ error is. search rules) (λ is. search rules))

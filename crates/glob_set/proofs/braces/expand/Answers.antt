@@ -24,7 +24,8 @@ returns-in_err-expand_all-clause-refused g c = refuses_memory _ _ c.from_residua
 
 pub returns-clause-alternatives : goal.returns-clause-alternatives
 returns-clause-alternatives g c =
-    are_alternatives _ _ _ _ _ c.as_slice-lexemes.ensures.value c.in_ok-lexemes.ensures c.in_ok-count.ensures.counted c.in_ok-expand_all.ensures
+    are_alternatives _ _ _ _ _ c.as_slice-lexemes.ensures.value c.in_ok-lexemes.ensures c.in_ok-count.ensures.counted
+    c.in_ok-expand_all.ensures
 
 pub returns-clause-few : goal.returns-clause-few
 returns-clause-few g c =
@@ -33,4 +34,5 @@ returns-clause-few g c =
 pub returns-clause-each : goal.returns-clause-each
 returns-clause-each g c =
     λ alternative. each_is_found _ _ alternative
-    (are_alternatives _ _ _ _ _ c.as_slice-lexemes.ensures.value c.in_ok-lexemes.ensures c.in_ok-count.ensures.counted c.in_ok-expand_all.ensures)
+    (are_alternatives _ _ _ _ _ c.as_slice-lexemes.ensures.value c.in_ok-lexemes.ensures c.in_ok-count.ensures.counted
+    c.in_ok-expand_all.ensures)

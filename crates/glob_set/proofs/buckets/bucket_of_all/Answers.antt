@@ -7,7 +7,8 @@ pub loop-number-init : goal.loop-number-init
 loop-number-init g c = subst (IsAll 0) (sym c.new-numbers.ensures.items) all_start
 
 pub loop-number-preserved : goal.loop-number-preserved
-loop-number-preserved g c = all_more c.loop-number.number c.loop-number.numbers.items c.push.new.self.items c.in_ok-push.ensures.items c.loop-number.invariant
+loop-number-preserved g c = all_more c.loop-number.number c.loop-number.numbers.items c.push.new.self.items
+    c.in_ok-push.ensures.items c.loop-number.invariant
 
 pub returns : goal.returns
 returns g c =

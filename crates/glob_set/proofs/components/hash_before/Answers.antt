@@ -24,7 +24,8 @@ loop-left-preserved c =
     record {
       within = omega (arith, l.invariant.within);
       read = c.hash_after-hash.ensures
-          ∙ fold_back hashed c.args.hash l.hash bytes left (omega (arith, l.invariant.within)) (l.invariant.read ∙ ap (λ n. fold hashed c.args.hash (reverse (drop n bytes))) same);
+          ∙ fold_back hashed c.args.hash l.hash bytes left (omega (arith, l.invariant.within)) (l.invariant.read ∙ ap
+          (λ n. fold hashed c.args.hash (reverse (drop n bytes))) same);
     }
 
 pub returns : goal.returns

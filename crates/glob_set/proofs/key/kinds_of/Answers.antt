@@ -5,7 +5,8 @@ use Rattle.glob_set.specs.Private.Keys.{AreKinds, HasKind}
 use Rattle.glob_set.proofs.KindLemmas.{kind_kept}
 use Rattle.glob_set.proofs.key.kinds_of.Goals as goal
 
-AreKinds-of : (keys : List (Option Key)) (kinds : Kinds) → ((k : ℕ) → k < length keys → IfSome (get_or keys k None) (HasKind kinds)) → AreKinds keys kinds
+AreKinds-of : (keys : List (Option Key)) (kinds : Kinds) → ((k : ℕ) → k < length keys → IfSome (get_or keys k None)
+    (HasKind kinds)) → AreKinds keys kinds
 unfolding AreKinds
 AreKinds-of keys kinds are = are
 

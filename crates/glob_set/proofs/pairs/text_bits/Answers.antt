@@ -9,7 +9,8 @@ pub loop-byte-preserved : goal.loop-byte-preserved
 loop-byte-preserved c =
     let l = c.loop-byte in
     let next = get_or c.args.bytes.now l.byte-index 0 in
-    ap (λ b. bit_or (bit_or l.bits b) (pair_bits next (drop (l.byte-index + 1) c.args.bytes.now))) (c.class_bit-bits.ensures ∙ ap class_bit c.pair_class.ensures.class)
+    ap (λ b. bit_or (bit_or l.bits b) (pair_bits next (drop (l.byte-index + 1) c.args.bytes.now)))
+    (c.class_bit-bits.ensures ∙ ap class_bit c.pair_class.ensures.class)
     ∙ step_bits l.bits l.last next c.args.bytes.now l.byte-index (omega arith) refl ∙ l.invariant
 
 pub returns : goal.returns

@@ -24,7 +24,8 @@ pub returns-clause-patterns : goal.returns-clause-patterns
 returns-clause-patterns g c =
     let same : map (λ t. t.now) c.as_slice-2.result.now ≡ map string_bytes c.in_ok-alternatives.alternatives.items =
     ap (map (λ t. t.now)) c.as_slice-2.ensures.value ∙ c.in_ok-texts.ensures ∙ ap (map string_bytes) c.as_slice.ensures.value in
-    let are = IfOk-at_ok _ c.in_ok-alternatives.was (IfOk-mapped c.expand.result c.map_err.result _ _ c.map_err.ensures.cases c.expand.ensures.alternatives) in
+    let are = IfOk-at_ok _ c.in_ok-alternatives.was (IfOk-mapped c.expand.result c.map_err.result _ _
+    c.map_err.ensures.cases c.expand.ensures.alternatives) in
     IfOk-mapped c.read_patterns-patterns.result c.map_err-2.result _ _ c.map_err-2.ensures.cases
     (IfOk-weaker c.read_patterns-patterns.result _ _ (λ found is. subst (AreAlternatives (chars c.args.text.now)) (sym (is ∙ same)) are)
     c.read_patterns-patterns.ensures.patterns)
@@ -33,10 +34,12 @@ pub returns-clause-accepted : goal.returns-clause-accepted
 returns-clause-accepted g c =
     let same : map (λ t. t.now) c.as_slice-2.result.now ≡ map string_bytes c.in_ok-alternatives.alternatives.items =
     ap (map (λ t. t.now)) c.as_slice-2.ensures.value ∙ c.in_ok-texts.ensures ∙ ap (map string_bytes) c.as_slice.ensures.value in
-    let are = IfOk-at_ok _ c.in_ok-alternatives.was (IfOk-mapped c.expand.result c.map_err.result _ _ c.map_err.ensures.cases c.expand.ensures.alternatives) in
+    let are = IfOk-at_ok _ c.in_ok-alternatives.was (IfOk-mapped c.expand.result c.map_err.result _ _
+    c.map_err.ensures.cases c.expand.ensures.alternatives) in
     IfOk-mapped c.read_patterns-patterns.result c.map_err-2.result _ _ c.map_err-2.ensures.cases
     (IfOk-weaker c.read_patterns-patterns.result _ _
-    (λ found accepted. HasPatterns-all c.args.text.now (map string_bytes c.in_ok-alternatives.alternatives.items) are (subst AreAccepted same accepted))
+    (λ found accepted. HasPatterns-all c.args.text.now (map string_bytes c.in_ok-alternatives.alternatives.items) are
+    (subst AreAccepted same accepted))
     c.read_patterns-patterns.ensures.accepted)
 
 pub returns-clause-refused : goal.returns-clause-refused
@@ -44,9 +47,12 @@ returns-clause-refused g c =
     let Refuses = RefusesText c.args.text.now c.args.number in
     let same : map (λ t. t.now) c.as_slice-2.result.now ≡ map string_bytes c.in_ok-alternatives.alternatives.items =
     ap (map (λ t. t.now)) c.as_slice-2.ensures.value ∙ c.in_ok-texts.ensures ∙ ap (map string_bytes) c.as_slice.ensures.value in
-    let are = IfOk-at_ok _ c.in_ok-alternatives.was (IfOk-mapped c.expand.result c.map_err.result _ _ c.map_err.ensures.cases c.expand.ensures.alternatives) in
-    IfErr-mapped c.read_patterns-patterns.result c.map_err-2.result _ _ Refuses c.map_err-2.ensures.cases c.read_patterns-patterns.ensures.refused
+    let are = IfOk-at_ok _ c.in_ok-alternatives.was (IfOk-mapped c.expand.result c.map_err.result _ _
+    c.map_err.ensures.cases c.expand.ensures.alternatives) in
+    IfErr-mapped c.read_patterns-patterns.result c.map_err-2.result _ _ Refuses c.map_err-2.ensures.cases
+    c.read_patterns-patterns.ensures.refused
     (λ e d fault made.
     let is : d ≡ of_alternatives c.args.number e = search rules in
     subst Refuses (sym is)
-    (RefusesText-alternative c.args.text.now c.args.number (map (λ t. t.now) c.as_slice-2.result.now) e (subst (AreAlternatives (chars c.args.text.now)) (sym same) are) fault))
+    (RefusesText-alternative c.args.text.now c.args.number (map (λ t. t.now) c.as_slice-2.result.now) e
+    (subst (AreAlternatives (chars c.args.text.now)) (sym same) are) fault))

@@ -12,7 +12,8 @@ pub returns-in_err-found-clause-refused : goal.returns-in_err-found-clause-refus
 returns-in_err-found-clause-refused g c =
     let l = c.loop-number in
     let p = err_from_is_err_and c.from_residual.result c.from_residual.ensures.1 in
-    rw (p.1, p.2) (RefusesBraceTexts-at (λ t. t.now) c.args.texts.now l.number _ (omega arith) l.invariant.accepted _ c.in_err-found.ensures.refused)
+    rw (p.1, p.2) (RefusesBraceTexts-at (λ t. t.now) c.args.texts.now l.number _ (omega arith) l.invariant.accepted _
+    c.in_err-found.ensures.refused)
 
 pub loop-number-preserved : goal.loop-number-preserved
 loop-number-preserved g c =

@@ -17,7 +17,8 @@ returns-in_err-pattern-clause-refused g c =
     (IfErr-mapped c.new.result c.map_err.result _ _ (RefusesTexts (map (λ t. t.now) texts)) c.map_err.ensures.cases c.new.ensures.refused
     (λ e d fault made.
     let is : d ≡ refusal_of l.number-counter e = search rules in
-    subst (RefusesTexts (map (λ t. t.now) texts)) (sym is) (RefusesTexts-at (λ t. t.now) texts l.number-counter _ (omega arith) l.invariant.accepted e fault))))
+    subst (RefusesTexts (map (λ t. t.now) texts)) (sym is) (RefusesTexts-at (λ t. t.now) texts l.number-counter _
+    (omega arith) l.invariant.accepted e fault))))
 
 pub loop-number-preserved : goal.loop-number-preserved
 loop-number-preserved g c =
@@ -25,9 +26,11 @@ loop-number-preserved g c =
     let l = c.loop-number in
     record {
       read = map-take_more (λ t. t.now) texts l.number-counter _ _ _ _ (omega arith) l.invariant.read
-          (IfOk-at_ok _ c.in_ok-pattern.was (IfOk-mapped c.new.result c.map_err.result _ _ c.map_err.ensures.cases c.new.ensures.text)) c.in_ok-push.ensures.items;
+          (IfOk-at_ok _ c.in_ok-pattern.was (IfOk-mapped c.new.result c.map_err.result _ _ c.map_err.ensures.cases
+          c.new.ensures.text)) c.in_ok-push.ensures.items;
       accepted = accepted_more (λ t. t.now) texts l.number-counter _ (omega arith)
-          (IfOk-at_ok _ c.in_ok-pattern.was (IfOk-mapped c.new.result c.map_err.result _ _ c.map_err.ensures.cases c.new.ensures.accepted)) l.invariant.accepted;
+          (IfOk-at_ok _ c.in_ok-pattern.was (IfOk-mapped c.new.result c.map_err.result _ _ c.map_err.ensures.cases
+          c.new.ensures.accepted)) l.invariant.accepted;
     }
 
 pub returns-clause-accepted : goal.returns-clause-accepted

@@ -33,7 +33,8 @@ loop-left-preserved g c =
     let lowest = lowest_set c.loop-left.left (omega arith) (omega arith) in
     let fewer = ones-cleared _ c.loop-left.left lowest.1 lowest.2 in
     let value = rw (i.same, i.place) at h.value in
-    let P : ℕ → Type 0 = λ j. IsTrue ((g.Self.Judge.table c.args.self.now).takes (63 * c.args.word + j) (g.Self.Judge.place c.args.self.now - 1)) in
+    let P : ℕ → Type 0 = λ j. IsTrue ((g.Self.Judge.table c.args.self.now).takes (63 * c.args.word + j)
+    (g.Self.Judge.place c.args.self.now - 1)) in
     record {
       within = λ j s. i.within j ((IsBitSet-cleared _ c.loop-left.left lowest.1 lowest.2 j).0 s).0;
       took = took-more P c.args.asked c.loop-left.left c.loop-left.took c.if-takes.took _ lowest.1 lowest.2 i.within i.took

@@ -33,12 +33,14 @@ returns-clause-asked g c =
     let h = c.takes_each.ensures in
     let few = ones-in_word T shapes c.args.end start c.args.word c.requires.from c.requires.within c.requires.shaped c.args.alive
     (omega arith) in
-    let taken = IsTakenWord-asked T shapes c.args.end start c.args.word c.requires.from c.requires.within c.requires.shaped p c.args.alive c.takes_each.result h.took c.requires.stepped c.requires.before in
+    let taken = IsTakenWord-asked T shapes c.args.end start c.args.word c.requires.from c.requires.within
+    c.requires.shaped p c.args.alive c.takes_each.result h.took c.requires.stepped c.requires.before in
     record {
       monotone = omega (arith, h.count);
       most = omega (arith, h.count, few);
       least = λ n n_from n_lt took. ⊎_elim
-          (λ none. absurd (none-taken_unasked T shapes c.args.end start c.args.word c.requires.from c.requires.within c.requires.shaped p c.args.alive c.takes_each.result h.took taken none n n_from n_lt took))
+          (λ none. absurd (none-taken_unasked T shapes c.args.end start c.args.word c.requires.from c.requires.within
+          c.requires.shaped p c.args.alive c.takes_each.result h.took taken none n n_from n_lt took))
           (λ some. omega (arith, some, h.count))
           (cases_eq (count_ones (bit_and c.args.alive c.args.word.tokens)) 0);
     }

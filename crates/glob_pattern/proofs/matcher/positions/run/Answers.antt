@@ -2,7 +2,8 @@ use Rattle.std.proofs.Common.{◌≡◌, ◌-◌, ◌∙◌, [], ◌∷◌, refl
 use Rattle.std.proofs.Math.Nat.{le_refl}
 use Rattle.glob_pattern.specs.Private.Positions.{word_before, word_end}
 use Rattle.glob_pattern.proofs.PositionLemmas.Words.{whole-at_start, whole-later, IsTakenWord-none, AreAlive-alone}
-use Rattle.glob_pattern.proofs.PositionLemmas.Running.{HasRun-start, HasRun-stepped, HasRun-room, HasDecided-ended, HasDecided-dead, HasDecided-accepting}
+use Rattle.glob_pattern.proofs.PositionLemmas.Running.{HasRun-start, HasRun-stepped, HasRun-room, HasDecided-ended}
+use Rattle.glob_pattern.proofs.PositionLemmas.Running.{HasDecided-dead, HasDecided-accepting}
 use Rattle.glob_pattern.proofs.matcher.positions.run.Goals as goal
 
 pub loop-alive-init : goal.loop-alive-init

@@ -1,5 +1,6 @@
 use Rattle.std.proofs.Common.{◌≡◌, ◌-◌, ◌^◌, ◌<◌, ◌∙◌, length, get_or, bit_and, refl, sym, inr, arith, map}
-use Rattle.glob_pattern.proofs.PositionLemmas.Running.{HasRun-start, HasRun-stepped, HasRun-room, HasDecided-ended, HasDecided-dead, HasDecided-accepting}
+use Rattle.glob_pattern.proofs.PositionLemmas.Running.{HasRun-start, HasRun-stepped, HasRun-room, HasDecided-ended}
+use Rattle.glob_pattern.proofs.PositionLemmas.Running.{HasDecided-dead, HasDecided-accepting}
 use Rattle.glob_pattern.proofs.matcher.positions.run_words.Goals as goal
 
 pub set_start-live-requires-clause-words : goal.set_start-live-requires-clause-words
@@ -48,7 +49,8 @@ loop-live-preserved g c =
     let s = rw (same, c.step.ensures.count) at c.step_words-live.ensures in
     record {
       count = s.stepped.many ∙ i.count;
-      run = rw s.place (HasRun-stepped T shapes c.args.span.end _ _ _ c.loop-live.alive i.run _ _ c.step_words-live.new.alive c.requires.ready.shaped.within next within s.stepped.asked s.stepped.alive);
+      run = rw s.place (HasRun-stepped T shapes c.args.span.end _ _ _ c.loop-live.alive i.run _ _
+          c.step_words-live.new.alive c.requires.ready.shaped.within next within s.stepped.asked s.stepped.alive);
       live = s.live;
       same = s.same;
     }
@@ -88,7 +90,8 @@ returns-then-alive-last-ne0-clause-decided g c =
     let ready = c.requires.ready in
     let long : length c.loop-live.alive ≡ length c.args.words.now = i.count ∙ c.requires.length in
     let fits : get_or c.loop-live.alive c.word_before-last.result 0 < 2 ^ 64 = omega arith in
-    let meets : 0 < bit_and (get_or c.loop-live.alive c.word_before-last.result 0) c.args.span.accepting = omega (arith, c.if-alive-last-ne0.true) in
+    let meets : 0 < bit_and (get_or c.loop-live.alive c.word_before-last.result 0) c.args.span.accepting = omega
+    (arith, c.if-alive-last-ne0.true) in
     HasDecided-accepting (g.J.Judge.table c.args.judge.now)
     (map g.T.Shaped.shape c.args.tokens.now) c.args.span _ _ _ c.loop-live.alive i.run ready.shaped.within
     (omega (arith, long, ready.shaped.all, ready.shaped.some)) (rw c.word_before-last.ensures at fits)

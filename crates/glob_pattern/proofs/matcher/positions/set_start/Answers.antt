@@ -1,4 +1,5 @@
-use Rattle.std.proofs.Common.{◌≡◌, ◌+◌, ◌-◌, ◌*◌, ◌<◌, ◌≤◌, ◌≢◌, ◌∙◌, length, set, refl, sym, inr, ⊎_elim, arith, length-set, get_or-set_same, get_or-set_other, map}
+use Rattle.std.proofs.Common.{◌≡◌, ◌+◌, ◌-◌, ◌*◌, ◌<◌, ◌≤◌, ◌≢◌, ◌∙◌, length, set, refl, sym, inr, ⊎_elim, arith}
+use Rattle.std.proofs.Common.{length-set, get_or-set_same, get_or-set_other, map}
 use Rattle.std.proofs.lemmas.Bool.{false≢true}
 use Rattle.glob_pattern.specs.Private.Positions.{AreAlive}
 use Rattle.glob_pattern.specs.Matching.Splits.{Table}
@@ -46,7 +47,11 @@ loop-n-preserved g c =
 pub returns-clause-live : goal.returns-clause-live
 returns-clause-live g c =
     let i = c.loop-n.invariant in
-    record { within = omega arith; none = λ m lt out. absurd (⊎_elim (λ low. omega (arith, low)) (λ high. omega (arith, high, lt, i.count)) out) }
+    record {
+      within = omega arith;
+      none = λ m lt out. absurd (⊎_elim (λ low. omega (arith, low)) (λ high. omega
+          (arith, high, lt, i.count)) out);
+    }
 
 pub returns-clause-alive : goal.returns-clause-alive
 returns-clause-alive g c = λ table opens.
@@ -55,7 +60,11 @@ returns-clause-alive g c = λ table opens.
     rw end at (i.done table opens)
 
 pub returns-then-not-whole-clause-live : goal.returns-then-not-whole-clause-live
-returns-then-not-whole-clause-live g c = record { within = omega arith; none = λ m lt out. ⊎_elim (λ low. absurd (omega (arith, low))) (λ high. c.loop-n.invariant.zeros m high lt) out }
+returns-then-not-whole-clause-live g c = record {
+  within = omega arith;
+  none = λ m lt out. ⊎_elim (λ low. absurd
+      (omega (arith, low))) (λ high. c.loop-n.invariant.zeros m high lt) out;
+}
 
 pub returns-then-not-whole-clause-alive : goal.returns-then-not-whole-clause-alive
 returns-then-not-whole-clause-alive g c = λ table opens.

@@ -1,4 +1,5 @@
-use Rattle.std.proofs.Common.{◌≡◌, ℕ, ◌+◌, ◌-◌, ◌*◌, ◌<◌, ◌≤◌, ◌≢◌, ◌∙◌, false, IsTrue, length, min, get_or, set, refl, sym, inl, inr, ⊎_elim, arith, length-set, get_or-set_other, get_or-set_same, map}
+use Rattle.std.proofs.Common.{◌≡◌, ℕ, ◌+◌, ◌-◌, ◌*◌, ◌<◌, ◌≤◌, ◌≢◌, ◌∙◌, false, IsTrue, length, min, get_or, set, refl}
+use Rattle.std.proofs.Common.{sym, inl, inr, ⊎_elim, arith, length-set, get_or-set_other, get_or-set_same, map}
 use Rattle.std.proofs.Math.Nat.{le_refl}
 use Rattle.std.proofs.lemmas.Bool.{cases_lt, false≢true}
 use Rattle.glob_pattern.specs.Private.Prefixes.{PrefixSplits, HasTaken}
@@ -134,7 +135,8 @@ returns-then-live-n-clause-stepped g c =
     let few : 63 * (length list - 1) ≤ c.args.end = omega (arith, i.count, r.many, r.shaped.few) in
     let all : c.args.end ≤ 63 * length list = omega (arith, i.count, r.many, r.shaped.all) in
     let begin : min (63 * n) c.args.end ≡ 63 * n = omega (arith, from) in
-    let zeros : (m : ℕ) → n ≤ m → m < length list → get_or list m 0 ≡ 0 = λ m low below. i.zeros m low below (omega (arith, low, c.if-live-n.true)) in
+    let zeros : (m : ℕ) → n ≤ m → m < length list → get_or list m 0 ≡ 0 = λ m low below. i.zeros m low below
+    (omega (arith, low, c.if-live-n.true)) in
     let taken : (t : ℕ) → 63 * n ≤ t → t < 63 * length list → t < c.args.end → ¬
     (HasTaken T shapes t p) = none-taken_in_words T shapes c.args.end list n (length list) p i.rest zeros in
     record {
@@ -150,5 +152,6 @@ returns-then-live-n-clause-live g c =
     let i = c.loop-n.invariant in
     record {
       within = i.next.within;
-      none = λ m below out. ⊎_elim (λ before. i.next.none m before out) (λ from. i.zeros m from below (omega (arith, from, c.if-live-n.true))) (cases_lt m c.loop-n.n);
+      none = λ m below out. ⊎_elim (λ before. i.next.none m before out) (λ from. i.zeros m from below
+          (omega (arith, from, c.if-live-n.true))) (cases_lt m c.loop-n.n);
     }

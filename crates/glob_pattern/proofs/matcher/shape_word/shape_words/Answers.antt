@@ -18,7 +18,8 @@ loop-n-preserved g c =
           (λ e. let at : get_or (words ++ c.new.result ∷ []) m d ≡ c.new.result = get_or_push words c.new.result d m
           (omega (arith, e, i.count)) in rw at (subst (λ n. IsShapeWord (map g.T.Shaped.shape c.args.tokens.now) c.args.end
           (63 * n) c.new.result) (sym e) c.new.ensures))
-          (λ ne. let at : get_or (words ++ c.new.result ∷ []) m d ≡ get_or words m d = get_or_append_left words (c.new.result ∷ []) d m (omega (arith, ne, lt, i.count)) in rw at (i.word m d (omega arith)))
+          (λ ne. let at : get_or (words ++ c.new.result ∷ []) m d ≡ get_or words m d = get_or_append_left words
+          (c.new.result ∷ []) d m (omega (arith, ne, lt, i.count)) in rw at (i.word m d (omega arith)))
           (cases_eq m c.loop-n.n);
     })
 

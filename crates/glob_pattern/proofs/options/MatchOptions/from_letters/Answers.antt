@@ -21,7 +21,9 @@ returns-in_err-options c =
     let l = c.loop-letter in
     let ls = c.args.letters.now in
     c.from_residual.ensures
-    ∙ ap (option_and_then (with_letters (drop (suc l.letter-index) ls))) (sym (c.in_err-options.was) ∙ c.with_letter.ensures ∙ ap (λ bs. with_letter (get_or bs l.letter-index 0) l.options) c.as_bytes-letter-items.ensures.value)
+    ∙ ap (option_and_then (with_letters (drop (suc l.letter-index) ls))) (sym (c.in_err-options.was)
+    ∙ c.with_letter.ensures ∙ ap (λ bs. with_letter (get_or bs l.letter-index 0) l.options)
+    c.as_bytes-letter-items.ensures.value)
     ∙ sym (next ls l.letter-index l.options (omega arith)) ∙ l.invariant
 
 pub loop-letter-preserved : goal.loop-letter-preserved
@@ -30,7 +32,9 @@ loop-letter-preserved c =
     let ls = c.args.letters.now in
     let more : l.letter-index + 1 ≡ suc l.letter-index = omega arith in
     ap (λ n. with_letters (drop n ls) c.in_ok-options.options) more
-    ∙ ap (option_and_then (with_letters (drop (suc l.letter-index) ls))) (sym (c.in_ok-options.was) ∙ c.with_letter.ensures ∙ ap (λ bs. with_letter (get_or bs l.letter-index 0) l.options) c.as_bytes-letter-items.ensures.value)
+    ∙ ap (option_and_then (with_letters (drop (suc l.letter-index) ls))) (sym (c.in_ok-options.was)
+    ∙ c.with_letter.ensures ∙ ap (λ bs. with_letter (get_or bs l.letter-index 0) l.options)
+    c.as_bytes-letter-items.ensures.value)
     ∙ sym (next ls l.letter-index l.options (omega arith)) ∙ l.invariant
 
 pub returns : goal.returns

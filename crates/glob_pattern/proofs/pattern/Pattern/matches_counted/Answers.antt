@@ -7,7 +7,8 @@ use Rattle.glob_pattern.proofs.pattern.Pattern.matches_counted.Goals as goal
 
 pub returns-clause-answer : goal.returns-clause-answer
 returns-clause-answer g c =
-    let iff = Matches-iff_tokens c.args.options (chars c.args.self.now) (chars c.args.str.now) c.self.inside.compiled (rw c.self.view_is at c.self.invariant) in
+    let iff = Matches-iff_tokens c.args.options (chars c.args.self.now) (chars c.args.str.now) c.self.inside.compiled
+    (rw c.self.view_is at c.self.invariant) in
     IfOk-weaker c.matches_counted.result _ _ (λ counted h. (λ t. iff.0 (h.0 t), λ m. h.1 (iff.1 m))) c.matches_counted.ensures.answer
 
 pub returns-clause-most : goal.returns-clause-most
@@ -17,4 +18,5 @@ returns-clause-most g c =
     IfOk-weaker c.matches_counted.result _ _ (λ counted h. omega (arith, h, bound)) c.matches_counted.ensures.most
 
 pub returns-clause-short : goal.returns-clause-short
-returns-clause-short g c = λ short. c.matches_counted.ensures.short (tokens_are_few (chars c.args.self.now) c.self.inside.compiled (rw c.self.view_is at c.self.invariant) short)
+returns-clause-short g c = λ short. c.matches_counted.ensures.short (tokens_are_few (chars c.args.self.now)
+    c.self.inside.compiled (rw c.self.view_is at c.self.invariant) short)

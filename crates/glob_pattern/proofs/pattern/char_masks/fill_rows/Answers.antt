@@ -42,8 +42,15 @@ loop-n-preserved g c =
     let i = c.loop-n.invariant in
     let old = c.loop-n.masks in
     let new = c.fill.new.row in
-    let whole : c.loop-n.n * c.count-columns.result + c.count-columns.result - c.loop-n.n * c.count-columns.result ≡ c.count-columns.result = omega arith in
-    let within : n * columns_of p + columns_of p ≤ length old = omega (arith, row-within n c.args.rows (columns_of p) c.loop-n-test.true, c.requires.long, i.long) in
+    let whole : c.loop-n.n * c.count-columns.result + c.count-columns.result - c.loop-n.n * c.count-columns.result ≡
+    c.count-columns.result = omega arith in
+    let within : n * columns_of p + columns_of p ≤ length old = omega (
+      arith,
+      row-within n c.args.rows (columns_of p)
+          c.loop-n-test.true,
+      c.requires.long,
+      i.long,
+    ) in
     let cut = length-take (columns_of p) (drop (n * columns_of p) old) in
     let rest = length-drop (n * columns_of p) old in
     let long : length new ≡ columns_of p = omega (arith, rw (whole, c.count-columns.ensures) at c.fill.auto.row, cut, rest, within) in
@@ -53,7 +60,8 @@ loop-n-preserved g c =
           (λ (e : r ≡ n). rw e (IsRow-placed tokens (63 * (n / 2)) p is (n % 2 == 0) (n * columns_of p) old new within long c.fill.ensures))
           (λ (ne : r ≢ n).
           let before : r < n = omega (arith, lt, ne) in
-          IsRow-before tokens (63 * (r / 2)) p is (r % 2 == 0) (n * columns_of p) (r * columns_of p) old new within long (row-within r n (columns_of p) before) (i.done r before))
+          IsRow-before tokens (63 * (r / 2)) p is (r % 2 == 0) (n * columns_of p) (r * columns_of p) old new within
+          long (row-within r n (columns_of p) before) (i.done r before))
           (cases_eq r n);
       left = λ r le.
           let from : n * columns_of p + columns_of p ≤ r = omega (arith, le) in

@@ -24,6 +24,7 @@ loop-i-preserved g c =
       counts = λ j lt.
           ⊎_elim
           (λ e. get_or_push counts n 0 j (omega (arith, e, is.long)) ∙ count ∙ ap (λ k. rank boundaries (c.args.base + k)) (sym e))
-          (λ ne. get_or_append_left counts (n ∷ []) 0 j (omega (arith, ne, lt, is.long, length-append counts (n ∷ []))) ∙ is.counts j (omega (arith, ne, lt, is.long, length-append counts (n ∷ []))))
+          (λ ne. get_or_append_left counts (n ∷ []) 0 j (omega (arith, ne, lt, is.long, length-append counts (n ∷ [])))
+          ∙ is.counts j (omega (arith, ne, lt, is.long, length-append counts (n ∷ []))))
           (cases_eq j c.loop-i.i);
     })

@@ -10,4 +10,5 @@ loop-lead-preserved g c =
     let tokens = c.args.tokens.now in
     let one : c.shape.result ≡ One = search (rules) in
     HasOnes-first (map shape_of tokens) c.loop-lead.lead c.loop-lead.invariant (omega (arith, length-map tokens shape_of))
-    (mapped_at shape_of tokens c.loop-lead.lead c.index-tokens-lead.result One (omega arith) c.index-tokens-lead.is ∙ sym c.shape.ensures ∙ one)
+    (mapped_at shape_of tokens c.loop-lead.lead c.index-tokens-lead.result One (omega arith) c.index-tokens-lead.is
+    ∙ sym c.shape.ensures ∙ one)

@@ -9,7 +9,12 @@ use Rattle.glob_pattern.proofs.pattern.ends.opens_after.Goals as goal
 
 pub returns-in-empty : goal.returns-in-empty
 returns-in-empty c =
-    let none : c.args.text.now ≡ [] = nil_from_length c.args.text.now (omega (arith, c.in-empty.len_below, ap length c.as_bytes.ensures.value)) in
+    let none : c.args.text.now ≡ [] = nil_from_length c.args.text.now (omega (
+      arith,
+      c.in-empty.len_below,
+      ap length
+          c.as_bytes.ensures.value,
+    )) in
     rw (none, chars-nil) refl
 
 pub returns-in-len1-up : goal.returns-in-len1-up

@@ -10,6 +10,7 @@ loop-literals-preserved g c =
     let place : length tokens - (c.loop-literals.literals.count + 1) ≡ n = omega arith in
     rw (c.in-Some.ensures.count, c.in-Some.ensures.bytes, place) (record {
       within = omega (arith, c.loop-literals-test.true);
-      literals = HasLiterals-before tokens n _ c.loop-literals.literals.bytes c.index-tokens-tokens.result (omega (arith, c.loop-literals-test.true)) c.index-tokens-tokens.is c.in-Literal.is
+      literals = HasLiterals-before tokens n _ c.loop-literals.literals.bytes c.index-tokens-tokens.result
+          (omega (arith, c.loop-literals-test.true)) c.index-tokens-tokens.is c.in-Literal.is
           (rw next at c.loop-literals.invariant.literals);
     })

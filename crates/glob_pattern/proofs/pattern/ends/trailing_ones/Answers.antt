@@ -13,7 +13,8 @@ loop-trail-preserved g c =
     let place = length tokens - 1 - c.loop-trail.trail in
     let same : length (map shape_of tokens) - 1 - c.loop-trail.trail ≡ place = omega (arith, long) in
     HasOnes-last (map shape_of tokens) c.args.lead c.loop-trail.trail c.loop-trail.invariant (omega (arith, long))
-    (rw same (mapped_at shape_of tokens place c.index-tokens-tokens.result One (omega arith) c.index-tokens-tokens.is ∙ sym c.shape.ensures ∙ one))
+    (rw same (mapped_at shape_of tokens place c.index-tokens-tokens.result One (omega arith) c.index-tokens-tokens.is
+    ∙ sym c.shape.ensures ∙ one))
 
 pub loop-trail-init : goal.loop-trail-init
 loop-trail-init g c = c.requires

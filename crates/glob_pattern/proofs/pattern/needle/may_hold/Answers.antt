@@ -13,8 +13,10 @@ same_byte : (bytes needle : List ℕ) (k i j : ℕ) → IsAt bytes needle k → 
     → to_ascii_lowercase (get_or bytes j 0) ≡ to_ascii_lowercase (get_or needle i 0)
 same_byte bytes needle k i j stands lt at =
     let cut = take (length needle) (drop k bytes) in
-    let long : length cut ≡ length needle = sym (length-map cut to_ascii_lowercase) ∙ ap length stands.folded ∙ length-map needle to_ascii_lowercase in
-    let byte : get_or cut i 0 ≡ get_or bytes j 0 = get_or-take (length needle) (drop k bytes) i 0 lt ∙ get_or-drop k bytes i 0 ∙ ap (λ n. get_or bytes n 0) (sym at) in
+    let long : length cut ≡ length needle = sym (length-map cut to_ascii_lowercase) ∙ ap length stands.folded
+    ∙ length-map needle to_ascii_lowercase in
+    let byte : get_or cut i 0 ≡ get_or bytes j 0 = get_or-take (length needle) (drop k bytes) i 0 lt ∙ get_or-drop k
+    bytes i 0 ∙ ap (λ n. get_or bytes n 0) (sym at) in
     ap to_ascii_lowercase (sym byte) ∙ sym (get_or-map to_ascii_lowercase cut i 0 0 (omega arith)) ∙ ap (λ xs. get_or xs i 0) stands.folded
     ∙ get_or-map to_ascii_lowercase needle i 0 0 lt
 
@@ -23,8 +25,10 @@ found_there : (bytes needle : List ℕ) (start gap a b k : ℕ) → gap ≡ leng
     → AreLanes bytes start (get_or needle 0 0) a → AreLanes bytes (start + gap) (get_or needle gap 0) b
     → k < 16 → IsAt bytes needle (start + k) → bit_at (bit_and a b) k ≡ 1
 found_there bytes needle start gap a b k is some first last few stands =
-    let one = first.each k few (omega (arith, stands.within)) (same_byte bytes needle (start + k) 0 (start + k) stands some (omega arith)) in
-    let other = last.each k few (omega (arith, stands.within)) (same_byte bytes needle (start + k) gap (start + gap + k) stands (omega arith) (omega arith)) in
+    let one = first.each k few (omega (arith, stands.within)) (same_byte bytes needle (start + k) 0 (start + k) stands
+    some (omega arith)) in
+    let other = last.each k few (omega (arith, stands.within)) (same_byte bytes needle (start + k) gap
+    (start + gap + k) stands (omega arith) (omega arith)) in
     omega (arith, bit_at_and a b k)
 
 pub loop-start-preserved : goal.loop-start-preserved
@@ -37,6 +41,7 @@ loop-start-preserved c = λ k below is.
     (λ from.
     let at : k ≡ start + (k - start) = omega arith in
     let here = subst (IsAt bytes needle) at is in
-    let one = found_there bytes needle start _ _ _ (k - start) refl c.requires.some c.same_lanes-first.ensures c.same_lanes.ensures (omega arith) here in
+    let one = found_there bytes needle start _ _ _ (k - start) refl c.requires.some c.same_lanes-first.ensures
+    c.same_lanes.ensures (omega arith) here in
     both_ways _ c.if-is_at_any.false (c.is_at_any.ensures (k - start) ((IsBitSet-iff_one _ (k - start)).1 one) here))
     (cases_lt k start)

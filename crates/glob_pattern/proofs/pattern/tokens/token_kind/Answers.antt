@@ -6,7 +6,8 @@ use Rattle.glob_pattern.specs.declared.token.Token.TheVariants.{AnyChar}
 use Rattle.glob_pattern.proofs.pattern.tokens.token_kind.Goals as goal
 
 -- the kind of a token that was read at a place
-read : (tokens : List Token) (n : ℕ) (token variant : Token) → token ≡ variant → token ≡ get_or tokens n token → n < length tokens → kind_of variant ≡ kind_of (get_or tokens n AnyChar)
+read : (tokens : List Token) (n : ℕ) (token variant : Token) → token ≡ variant → token ≡ get_or tokens n token
+    → n < length tokens → kind_of variant ≡ kind_of (get_or tokens n AnyChar)
 read tokens n token variant same at lt = ap kind_of (sym same ∙ at ∙ get_or_default tokens n token AnyChar lt)
 
 pub offset_bounds-tokens_in-token : goal.offset_bounds-tokens_in-token

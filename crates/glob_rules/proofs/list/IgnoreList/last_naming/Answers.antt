@@ -27,9 +27,11 @@ returns-in-Some-clause-number g c =
     let path = c.args.path.now in
     let last = subst (LastMatch set.options set.patterns path) c.in-Some.is c.in_ok-number.ensures.answer in
     let known : (length list.rules ≡ length list.patterns) × LastMatch rule_options list.patterns path (Some c.in-Some.number) =
-    subst (λ (l : Ignores). (length l.rules ≡ length l.patterns) × LastMatch rule_options l.patterns path (Some c.in-Some.number)) c.self.view_is
+    subst (λ (l : Ignores). (length l.rules ≡ length l.patterns) × LastMatch rule_options l.patterns path
+    (Some c.in-Some.number)) c.self.view_is
     (c.self.invariant.0, subst (λ o. LastMatch o set.patterns path (Some c.in-Some.number)) c.self.invariant.1 last) in
-    IfOk-follow c.last_naming_below.result _ _ (λ n e. e ∙ last_named-below list path c.args.is_directory c.in-Some.number known.0 known.1) c.last_naming_below.ensures.number
+    IfOk-follow c.last_naming_below.result _ _ (λ n e. e ∙ last_named-below list path c.args.is_directory
+    c.in-Some.number known.0 known.1) c.last_naming_below.ensures.number
 
 pub returns-in-None-clause-number : goal.returns-in-None-clause-number
 returns-in-None-clause-number g c =

@@ -10,7 +10,8 @@ loop-left-preserved g c =
     record {
       within = omega (arith, c.loop-left.invariant.within);
       same = c.loop-left.invariant.same
-          ∙ last_naming-less c.args.self.now c.args.path.now c.args.is_directory left (left - 1) next (sym c.in_ok-names.ensures.answer ∙ c.if-branch.false);
+          ∙ last_naming-less c.args.self.now c.args.path.now c.args.is_directory left (left - 1) next
+          (sym c.in_ok-names.ensures.answer ∙ c.if-branch.false);
     }
 
 pub returns-then-branch-clause-number : goal.returns-then-branch-clause-number
@@ -18,7 +19,8 @@ returns-then-branch-clause-number g c =
     let left = c.loop-left.left in
     let next : left ≡ suc (left - 1) = omega arith in
     sym (c.loop-left.invariant.same
-    ∙ last_naming-here c.args.self.now c.args.path.now c.args.is_directory left (left - 1) next (sym c.in_ok-names.ensures.answer ∙ c.if-branch.true))
+    ∙ last_naming-here c.args.self.now c.args.path.now c.args.is_directory left (left - 1) next
+    (sym c.in_ok-names.ensures.answer ∙ c.if-branch.true))
 
 pub returns-clause-number : goal.returns-clause-number
 returns-clause-number g c =

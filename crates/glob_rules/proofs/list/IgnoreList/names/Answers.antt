@@ -22,7 +22,8 @@ returns-then-not-is_directory-clause-answer g c =
     let path = c.args.path.now in
     let d = c.args.is_directory in
     subst (λ (l : Ignores). k < length l.rules → false ≡ names l path d k) c.self.view_is
-    (λ below. names-not_directory list path d k (ap (λ (r : Rule). r.directories) (sym (c.index.ensures ∙ get_or_default list.rules k _ _ below)) ∙ c.if-index.true) c.if-not-is_directory.true)
+    (λ below. names-not_directory list path d k (ap (λ (r : Rule). r.directories)
+    (sym (c.index.ensures ∙ get_or_default list.rules k _ _ below)) ∙ c.if-index.true) c.if-not-is_directory.true)
     c.requires
 
 pub returns-clause-answer : goal.returns-clause-answer
@@ -41,9 +42,11 @@ returns-clause-answer g c =
     (λ below.
     let kind = ap (λ (r : Rule). r.directories) (c.index.ensures ∙ get_or_default list.rules k _ _ below) in
     let few : k < length inside.set.patterns = omega (arith, below, c.self.invariant.0) in
-    let is = c.index-patterns-number.is ∙ ap (λ ps. get_or ps k c.index-patterns-number.result) c.patterns.ensures ∙ get_or_default inside.set.patterns k _ [] few in
+    let is = c.index-patterns-number.is ∙ ap (λ ps. get_or ps k c.index-patterns-number.result) c.patterns.ensures
+    ∙ get_or_default inside.set.patterns k _ [] few in
     IfOk-follow c.matches_with.result _ _
-    (λ b answer. names-answer list path d k c.index.result.now.directories c.index-patterns-number.result c.rule_options.result b kind is c.rule_options.ensures any answer)
+    (λ b answer. names-answer list path d k c.index.result.now.directories c.index-patterns-number.result
+    c.rule_options.result b kind is c.rule_options.ensures any answer)
     c.matches_with.ensures.answer)
     c.requires
 

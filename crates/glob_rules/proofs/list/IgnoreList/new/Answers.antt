@@ -9,7 +9,9 @@ returns-in_err-set-clause-refused g c = IfErr-memory _ _ c.from_residual-in_err-
 
 pub invariant_of-result : goal.invariant_of-result
 invariant_of-result g c =
-    let same = subst (λ (l : Ignores). length l.rules ≡ length l.patterns) (sym c.in_ok-read.ensures.rules) (rules_of-lengths c.args.text.now) in (
-      ap length c.into_parts-lines.ensures.rules ∙ same ∙ sym (ap length c.into_parts-lines.ensures.patterns) ∙ sym (ap (λ (s : Set). length s.patterns) c.in_ok-set.ensures),
+    let same = subst (λ (l : Ignores). length l.rules ≡ length l.patterns) (sym c.in_ok-read.ensures.rules)
+    (rules_of-lengths c.args.text.now) in (
+      ap length c.into_parts-lines.ensures.rules ∙ same ∙ sym (ap length c.into_parts-lines.ensures.patterns) ∙ sym
+          (ap (λ (s : Set). length s.patterns) c.in_ok-set.ensures),
       ap (λ (s : Set). s.options) c.in_ok-set.ensures ∙ c.rule_options.ensures,
     )

@@ -1,4 +1,5 @@
-use Rattle.std.proofs.Common.{◌≡◌, ℕ, ◌+◌, ◌-◌, ◌==◌, ◌≤◌, ◌∙◌, Bool, true, false, List, [], ◌∷◌, length, get_or, take, drop, refl, ap, suc, arith}
+use Rattle.std.proofs.Common.{◌≡◌, ℕ, ◌+◌, ◌-◌, ◌==◌, ◌≤◌, ◌∙◌, Bool, true, false, List, [], ◌∷◌, length, get_or, take}
+use Rattle.std.proofs.Common.{drop, refl, ap, suc, arith}
 use Rattle.std.proofs.lemmas.List.{take_rest}
 use Rattle.glob_pattern.specs.Grammar.Characters.{close_bracket}
 use Rattle.glob_rules.specs.Classes.{before_close}
@@ -11,7 +12,8 @@ tail_taken : (n c : ℕ) (cs : List ℕ) → drop 1 (take (1 + n) (c ∷ cs)) �
 tail_taken n c cs = let e : 1 + n ≡ suc n = omega arith in rw e refl
 
 -- what is before the bracket that closes, after one byte
-behind : (closes : Bool) (c : ℕ) (cs ahead : List ℕ) → (c == close_bracket) ≡ closes → 1 ≤ length ahead → ahead ≡ before_close (c ∷ cs) → drop 1 ahead ≡ before_close cs
+behind : (closes : Bool) (c : ℕ) (cs ahead : List ℕ) → (c == close_bracket) ≡ closes → 1 ≤ length ahead
+    → ahead ≡ before_close (c ∷ cs) → drop 1 ahead ≡ before_close cs
 behind true c cs ahead closes some is = absurd (omega (arith, some, ap length (rw closes at is)))
 behind false c cs ahead closes some is = ap (drop 1) (rw closes at is) ∙ tail_taken _ c cs
 
@@ -35,7 +37,8 @@ loop-rest-preserved g c =
     let ahead : c.if-ahead-lt1.ahead.now ≡ before_close (take (length rest - 1) (drop 1 rest)) =
     elim c.if-ahead-lt1.branch [
       | in-empty w ↦ rw w.ahead-is w.before_close-ahead-in-empty.ensures
-      | in-len1-up-ahead w ↦ rw w.ahead-is (ahead_more _ _ c.in-len1-up.len_at_least w.in-len1-up-ahead.len_at_least c.loop-rest.invariant.ahead)
+      | in-len1-up-ahead w ↦ rw w.ahead-is (ahead_more _ _ c.in-len1-up.len_at_least w.in-len1-up-ahead.len_at_least
+          c.loop-rest.invariant.ahead)
     ] in
     record {
       so_far = one_read _ _ _ _ c.in-len1-up.len_at_least ahead c.in_ok-advance.ensures ∙ c.loop-rest.invariant.so_far;

@@ -4,7 +4,8 @@ use Rattle.std.proofs.lemmas.Iterator.Splits.{YieldsList-from_str_split}
 use Rattle.std.proofs.lemmas.List.{length_push, take_all}
 use Rattle.std.specs.List.{fold}
 use Rattle.glob_rules.specs.Lines.{line_of}
-use Rattle.glob_rules.specs.Lists.{no_rules, add_line, lines_of, rules_of, IsTaken, AreTaken, RefusesText, RefusesLine, next_line, without_byte_order_mark}
+use Rattle.glob_rules.specs.Lists.{no_rules, add_line, lines_of, rules_of, IsTaken, AreTaken, RefusesText, RefusesLine}
+use Rattle.glob_rules.specs.Lists.{next_line, without_byte_order_mark}
 use Rattle.glob_rules.proofs.LineLemmas.{rules-more, count-more, taken-more, RefusesText-at, IfErr-known}
 use Rattle.glob_rules.proofs.rules.Rules.read.Goals as goal
 
@@ -16,9 +17,11 @@ loop-line-preserved g c =
     let split = YieldsList-from_str_split 10 (without_byte_order_mark text) (lit< tt) (cc) (cc) (cc) in
     let turn = YieldsList-turn split l.yielded _ l.yielded_by _ _ c.in-Some.line c.in-Some.is c.next.ensures.steps in
     let more : length (l.yielded ++ c.in-Some.line ∷ []) ≡ length l.yielded + 1 = length_push l.yielded c.in-Some.line in
-    let added : c.add_line.new.self ≡ add_line l.rules line = c.in_ok-add_line.ensures.rules ∙ ap (add_line l.rules) c.as_bytes.ensures.value in
+    let added : c.add_line.new.self ≡ add_line l.rules line = c.in_ok-add_line.ensures.rules ∙ ap (add_line l.rules)
+    c.as_bytes.ensures.value in
     rw more record {
-      so_far = rules-more text (length l.yielded) line turn.0 turn.1 l.rules l.invariant.count l.invariant.taken c.add_line.new.self l.invariant.so_far added;
+      so_far = rules-more text (length l.yielded) line turn.0 turn.1 l.rules l.invariant.count l.invariant.taken
+          c.add_line.new.self l.invariant.so_far added;
       count = count-more text (length l.yielded) line turn.0 turn.1 l.rules l.invariant.count l.invariant.taken c.add_line.new.self added;
       taken = taken-more text (length l.yielded) line turn.0 turn.1 l.rules l.invariant.count l.invariant.taken
           (subst (λ t. IsTaken (line_of t)) c.as_bytes.ensures.value c.in_ok-add_line.ensures.taken);
@@ -33,7 +36,8 @@ returns-in_err-add_line-clause-refused g c =
     let turn = YieldsList-turn split l.yielded _ l.yielded_by _ _ c.in-Some.line c.in-Some.is c.next.ensures.steps in
     IfErr-known c.from_residual.result (RefusesText text) c.in_err-add_line.field-0.0
     (RefusesText-at text (length l.yielded) line turn.0 turn.1 l.rules l.invariant.count l.invariant.taken c.in_err-add_line.field-0.0
-    (subst (λ t. RefusesLine (next_line l.rules.lines) (line_of t) c.in_err-add_line.field-0.0) c.as_bytes.ensures.value c.in_err-add_line.ensures.refused))
+    (subst (λ t. RefusesLine (next_line l.rules.lines) (line_of t) c.in_err-add_line.field-0.0)
+    c.as_bytes.ensures.value c.in_err-add_line.ensures.refused))
     c.from_residual.ensures.1
 
 pub returns-clause-rules : goal.returns-clause-rules

@@ -15,7 +15,8 @@ pub returns-in_ok-push-in-Open-clause-counted : goal.returns-in_ok-push-in-Open-
 returns-in_ok-push-in-Open-clause-counted g c =
     let old = c.args.opened.now.items in
     let o : Opened = record { place = c.args.place; before = c.args.count; found = 0 } in
-    let pushed : reverse c.push.new.self.items ≡ o ∷ reverse old = reverse_push old c.push.new.self.items o c.in_ok-push-in-Open.ensures.items in
+    let pushed : reverse c.push.new.self.items ≡ o ∷ reverse old = reverse_push old c.push.new.self.items o
+    c.in_ok-push-in-Open.ensures.items in
     rw c.in-Open.is (λ before at so.
     subst (λ os. CountsSoFar (before ++ Open ∷ []) 1 os) (sym pushed) (more_open before c.args.count (reverse old) c.args.place at so))
 
@@ -23,18 +24,22 @@ pub returns-in_ok-push-in-Some-clause-counted : goal.returns-in_ok-push-in-Some-
 returns-in_ok-push-in-Some-clause-counted g c =
     let rest = c.pop.new.self.items in
     let last = c.in-Some.last in
-    let popped : reverse c.args.opened.now.items ≡ last ∷ reverse rest = reverse_push rest c.args.opened.now.items last c.in-Some.ensures.items in
+    let popped : reverse c.args.opened.now.items ≡ last ∷ reverse rest = reverse_push rest c.args.opened.now.items last
+    c.in-Some.ensures.items in
     let o : Opened = record { place = last.place; before = last.before; found = c.saturating_add.result } in
     let pushed : reverse c.push-in-Some.new.self.items ≡ o ∷ reverse rest =
     reverse_push rest c.push-in-Some.new.self.items o c.in_ok-push-in-Some.ensures.items in
     rw c.in-Comma.is (λ before at so.
     subst (λ os. CountsSoFar (before ++ Comma ∷ []) 1 os) (sym pushed)
-    (more_comma before c.args.count last (reverse rest) o (subst (CountsSoFar before c.args.count) popped so) refl refl c.saturating_add.ensures))
+    (more_comma before c.args.count last (reverse rest) o (subst (CountsSoFar before c.args.count) popped so) refl refl
+    c.saturating_add.ensures))
 
 pub returns-in-None-clause-counted : goal.returns-in-None-clause-counted
 returns-in-None-clause-counted g c =
-    let none : c.args.opened.now.items ≡ [] = nil_from_length c.args.opened.now.items (omega (arith, c.in-None.ensures.cases.0, c.args.opened.now.ok.0)) in
-    let left : c.pop.new.self.items ≡ [] = nil_from_length c.pop.new.self.items (omega (arith, c.in-None.ensures.cases.1, c.pop.new.self.ok.0)) in
+    let none : c.args.opened.now.items ≡ [] = nil_from_length c.args.opened.now.items
+    (omega (arith, c.in-None.ensures.cases.0, c.args.opened.now.ok.0)) in
+    let left : c.pop.new.self.items ≡ [] = nil_from_length c.pop.new.self.items
+    (omega (arith, c.in-None.ensures.cases.1, c.pop.new.self.ok.0)) in
     rw c.in-Comma.is (λ before at so.
     subst (λ os. CountsSoFar (before ++ Comma ∷ []) c.args.count (reverse os)) (sym left)
     (more_comma_outside before c.args.count (subst (λ os. CountsSoFar before c.args.count (reverse os)) none so)))

@@ -10,13 +10,17 @@ use Rattle.glob_set.proofs.braces.escaping.escape.Goals as goal
 
 pub returns-clause-escaped : goal.returns-clause-escaped
 returns-clause-escaped g c =
-    let past = YieldsList-end (YieldsList-from_chars c.args.text.now c.utf8.text (cc)) c.loop-c.yielded _ c.loop-c.yielded_by _ _ c.in-None.is c.next.ensures.steps in
-    written_chars escaped_character _ (chars c.args.text.now) (IsUtf8-string_bytes c.loop-c.escaped) (c.loop-c.invariant ∙ ap (λ cs. encode_utf8_all (escaped_text cs)) (sym (map-id c.loop-c.yielded) ∙ past.0))
+    let past = YieldsList-end (YieldsList-from_chars c.args.text.now c.utf8.text (cc)) c.loop-c.yielded _
+    c.loop-c.yielded_by _ _ c.in-None.is c.next.ensures.steps in
+    written_chars escaped_character _ (chars c.args.text.now) (IsUtf8-string_bytes c.loop-c.escaped)
+    (c.loop-c.invariant ∙ ap (λ cs. encode_utf8_all (escaped_text cs)) (sym (map-id c.loop-c.yielded) ∙ past.0))
 
 pub returns-clause-stands : goal.returns-clause-stands
 returns-clause-stands g c =
-    let past = YieldsList-end (YieldsList-from_chars c.args.text.now c.utf8.text (cc)) c.loop-c.yielded _ c.loop-c.yielded_by _ _ c.in-None.is c.next.ensures.steps in
-    stands_for _ _ (IsUtf8-string_bytes c.loop-c.escaped) (c.loop-c.invariant ∙ ap (λ cs. encode_utf8_all (escaped_text cs)) (sym (map-id c.loop-c.yielded) ∙ past.0))
+    let past = YieldsList-end (YieldsList-from_chars c.args.text.now c.utf8.text (cc)) c.loop-c.yielded _
+    c.loop-c.yielded_by _ _ c.in-None.is c.next.ensures.steps in
+    stands_for _ _ (IsUtf8-string_bytes c.loop-c.escaped) (c.loop-c.invariant ∙ ap (λ cs. encode_utf8_all
+    (escaped_text cs)) (sym (map-id c.loop-c.yielded) ∙ past.0))
 
 pub loop-c-preserved : goal.loop-c-preserved
 loop-c-preserved g c = written_more escaped_character _ _ c.loop-c.yielded c.in-Some.c c.loop-c.invariant c.in_ok-push_escaped.ensures

@@ -11,7 +11,8 @@ loop-place-init g c =
 pub loop-place-preserved : goal.loop-place-preserved
 loop-place-preserved g c =
     let l = c.loop-place in
-    lexemes_more c.args.text.now l.place l.end _ _ l.found.items _ _ (omega arith) c.index-text-place.is c.end_at-end.ensures c.lexeme_at.ensures c.in_ok-push.ensures.items l.invariant
+    lexemes_more c.args.text.now l.place l.end _ _ l.found.items _ _ (omega arith) c.index-text-place.is
+    c.end_at-end.ensures c.lexeme_at.ensures c.in_ok-push.ensures.items l.invariant
 
 pub returns : goal.returns
 returns g c =

@@ -14,4 +14,5 @@ returns-in_ok-write-in-Pattern-clause-writes g c = rw c.in-Pattern.is (λ plain 
     let before = c.in_ok-write-in-Pattern.ensures.writes plain refl in
     let words = pattern_error_words c.in-Pattern.error in
     put_two g.W.Write.write_str_gives _ _ _ _ words _ before (c.fmt-in-Pattern.ensures.writes before.plain ok)
-    (pieces (codes "pattern ") (decimal c.in-Pattern.number) (codes ", alternative ") (decimal c.in-Pattern.alternative) (codes ": ") words))
+    (pieces (codes "pattern ") (decimal c.in-Pattern.number) (codes ", alternative ")
+    (decimal c.in-Pattern.alternative) (codes ": ") words))

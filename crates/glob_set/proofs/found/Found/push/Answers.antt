@@ -6,7 +6,8 @@ pub returns-then-contains-clause-kept : goal.returns-then-contains-clause-kept
 returns-then-contains-clause-kept g c = KeepsAll-same c.args.self.now
 
 pub returns-in-Ok-clause-kept : goal.returns-in-Ok-clause-kept
-returns-in-Ok-clause-kept g c = KeepsAll-pushed c.args.self.now c.push_new.new.self c.args.number c.in-Ok.ensures.pushed c.in-Ok.ensures.full
+returns-in-Ok-clause-kept g c = KeepsAll-pushed c.args.self.now c.push_new.new.self c.args.number
+    c.in-Ok.ensures.pushed c.in-Ok.ensures.full
 
 pub returns-in-Ok-clause-pushed : goal.returns-in-Ok-clause-pushed
 returns-in-Ok-clause-pushed g c = Keeps-pushed c.args.self.now c.push_new.new.self c.args.number c.in-Ok.ensures.pushed

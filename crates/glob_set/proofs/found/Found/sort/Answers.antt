@@ -12,7 +12,12 @@ use Rattle.glob_set.proofs.found.Found.sort.Goals as goal
 pub returns-then-is_empty-clause-order : goal.returns-then-is_empty-clause-order
 returns-then-is_empty-clause-order g c =
     let sorted = c.sort_unstable.new.self in
-    let none = none_of c.self.inside.many.items (omega (arith, c.self.inside.many.ok, eqb-true (vec_len c.self.inside.many) 0 (sym c.is_empty.ensures ∙ c.if-is_empty.true))) in
+    let none = none_of c.self.inside.many.items (omega (
+      arith,
+      c.self.inside.many.ok,
+      eqb-true
+          (vec_len c.self.inside.many) 0 (sym c.is_empty.ensures ∙ c.if-is_empty.true),
+    )) in
     subst IsNonDecreasing
     (sym (few_alone _ c.self.inside.many.items none ∙ first_part c.self.inside.len sorted _
     (c.sort_unstable.ensures.len ∙ length-take-le c.self.inside.len c.self.inside.few (omega (arith, c.self.invariant, c.self.told)))))
@@ -22,6 +27,11 @@ pub returns-else-is_empty-clause-order : goal.returns-else-is_empty-clause-order
 returns-else-is_empty-clause-order g c =
     let sorted = c.sort_unstable-else-is_empty.new.self in
     let many = c.sort_unstable-else-is_empty.ensures.len ∙ c.as_mut_slice.ensures.len in
-    let some : 0 < length sorted = omega (arith, many, eqb-false (vec_len c.self.inside.many) 0 (sym c.is_empty.ensures ∙ c.if-is_empty.false)) in
+    let some : 0 < length sorted = omega (
+      arith,
+      many,
+      eqb-false (vec_len c.self.inside.many) 0 (sym c.is_empty.ensures
+          ∙ c.if-is_empty.false),
+    ) in
     subst IsNonDecreasing (sym (ap (few_or_many _) (first_part _ sorted _ many) ∙ many_alone _ sorted some))
     (IsNonDecreasingBy-from_sort (λ x. x) sorted c.sort_unstable-else-is_empty.ensures.sorted)

@@ -13,7 +13,8 @@ returns-in-Some-Ending-clause-kept c =
     kinds_grow _ _ (λ is. is) (λ _ is. is) (lengths_more _ _) (omega (arith, c.max-self.ensures))
 
 pub returns-in-Some-Extension-clause-kept : goal.returns-in-Some-Extension-clause-kept
-returns-in-Some-Extension-clause-kept c = kinds_grow _ _ (λ is. is) (λ _ is. is) (λ _ is. is) (omega (arith, c.max-self-in-Some-Extension.ensures))
+returns-in-Some-Extension-clause-kept c = kinds_grow _ _ (λ is. is) (λ _ is. is) (λ _ is. is)
+    (omega (arith, c.max-self-in-Some-Extension.ensures))
 
 pub returns-in-None-clause-kept : goal.returns-in-None-clause-kept
 returns-in-None-clause-kept c = kinds_grow _ _ (λ is. is) (λ _ is. is) (λ _ is. is) (omega arith)

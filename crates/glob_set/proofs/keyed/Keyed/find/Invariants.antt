@@ -9,7 +9,8 @@ invariant-loop-number g l = record {
   within : All (λ k. k < length l.self) l.found.items;
   kept : KeepsAll l.fn.found l.found;
   here : l.number < length l.self
-      → key_slot (get_or l.self l.number None) (length l.self-inside.first.items - 1) ≡ slot_of l.hash (length l.self-inside.first.items - 1);
+      → key_slot (get_or l.self l.number None) (length l.self-inside.first.items - 1) ≡ slot_of l.hash
+      (length l.self-inside.first.items - 1);
   seen : (k : ℕ) → k < l.number → k < length l.self → IsSomeAnd (get_or l.self k None) (HasHash l.hash) → Keeps l.found k;
 }
 

@@ -8,4 +8,5 @@ pub returns-clause-all : goal.returns-clause-all
 returns-clause-all g c =
     let kinds = c.self.inside.kinds in
     Finds-before c.args.self.now kinds (subst (λ (ks : List (Option Key)). AreKinds ks kinds) c.self.view_is c.self.invariant.1)
-    c.args.component c.args.byte c.is_asked.result c.find_if.new.found (λ mark. c.is_asked.ensures.1 (inl mark)) (λ used. c.is_asked.ensures.1 (inr (c.has_length-is_used.ensures.1 used))) c.find_if.ensures.all
+    c.args.component c.args.byte c.is_asked.result c.find_if.new.found (λ mark. c.is_asked.ensures.1 (inl mark))
+    (λ used. c.is_asked.ensures.1 (inr (c.has_length-is_used.ensures.1 used))) c.find_if.ensures.all

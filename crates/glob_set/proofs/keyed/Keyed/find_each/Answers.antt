@@ -35,5 +35,6 @@ returns-clause-all g c =
     let text = c.args.text.now in
     let l = c.loop-byte in
     let end : l.byte-index ≡ length text = omega arith in
-    Finds-components keys text l.component l.found c.find.new.found c.find.ensures.kept (subst (λ n. ComponentsFound keys text n l.found) end l.invariant.found)
+    Finds-components keys text l.component l.found c.find.new.found c.find.ensures.kept
+    (subst (λ n. ComponentsFound keys text n l.found) end l.invariant.found)
     (l.invariant.read ∙ ap (fold after start) (take_all l.byte-index text (omega arith))) c.find.ensures.all

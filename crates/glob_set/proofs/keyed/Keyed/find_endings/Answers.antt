@@ -20,7 +20,8 @@ loop-len-init g c = record {
 }
 
 pub returns-then-len-self-clause-kept : goal.returns-then-len-self-clause-kept
-returns-then-len-self-clause-kept g c = KeepsAll-then c.args.found.now c.loop-len.found c.find_if.new.found c.loop-len.invariant.kept c.find_if.ensures.kept
+returns-then-len-self-clause-kept g c = KeepsAll-then c.args.found.now c.loop-len.found c.find_if.new.found
+    c.loop-len.invariant.kept c.find_if.ensures.kept
 
 pub returns-then-len-self-clause-all : goal.returns-then-len-self-clause-all
 returns-then-len-self-clause-all g c =
@@ -62,7 +63,8 @@ loop-len-preserved g c =
     }
 
 pub returns-clause-kept : goal.returns-clause-kept
-returns-clause-kept g c = KeepsAll-then c.args.found.now c.loop-len.found c.find_if-2.new.found c.loop-len.invariant.kept c.find_if-2.ensures.kept
+returns-clause-kept g c = KeepsAll-then c.args.found.now c.loop-len.found c.find_if-2.new.found
+    c.loop-len.invariant.kept c.find_if-2.ensures.kept
 
 pub returns-clause-all : goal.returns-clause-all
 returns-clause-all g c =
@@ -75,5 +77,6 @@ returns-clause-all g c =
     Finds-endings keys kinds are text (l.len + 1) new
     (below_more (λ len. Finds keys (IsReadBehind text len) new) l.len
     (λ len below. keeps_finding keys _ l.found new c.find_if-2.ensures.kept (l.invariant.found len below))
-    (Finds-behind keys kinds are text l.len l.hash _ new l.invariant.read (λ inside _. absurd (omega (arith, inside, c.loop-len-test.false))) (λ used. c.has_length.ensures.1 used) c.find_if-2.ensures.all))
+    (Finds-behind keys kinds are text l.len l.hash _ new l.invariant.read (λ inside _. absurd
+    (omega (arith, inside, c.loop-len-test.false))) (λ used. c.has_length.ensures.1 used) c.find_if-2.ensures.all))
     (λ len most within. omega (arith, within, c.loop-len-test.false))

@@ -10,6 +10,7 @@ returns-clause-answer g c =
     let text = c.args.text.now in
     let found = c.listed_for-listed.new.found.items in
     subst (FirstMatch set.options set.patterns text) (sym c.earlier.ensures)
-    (FirstMatch-of set.options set.patterns text c.listed_for-listed.result.now found c.listed_for-listed.ensures c.in_ok-listed.listed c.in_ok-found.found
+    (FirstMatch-of set.options set.patterns text c.listed_for-listed.result.now found c.listed_for-listed.ensures
+    c.in_ok-listed.listed c.in_ok-found.found
     c.in_ok-listed.ensures.answer
     (subst (λ ks. IsFirstOf set.options set.patterns text ks c.in_ok-found.found) c.numbers-2.ensures c.in_ok-found.ensures.answer))

@@ -9,7 +9,8 @@ loop-number-init g c = λ k below. absurd (omega arith)
 pub returns-then-branch-clause-answer : goal.returns-then-branch-clause-answer
 returns-then-branch-clause-answer g c =
     let set = c.args.self.now in
-    IsFirstOf-at set.options set.patterns c.args.text.now c.args.numbers.now c.loop-number.number-index c.requires.order (omega arith) c.loop-number.invariant
+    IsFirstOf-at set.options set.patterns c.args.text.now c.args.numbers.now c.loop-number.number-index
+    c.requires.order (omega arith) c.loop-number.invariant
     (c.in_ok-matches_at.ensures.answer.0 c.if-branch.true)
 
 pub loop-number-preserved : goal.loop-number-preserved
@@ -22,4 +23,5 @@ returns-clause-answer g c =
     let text = c.args.text.now in
     let numbers = c.args.numbers.now in
     let end : c.loop-number.number-index ≡ length numbers = omega arith in
-    IsFirstOf-none set.options set.patterns text numbers (subst (NoneBefore set.options set.patterns text numbers) end c.loop-number.invariant)
+    IsFirstOf-none set.options set.patterns text numbers (subst (NoneBefore set.options set.patterns text numbers) end
+    c.loop-number.invariant)

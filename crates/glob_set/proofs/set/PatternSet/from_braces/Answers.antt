@@ -10,4 +10,5 @@ returns-in_err-new-clause-refused g c = refuses_texts_memory _ _ c.from_residual
 pub returns-clause-matches : goal.returns-clause-matches
 returns-clause-matches g c =
     λ text. AnyMatch-alternatives c.args.options text _ _
-    (subst (AreAlternativesOf (map (λ t. t.now) c.args.texts.now)) (sym (ap (λ (s : Set). s.patterns) c.in_ok-new.ensures)) c.in_ok-patterns.ensures.patterns)
+    (subst (AreAlternativesOf (map (λ t. t.now) c.args.texts.now))
+    (sym (ap (λ (s : Set). s.patterns) c.in_ok-new.ensures)) c.in_ok-patterns.ensures.patterns)

@@ -43,4 +43,5 @@ returns-clause-answer g c =
     let text = c.args.text.now in
     let numbers = c.args.numbers.now in
     let end : c.loop-left.left ≡ 0 = omega arith in
-    IsLastOf-none set.options set.patterns text numbers (subst (NoneAfter set.options set.patterns text numbers) end c.loop-left.invariant.none)
+    IsLastOf-none set.options set.patterns text numbers (subst (NoneAfter set.options set.patterns text numbers) end
+    c.loop-left.invariant.none)

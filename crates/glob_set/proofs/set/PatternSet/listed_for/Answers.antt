@@ -1,6 +1,6 @@
-use Rattle.std.proofs.Common.{◌≡◌, [], get_or, sym, ap, subst, ◌∙◌}
+use Rattle.std.proofs.Common.{sym, ap, subst, ◌∙◌}
 use Rattle.glob_set.specs.Private.Asking.{AreAsked}
-use Rattle.glob_set.specs.Private.Keyed.{Finds, few_or_many}
+use Rattle.glob_set.specs.Private.Keyed.{Finds}
 use Rattle.glob_set.specs.Private.Keys.{IsKeyOf}
 use Rattle.glob_set.specs.Private.Pairs.{text_class}
 use Rattle.glob_set.specs.Sets.{Set}
@@ -22,11 +22,11 @@ returns g c =
     let inside = c.self.inside in
     let text = c.args.text.now in
     let found = c.find_in.new.found in
-    let P : Set → Type 0 = λ s. AreAsked s.options s.patterns text c.bucket_at.result.now found.items in
-    let is = subst (λ bs. c.bucket_at.result.now ≡ few_or_many (get_or bs 128 []) (get_or bs c.text_class.result [])) c.as_slice.ensures.value c.bucket_at.ensures in
-    let bucket = bucket_for inside.needs.items inside.keyed inside.buckets.items c.text_class.result text c.bucket_at.result.now c.self.invariant.2
-    c.text_class.ensures.small (c.text_class.ensures.class ∙ ap text_class c.as_bytes-bytes.ensures.value) is in
+    let P : Set → Type 0 = λ s. AreAsked s.options s.patterns text c.of_class.result.now found.items in
+    let bucket = bucket_for inside.needs.items inside.keyed inside.buckets c.text_class.result text c.of_class.result.now c.self.invariant.2
+    c.text_class.ensures.small (c.text_class.ensures.class ∙ ap text_class c.as_bytes-bytes.ensures.value) c.of_class.ensures in
     let finds = subst (λ bs. Finds inside.keyed (IsKeyOf bs) found) c.as_bytes-bytes.ensures.value c.find_in.ensures.all in
     subst P c.self.view_is
-    (AreAsked-bucket inside.options inside.patterns.items text c.utf8.text inside.needs.items inside.keyed c.bucket_at.result.now found c.self.invariant.0
+    (AreAsked-bucket inside.options inside.patterns.items text c.utf8.text inside.needs.items inside.keyed
+    c.of_class.result.now found c.self.invariant.0
     c.self.invariant.1 bucket (sym c.is_full.ensures ∙ c.if-is_full.false) c.find_in.ensures.within c.find_in.ensures.order finds)

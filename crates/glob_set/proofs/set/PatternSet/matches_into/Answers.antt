@@ -10,4 +10,5 @@ returns-in-Ok-clause-all g c =
     let new = c.dedup.new.self.items in
     all_matches-sorted set.options set.patterns c.args.text.now c.find_matches.new.numbers.items sorted new c.in-Ok.ensures
     (subst (λ ks. IsPermutation ks sorted) c.as_mut_slice.ensures.value c.sort_unstable.ensures.permutation) c.sort_unstable.ensures.sorted
-    (subst (λ ks. IsFiltered (DiffersFromLast nat_eq) [] ks new) (first_part _ sorted _ (c.sort_unstable.ensures.len ∙ c.as_mut_slice.ensures.len)) c.dedup.ensures.filtered)
+    (subst (λ ks. IsFiltered (DiffersFromLast nat_eq) [] ks new) (first_part _ sorted _ (c.sort_unstable.ensures.len
+    ∙ c.as_mut_slice.ensures.len)) c.dedup.ensures.filtered)

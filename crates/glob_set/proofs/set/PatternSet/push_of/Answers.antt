@@ -29,7 +29,8 @@ loop-number-preserved g c =
 pub returns-clause-all : goal.returns-clause-all
 returns-clause-all g c =
     let set = c.args.self.now in
-    PushedSoFar-end set.options set.patterns c.args.text.now c.args.numbers.now.items c.args.asked.now c.loop-number.number-index c.loop-number.numbers.items
+    PushedSoFar-end set.options set.patterns c.args.text.now c.args.numbers.now.items c.args.asked.now
+    c.loop-number.number-index c.loop-number.numbers.items
     (omega arith) c.loop-number.invariant
 
 pub returns-in_err-push-clause-kept : goal.returns-in_err-push-clause-kept

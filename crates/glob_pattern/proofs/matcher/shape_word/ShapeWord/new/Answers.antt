@@ -13,7 +13,8 @@ loop-n-preserved g c =
     let n = c.loop-n.n in
     let shapes = map g.T.Shaped.shape tokens in
     let long = length-map tokens g.T.Shaped.shape in
-    let at : get_or shapes n One ≡ c.shape.result = mapped_at g.T.Shaped.shape tokens n c.index-tokens-n.result One (omega arith) c.index-tokens-n.is ∙ sym c.shape.ensures in
+    let at : get_or shapes n One ≡ c.shape.result = mapped_at g.T.Shaped.shape tokens n c.index-tokens-n.result One
+    (omega arith) c.index-tokens-n.is ∙ sym c.shape.ensures in
     HasShapes-next shapes c.args.start n c.shape.result c.loop-n.word c.with-word.result _ (omega arith) at
     (λ t. omega (arith, long, ltb-true _ _ t), λ more. lt-ltb _ _ (omega (arith, long, more)))
     c.loop-n.invariant c.with-word.ensures.tokens c.with-word.ensures.wildcards c.with-word.ensures.recursive

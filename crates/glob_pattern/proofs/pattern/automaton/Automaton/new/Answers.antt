@@ -18,5 +18,5 @@ returns g c =
       accepting = c.free_end.ensures;
       masked = λ count enough few.
           let same : c.div_ceil.result ≡ count = omega (arith, c.div_ceil.ensures, enough, few) in
-          rw (← same) c.in_ok-masks.ensures;
+          rw (← same) c.in_ok-masks.ensures.masks;
     }

@@ -34,4 +34,5 @@ loop-n-preserved g c =
     }
 
 pub returns : goal.returns
-returns g c = c.finish.ensures c.args.tokens.now c.args.start c.loop-n.n c.loop-n.invariant (λ j lt. (λ before. let most = c.loop-n.auto.n-end (omega arith) in omega (arith, most), λ below. omega arith))
+returns g c = c.finish.ensures c.args.tokens.now c.args.start c.loop-n.n c.loop-n.invariant
+    (λ j lt. (λ before. let most = c.loop-n.auto.n-end (omega arith) in omega (arith, most), λ below. omega arith))

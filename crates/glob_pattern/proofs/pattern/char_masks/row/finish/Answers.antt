@@ -37,14 +37,19 @@ returns c = λ tokens start end are all.
     let none = bit_not w64 kinds.brackets in
     let fits : kinds.brackets < 2 ^ 64 = omega arith in
     let long : length c.invert.new.row ≡ length old = omega arith in
-    let (separator, dots, others) = stored_rules c.invert.new.row (bit_or (bit_and (mask_at old c.class.result) none) kinds.recursive) (bit_and (mask_at old c.class-2.result) none) (omega (arith, long, c.requires.long, c.requires.partition.least 127 (omega arith))) in
+    let (separator, dots, others) = stored_rules c.invert.new.row (bit_or (bit_and (mask_at old c.class.result) none)
+    kinds.recursive) (bit_and (mask_at old c.class-2.result) none)
+    (omega (arith, long, c.requires.long, c.requires.partition.least 127 (omega arith))) in
     IsRow-from tokens start end p case _
     (rw separator (IsMask-same tokens start end _ _ _ (separator-listed case)
-    (IsMask-or tokens start end _ _ _ _ (IsMask-without tokens start end _ _ _ _ fits (rw c.class.ensures (are.listed slash)) are.brackets) are.recursive)))
-    (rw dots (IsMask-same tokens start end _ _ _ (dot-listed case) (IsMask-without tokens start end _ _ _ _ fits (rw c.class-2.ensures (are.listed dot)) are.brackets)))
+    (IsMask-or tokens start end _ _ _ _ (IsMask-without tokens start end _ _ _ _ fits (rw c.class.ensures
+    (are.listed slash)) are.brackets) are.recursive)))
+    (rw dots (IsMask-same tokens start end _ _ _ (dot-listed case) (IsMask-without tokens start end _ _ _ _ fits
+    (rw c.class-2.ensures (are.listed dot)) are.brackets)))
     (λ d.
     let bounds = class-bounds p c.requires.partition d in
     let r = class_in p d in
     rw (others r bounds.0, c.invert.ensures r (omega (arith, bounds.1, c.requires.long)))
-    (IsMask-same tokens start end _ _ _ (λ t. sym (takes-listed case d t)) (IsMask-inverted tokens start end _ _ _ _ (are.listed d) are.others)))
+    (IsMask-same tokens start end _ _ _ (λ t. sym (takes-listed case d t)) (IsMask-inverted tokens start end _ _ _ _
+    (are.listed d) are.others)))
     all

@@ -7,4 +7,5 @@ use Rattle.glob_pattern.proofs.pattern.char_masks.row.list_all.Given as goal
 abbrev pub invariant-loop-entry : goal.invariant-loop-entry
 invariant-loop-entry l =
     (c : ℕ)
-    → IsWith (mask_at l.fn.row (class_in (partition_of l.classes) c)) (mask_at l.row (class_in (partition_of l.classes) c)) l.bit (holds l.case_sensitive c (take l.entry-index l.entries))
+    → IsWith (mask_at l.fn.row (class_in (partition_of l.classes) c)) (mask_at l.row (class_in (partition_of l.classes)
+    c)) l.bit (holds l.case_sensitive c (take l.entry-index l.entries))

@@ -10,7 +10,8 @@ list_interval-requires-clause-apart c = c.requires.apart.plain
 
 pub returns-then-not-has_cases : goal.returns-then-not-has_cases
 returns-then-not-has_cases c = λ d.
-    rw (held-plain c.args.case_sensitive c.args.first c.args.last d (sym c.has_cases.ensures ∙ c.if-not-has_cases.true)) (c.list_interval.ensures d)
+    rw (held-plain c.args.case_sensitive c.args.first c.args.last d (sym c.has_cases.ensures
+    ∙ c.if-not-has_cases.true)) (c.list_interval.ensures d)
 
 pub list_interval-requires-2-clause-apart : goal.list_interval-requires-2-clause-apart
 list_interval-requires-2-clause-apart c =

@@ -12,7 +12,8 @@ paint-requires-clause-last c =
 
 pub returns-then-first-last : goal.returns-then-first-last
 returns-then-first-last c = λ d.
-    rw (c.class.ensures, c.class-then-first-last.ensures, c.requires.apart c.if-first-last.true d) at (c.paint.ensures (class_in (partition_of c.args.classes) d))
+    rw (c.class.ensures, c.class-then-first-last.ensures, c.requires.apart c.if-first-last.true d) at (c.paint.ensures
+    (class_in (partition_of c.args.classes) d))
 
 pub returns-else-first-last : goal.returns-else-first-last
 returns-else-first-last c = λ d. rw (held-none c.args.first c.args.last d (omega (arith, c.if-first-last.false))) (with_none _ c.args.bit)

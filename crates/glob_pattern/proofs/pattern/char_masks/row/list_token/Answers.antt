@@ -47,6 +47,18 @@ returns-in-NoneOf g c =
 
 pub returns-in-AnyChar : goal.returns-in-AnyChar
 returns-in-AnyChar g c = ⊎_elim
-    (λ e. rw e (record { listed = λ d. with_none _ _; others = with_one c.with_bit-in-AnyChar.ensures; brackets = with_none _ _; recursive = with_none _ _ }))
-    (λ e. rw e (record { listed = λ d. with_none _ _; others = with_one c.with_bit-in-AnyChar.ensures; brackets = with_none _ _; recursive = with_none _ _ }))
+    (λ e. rw e (record {
+      listed = λ d. with_none _ _;
+      others = with_one c.with_bit-in-AnyChar.ensures;
+      brackets =
+          with_none _ _;
+      recursive = with_none _ _;
+    }))
+    (λ e. rw e (record {
+      listed = λ d. with_none _ _;
+      others = with_one c.with_bit-in-AnyChar.ensures;
+      brackets =
+          with_none _ _;
+      recursive = with_none _ _;
+    }))
     c.in-AnyChar.is

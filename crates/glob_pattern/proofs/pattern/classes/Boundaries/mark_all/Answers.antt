@@ -13,11 +13,13 @@ loop-entry-preserved g c =
     let entries = c.args.entries.now in
     let mark = c.in_ok-mark_cases.ensures in
     record {
-      marked = All-more (EntryIntervals (HasInterval c.mark_cases.new.self)) entries c.loop-entry.entry-index (Single 0) c.loop-entry-test.true
+      marked = All-more (EntryIntervals (HasInterval c.mark_cases.new.self)) entries c.loop-entry.entry-index
+          (Single 0) c.loop-entry-test.true
           (Entries-map _ _ (λ x y le. HasInterval-grows _ _ mark.grows x y) _ i.marked)
           (rw (c.ends-first.ensures.first, c.ends-first.ensures.last) at mark.marked);
       grows = Grows-trans _ _ _ i.grows mark.grows;
     }
 
 pub returns-clause-marked : goal.returns-clause-marked
-returns-clause-marked g c = subst (All (EntryIntervals (HasInterval c.loop-entry.self))) (take_all _ _ c.loop-entry-test.false) c.loop-entry.invariant.marked
+returns-clause-marked g c = subst (All (EntryIntervals (HasInterval c.loop-entry.self)))
+    (take_all _ _ c.loop-entry-test.false) c.loop-entry.invariant.marked

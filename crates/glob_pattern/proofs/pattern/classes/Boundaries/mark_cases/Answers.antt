@@ -8,9 +8,11 @@ returns-clause-marked g c =
     let rest = Grows-trans _ _ _ second.grows third.grows in
     record {
       plain = λ le. HasInterval-grows _ _ rest _ _ c.in_ok-mark.ensures.marked;
-      lower = λ letters le. rw (c.to_ascii_lowercase.ensures.value, c.to_ascii_lowercase-2.ensures.value) at (HasInterval-grows _ _ third.grows _ _ second.marked);
+      lower = λ letters le. rw (c.to_ascii_lowercase.ensures.value, c.to_ascii_lowercase-2.ensures.value) at
+          (HasInterval-grows _ _ third.grows _ _ second.marked);
       upper = λ letters le. rw (c.to_ascii_uppercase.ensures.value, c.to_ascii_uppercase-2.ensures.value) at third.marked;
     }
 
 pub returns-clause-grows : goal.returns-clause-grows
-returns-clause-grows g c = Grows-trans _ _ _ c.in_ok-mark.ensures.grows (Grows-trans _ _ _ c.in_ok-mark-2.ensures.grows c.in_ok-mark-3.ensures.grows)
+returns-clause-grows g c = Grows-trans _ _ _ c.in_ok-mark.ensures.grows (Grows-trans _ _ _ c.in_ok-mark-2.ensures.grows
+    c.in_ok-mark-3.ensures.grows)

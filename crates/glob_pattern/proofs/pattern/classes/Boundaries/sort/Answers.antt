@@ -18,5 +18,6 @@ returns-clause-grows g c =
     let kept = dedup_is eqb _ _ c.dedup.ensures.filtered in
     record {
       ascii = λ d h. h;
-      beyond = λ d h. subst (λ xs. Contains xs d) (sym kept) (Contains-dedup_nat _ d (Contains-permutation _ _ d c.sort_unstable.ensures.permutation h));
+      beyond = λ d h. subst (λ xs. Contains xs d) (sym kept) (Contains-dedup_nat _ d
+          (Contains-permutation _ _ d c.sort_unstable.ensures.permutation h));
     }

@@ -4,7 +4,8 @@ use Rattle.glob_pattern.proofs.pattern.compiled.Compiled.clone.Goals as goal
 
 pub invariant_of-result : goal.invariant_of-result
 invariant_of-result g c =
-    let tokens : c.in_ok-clone.field-0.items ≡ c.self.inside.tokens.items = same_from_all_zip _ _ _ c.in_ok-clone.ensures.cases.0 (λ x y same. grind arith) in
+    let tokens : c.in_ok-clone.field-0.items ≡ c.self.inside.tokens.items = same_from_all_zip _ _ _
+    c.in_ok-clone.ensures.cases.0 (λ x y same. grind arith) in
     let is = c.self.invariant in
     rw tokens (record {
       at_ends = is.at_ends;

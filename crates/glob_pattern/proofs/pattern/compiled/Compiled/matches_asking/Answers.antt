@@ -29,17 +29,20 @@ few-asked tokens self ends bytes again same is u first some =
 
 pub returns-in_default-clause-most : goal.returns-in_default-clause-most
 returns-in_default-clause-most g c =
-    few-asked c.self.inside.tokens.items c.args.self.now c.self.inside.ends c.args.text.now c.min-again.result c.self.view_is c.self.invariant.at_ends c.utf8.text
+    few-asked c.self.inside.tokens.items c.args.self.now c.self.inside.ends c.args.text.now c.min-again.result
+    c.self.view_is c.self.invariant.at_ends c.utf8.text
     (omega (arith, c.min.ensures, c.min-again.ensures)) (omega (arith, c.min.ensures, c.min-again.ensures))
 
 pub returns-then-between-eq0-clause-most : goal.returns-then-between-eq0-clause-most
 returns-then-between-eq0-clause-most g c =
-    few-asked c.self.inside.tokens.items c.args.self.now c.self.inside.ends c.args.text.now c.min-again.result c.self.view_is c.self.invariant.at_ends c.utf8.text
+    few-asked c.self.inside.tokens.items c.args.self.now c.self.inside.ends c.args.text.now c.min-again.result
+    c.self.view_is c.self.invariant.at_ends c.utf8.text
     (omega (arith, c.min.ensures, c.min-again.ensures)) (omega (arith, c.min.ensures, c.min-again.ensures))
 
 pub returns-then-not-may_be_in-clause-most : goal.returns-then-not-may_be_in-clause-most
 returns-then-not-may_be_in-clause-most g c =
-    few-asked c.self.inside.tokens.items c.args.self.now c.self.inside.ends c.args.text.now c.min-again.result c.self.view_is c.self.invariant.at_ends c.utf8.text
+    few-asked c.self.inside.tokens.items c.args.self.now c.self.inside.ends c.args.text.now c.min-again.result
+    c.self.view_is c.self.invariant.at_ends c.utf8.text
     (omega (arith, c.min.ensures, c.min-again.ensures)) (omega (arith, c.min.ensures, c.min-again.ensures))
 
 pub returns-then-between-eq0-clause-answer : goal.returns-then-between-eq0-clause-answer
@@ -88,7 +91,17 @@ returns-clause-most g c =
     let all = mul-le-mul_right (length (chars c.in-Some.part.text.now)) few in
     let fewer : length (chars c.in-Some.part.text.now) ≤ length (chars c.args.text.now) = omega (arith, c.in-Some.ensures.count) in
     let whole = mul-le-mul_left (length c.args.self.now) fewer in
-    omega (arith, all, whole, c.in_ok-answer.ensures.most, is.ones.within, length-map tokens shape_of, read, c.if-between-eq0.false, c.min-again.ensures)
+    omega (
+      arith,
+      all,
+      whole,
+      c.in_ok-answer.ensures.most,
+      is.ones.within,
+      length-map tokens shape_of,
+      read,
+      c.if-between-eq0.false,
+      c.min-again.ensures,
+    )
 
 pub overflow_add-result : goal.overflow_add-result
 overflow_add-result g c =
@@ -99,7 +112,17 @@ overflow_add-result g c =
     let one = mul-suc (length tokens) (length (chars c.in-Some.part.text.now)) in
     let fits = product_fits (length tokens) (suc (length (chars c.in-Some.part.text.now))) (omega arith)
     (omega (arith, c.in-Some.ensures.count, length-chars c.args.text.now)) in
-    omega (arith, all, one, fits, c.in_ok-answer.ensures.most, is.ones.within, length-map tokens shape_of, c.if-between-eq0.false, c.min-again.ensures)
+    omega (
+      arith,
+      all,
+      one,
+      fits,
+      c.in_ok-answer.ensures.most,
+      is.ones.within,
+      length-map tokens shape_of,
+      c.if-between-eq0.false,
+      c.min-again.ensures,
+    )
 
 pub returns-then-between-eq0-clause-least : goal.returns-then-between-eq0-clause-least
 returns-then-between-eq0-clause-least g c = λ yes ruled.

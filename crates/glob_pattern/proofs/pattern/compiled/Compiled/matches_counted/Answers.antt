@@ -21,7 +21,8 @@ pub decide_all-requires-clause-room : goal.decide_all-requires-clause-room
 unfolding table_within
 decide_all-requires-clause-room g c =
     let judge = c.new-judge.ensures in
-    let fits = product_fits (length c.as_slice-tokens.result.now) (length (chars c.args.text.now)) (omega arith) (omega (arith, length-chars c.args.text.now)) in
+    let fits = product_fits (length c.as_slice-tokens.result.now) (length (chars c.args.text.now)) (omega arith)
+    (omega (arith, length-chars c.args.text.now)) in
     rw (judge.text, judge.count) (omega (arith, fits))
 
 pub returns-clause-answer : goal.returns-clause-answer
@@ -32,9 +33,11 @@ returns-clause-answer g c =
     let text = chars c.args.text.now in
     let match = TokensMatch-iff_part c.args.options tokens text in
     let all = Splits-iff_prefix (table_within true c.args.options tokens text) (map shape_of tokens) in
-    let whole : Splits (table_within true c.args.options tokens text) (map shape_of tokens) ↔ PrefixSplits (table_within true c.args.options tokens text) (map shape_of tokens) (length tokens) (length text) =
+    let whole : Splits (table_within true c.args.options tokens text) (map shape_of tokens) ↔ PrefixSplits
+    (table_within true c.args.options tokens text) (map shape_of tokens) (length tokens) (length text) =
     rw (length-map tokens shape_of) at all in
-    let answer = rw (judge.opening, judge.options, judge.tokens, judge.text, c.as_slice-tokens.ensures.value) at c.in_ok-answer.ensures.answer in
+    let answer = rw (judge.opening, judge.options, judge.tokens, judge.text, c.as_slice-tokens.ensures.value) at
+    c.in_ok-answer.ensures.answer in
     rw (sym c.self.view_is) (λ t. match.1 (whole.0 (answer.0 t)), λ m. answer.1 (whole.1 (match.0 m)))
 
 pub returns-clause-most : goal.returns-clause-most

@@ -17,5 +17,6 @@ overflow_sub-suffix g c =
 pub returns : goal.returns
 returns g c =
     let pattern = c.args.pattern.now in
-    subst (λ suffix. IsTrue c.has_ends.result ↔ HasEnds c.args.options.case_sensitive (take c.args.self.now.prefix.bytes pattern) suffix c.args.bytes.now)
+    subst (λ suffix. IsTrue c.has_ends.result ↔ HasEnds c.args.options.case_sensitive
+    (take c.args.self.now.prefix.bytes pattern) suffix c.args.bytes.now)
     (range-end pattern (length pattern - c.args.self.now.suffix.bytes)) (rw c.as_bytes-literals.ensures.value at c.has_ends.ensures)

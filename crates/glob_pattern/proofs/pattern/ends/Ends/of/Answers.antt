@@ -17,12 +17,14 @@ returns g c =
     let long = length-drop (length tokens - trail) tokens in
     let same = range-end tokens (length tokens - trail) in
     let few_last : last.count ≤ trail = omega (arith, c.trailing_literals.ensures.within, long, ap length same) in
-    let place : length tokens - trail + (length (drop (length tokens - trail) tokens) - last.count) ≡ length tokens - last.count = omega (arith, long) in
+    let place : length tokens - trail + (length (drop (length tokens - trail) tokens) - last.count) ≡ length tokens -
+    last.count = omega (arith, long) in
     record {
       ones = c.trailing_ones-trail.ensures;
       few_first = few_first;
       few_last = few_last;
       first = subst (λ ts. HasLiterals ts first.bytes) (take-take first.count lead tokens few_first) c.leading_literals.ensures.literals;
-      last = subst (λ ts. HasLiterals ts last.bytes) (drop-drop (length (drop (length tokens - trail) tokens) - last.count) (length tokens - trail) tokens ∙ ap (λ k. drop k tokens) place)
+      last = subst (λ ts. HasLiterals ts last.bytes) (drop-drop (length (drop (length tokens - trail) tokens) -
+          last.count) (length tokens - trail) tokens ∙ ap (λ k. drop k tokens) place)
           (subst (λ ts. HasLiterals (drop (length ts - last.count) ts) last.bytes) same c.trailing_literals.ensures.literals);
     }

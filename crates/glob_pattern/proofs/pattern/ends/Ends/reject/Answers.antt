@@ -12,9 +12,11 @@ overflow_add-self g c =
 
 pub returns-then-bytes-self : goal.returns-then-bytes-self
 returns-then-bytes-self g c = λ yes.
-    match-needs_ends c.args.tokens.now c.args.self.now c.requires.ends c.args.pattern.now c.utf8.pattern c.requires.pattern c.args.options c.args.text.now c.utf8.text
+    match-needs_ends c.args.tokens.now c.args.self.now c.requires.ends c.args.pattern.now c.utf8.pattern
+    c.requires.pattern c.args.options c.args.text.now c.utf8.text
     (λ has.
-    let within = cut-within c.args.tokens.now c.args.self.now c.requires.ends c.args.pattern.now c.utf8.pattern c.requires.pattern c.args.options c.args.text.now c.utf8.text has in
+    let within = cut-within c.args.tokens.now c.args.self.now c.requires.ends c.args.pattern.now c.utf8.pattern
+    c.requires.pattern c.args.options c.args.text.now c.utf8.text has in
     omega (arith, within, c.if-bytes-self.true, ap length c.as_bytes-bytes.ensures.value))
 
 pub slice_bounds-are_same-end-then-self-gt0 : goal.slice_bounds-are_same-end-then-self-gt0
@@ -33,9 +35,11 @@ are_same-requires g c =
 
 pub returns-then-self-gt0 : goal.returns-then-self-gt0
 returns-then-self-gt0 g c = λ differ.
-    match-needs_ends c.args.tokens.now c.args.self.now c.requires.ends c.args.pattern.now c.utf8.pattern c.requires.pattern c.args.options c.args.text.now c.utf8.text
+    match-needs_ends c.args.tokens.now c.args.self.now c.requires.ends c.args.pattern.now c.utf8.pattern
+    c.requires.pattern c.args.options c.args.text.now c.utf8.text
     (λ has.
-    let same = first-byte c.args.tokens.now c.args.self.now c.requires.ends c.args.pattern.now c.utf8.pattern c.requires.pattern c.args.options
+    let same = first-byte c.args.tokens.now c.args.self.now c.requires.ends c.args.pattern.now c.utf8.pattern
+    c.requires.pattern c.args.options
     c.args.text.now c.utf8.text has (omega (arith, c.if-self-gt0.true)) in
     let yes = c.are_same.ensures.1 (rw (c.as_bytes-bytes.ensures.value, c.as_bytes-literals.ensures.value) same) in
     false≢true (subst (λ b. not b ≡ true) yes differ))

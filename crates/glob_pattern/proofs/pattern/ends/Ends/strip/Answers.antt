@@ -7,7 +7,8 @@ returns-in_err-part g c = rw c.from_residual.ensures c.in_err-part.ensures
 
 pub returns-then-self-2 : goal.returns-then-self-2
 returns-then-self-2 g c =
-    subst₂ (λ k n. Leaves c.args.options c.args.tokens.now c.args.text.now k (length c.args.tokens.now - n) c.in_ok-part.part.text.now c.in_ok-part.part.opening)
+    subst₂ (λ k n. Leaves c.args.options c.args.tokens.now c.args.text.now k (length c.args.tokens.now - n)
+    c.in_ok-part.part.text.now c.in_ok-part.part.opening)
     c.if-self.true c.if-self-2.true c.in_ok-part.ensures
 
 pub take_first-requires-clause-utf8 : goal.take_first-requires-clause-utf8

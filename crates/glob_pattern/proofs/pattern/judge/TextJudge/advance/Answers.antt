@@ -9,12 +9,14 @@ use Rattle.glob_pattern.proofs.pattern.judge.TextJudge.advance.Goals as goal
 
 pub invariant_of-self-2 : goal.invariant_of-self-2
 invariant_of-self-2 g c =
-    let e = chars_past_char (chars_rest c.args.self.now.rest) (chars_rest c.next.new.self) c.in-Some.c (subst IsUtf8 c.as_str-left.ensures c.as_str-left.utf8) c.in-Some.ensures.steps.0 in
+    let e = chars_past_char (chars_rest c.args.self.now.rest) (chars_rest c.next.new.self) c.in-Some.c
+    (subst IsUtf8 c.as_str-left.ensures c.as_str-left.utf8) c.in-Some.ensures.steps.0 in
     record { stepped = IsSteppedTo-step _ _ _ _ _ _ _ (rw e at c.args.self.now.stepped) }
 
 pub returns-clause-stepped : goal.returns-clause-stepped
 returns-clause-stepped g c = λ _.
-    let e = chars_past_char (chars_rest c.args.self.now.rest) (chars_rest c.next.new.self) c.in-Some.c (subst IsUtf8 c.as_str-left.ensures c.as_str-left.utf8) c.in-Some.ensures.steps.0 in
+    let e = chars_past_char (chars_rest c.args.self.now.rest) (chars_rest c.next.new.self) c.in-Some.c
+    (subst IsUtf8 c.as_str-left.ensures c.as_str-left.utf8) c.in-Some.ensures.steps.0 in
     rw e (place_before-step _ _ _ _ _ _ _ (rw e at c.args.self.now.stepped))
 
 pub returns-in_default-clause-stepped : goal.returns-in_default-clause-stepped

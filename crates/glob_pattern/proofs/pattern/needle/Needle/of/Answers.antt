@@ -17,7 +17,8 @@ loop-token-preserved g c =
     let needle = c.match-token.needle in
     let (few, last) : (needle.len ≤ 16) × EndsIn tokens (i + 1) needle = elim c.match-token.branch [
       | in-Literal w ↦
-          let next : drop i tokens ≡ _ ∷ drop (i + 1) tokens = drop_more tokens i c.token-item.result (omega arith) ∙ ap (λ t. t ∷ drop (i + 1) tokens) (sym c.token-item.is ∙ w.in-Literal.is) in
+          let next : drop i tokens ≡ _ ∷ drop (i + 1) tokens = drop_more tokens i c.token-item.result (omega arith)
+          ∙ ap (λ t. t ∷ drop (i + 1) tokens) (sym c.token-item.is ∙ w.in-Literal.is) in
           subst (λ n. (n.len ≤ 16) × EndsIn tokens (i + 1) n) (sym w.needle-is)
           (w.add.ensures.few, EndsIn-with tokens i w.in-Literal.c _ _ next c.loop-token.invariant.last w.add.ensures.bytes)
       | in_default w ↦ (omega (arith, ap (λ n. n.len) w.needle-is), EndsIn-none tokens (i + 1) needle (ap (λ n. n.len) w.needle-is))
