@@ -12,5 +12,7 @@ use Rattle.glob_pattern.specs.Computing.Deciding.{is_match, tokens_match}
 
 -- opens all definitions that compute, so that `refl` computes them at literals
 unfoldable pub computed : Unit {0}
-unfolding chars is_utf8 encode units_from is_match tokens_match join child kind_at children resolve look_result list_result is_content add_refusal current_refusal content_with with_current directory_key list_fault descent enter meet listing walk_fault is_plain is_readable goal
+unfolding chars is_utf8 encode units_from is_match tokens_match join child kind_at children resolve look_result
+    list_result is_content add_refusal current_refusal content_with with_current directory_key list_fault descent enter
+    meet listing walk_fault is_plain is_readable goal
 computed = tt

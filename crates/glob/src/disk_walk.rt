@@ -4,7 +4,7 @@ ghost use Rattle.glob_pattern.specs.Matching.Options.{new_options};
 ghost use Rattle.glob_tree.specs.Content.{Content};
 ghost use Rattle.glob_walk.specs.Listing.{listing_of, listing};
 ghost use Rattle.glob_walk.specs.Components.{walk_fault};
-ghost use Rattle.glob_walk.specs.Iterating.{IsFresh};
+ghost use Rattle.glob_walk.specs.Machines.{IsFresh};
 ghost use Rattle.glob_walk.specs.Walks.{RefusesWith};
 
 use crate::paths::{Paths, glob_in};
@@ -24,9 +24,10 @@ pub fn glob<R: System, A: Allocator + Copy>(
 ) -> Result<Paths<Disk<R, A>>, PatternRefusal>
     ensures accepted { IfOk result (λ _. walk_fault pattern.now ≡ None) }
     ensures refused { IfErr result (RefusesWith (walk_fault pattern.now)) }
-    ensures fresh { IfOk result (IsFresh (record { files = R.holds rt; asks = 0 }) (2 ^ 64 - 1)) }
+    ensures tree { IfOk result (λ p. p.tree ≡ record { files = R.holds rt; asks = 0 }) }
+    ensures fresh { IfOk result (λ p. IsFresh (2 ^ 64 - 1) p.machine) }
     ensures aim { IfOk result
-        (λ p. (c : Content) → listing_of c p.aim ≡ listing c new_options pattern.now) }
+        (λ p. (c : Content) → listing_of c p.machine.aim ≡ listing c new_options pattern.now) }
 {
     glob_with(rt, alloc, pattern, MatchOptions::new())
 }
@@ -41,9 +42,10 @@ pub fn glob_with<R: System, A: Allocator + Copy>(
 ) -> Result<Paths<Disk<R, A>>, PatternRefusal>
     ensures accepted { IfOk result (λ _. walk_fault pattern.now ≡ None) }
     ensures refused { IfErr result (RefusesWith (walk_fault pattern.now)) }
-    ensures fresh { IfOk result (IsFresh (record { files = R.holds rt; asks = 0 }) (2 ^ 64 - 1)) }
+    ensures tree { IfOk result (λ p. p.tree ≡ record { files = R.holds rt; asks = 0 }) }
+    ensures fresh { IfOk result (λ p. IsFresh (2 ^ 64 - 1) p.machine) }
     ensures aim { IfOk result
-        (λ p. (c : Content) → listing_of c p.aim ≡ listing c options pattern.now) }
+        (λ p. (c : Content) → listing_of c p.machine.aim ≡ listing c options pattern.now) }
 {
     glob_in(alloc, Disk::new(rt, alloc), pattern, options, u64::MAX)
 }

@@ -1,11 +1,9 @@
 //! A walk over a tree, item by item.
-ghost use Rattle.std.specs.Prelude.{◌≡◌, ◌≤◌, ◌+◌, None, Some, IfOk, IfErr};
+ghost use Rattle.std.specs.Prelude.{◌≡◌, ◌≤◌, ◌+◌, [], None, IfOk, IfErr};
 ghost use Rattle.glob_tree.specs.Content.{Content};
-ghost use Rattle.glob_tree.specs.Answers.{IsTold};
 ghost use Rattle.glob_walk.specs.Listing.{listing_of, listing};
 ghost use Rattle.glob_walk.specs.Components.{walk_fault};
-ghost use Rattle.glob_walk.specs.Machines.{IsFreshMachine, left_of};
-ghost use Rattle.glob_walk.specs.Iterating.{IsFresh};
+ghost use Rattle.glob_walk.specs.Machines.{HasGiven, IsFresh};
 ghost use Rattle.glob_walk.specs.Walks.{RefusesWith};
 
 use glob_pattern::{MatchOptions, PatternRefusal};
@@ -26,22 +24,13 @@ pub struct Paths<T: Tree> {
 }
 
 impl<T: Tree> Model for Paths<T> {
-    ghost use Rattle.std.specs.Prelude.{option_map};
-    ghost use Rattle.glob_walk.specs.Machines.{left_of};
+    ghost use Rattle.glob_walk.specs.Private.Walkers.{Walk};
     ghost use Rattle.glob.specs.Private.Walking.{IsDriven};
     ghost use Rattle.glob_walk.specs.Iterating.{Walking};
 
-    ghost Value = { Walking T };
+    ghost Value = { Walking T (Walk T.Alloc) };
 
-    ghost view = { λ p. record {
-      tree = p.tree;
-      aim = p.machine.aim;
-      limit = p.machine.limit;
-      spent = p.machine.spent;
-      given = p.machine.given;
-      over = p.machine.over;
-      left = option_map (λ c. left_of c p.machine) (T.tells p.tree);
-    } };
+    ghost view = { λ p. record { tree = p.tree; machine = p.machine } };
 
     ghost invariant = { λ p. IsDriven T.tells p.tree p.machine };
 }
@@ -59,27 +48,25 @@ impl<T: Tree> fmt::Debug for Paths<T> {
 impl<T: Tree> Paths<T> {
     /// The tree answers a walk that has done nothing yet.
     pub(crate) fn new(tree: T, machine: WalkMachine<T::Alloc>) -> Self
-        requires { IsFreshMachine machine.limit machine }
-        ensures fresh { IsFresh tree machine.limit result }
-        ensures aim { result.aim ≡ machine.aim }
-        ensures left { (c : Content) → IsTold (T.tells tree) c
-            → result.left ≡ Some (left_of c machine) }
+        requires { IsFresh machine.limit machine }
+        ensures tree { result.tree ≡ tree }
+        ensures machine { result.machine ≡ machine }
     {
         Paths { tree, machine }
     }
 
     /// How many units of work were charged: never more than the limit. It is 0 before the first call of `next`.
     pub fn spent(&self) -> u64
-        ensures spent { result ≡ self.now.spent }
-        ensures within { result ≤ self.now.limit }
+        ensures spent { result ≡ self.now.machine.spent }
+        ensures within { result ≤ self.now.machine.limit }
     {
         self.machine.spent()
     }
 
     /// How many items `next` gave, a refusal too: at most one more than `spent`. After two paths it is 2.
     pub fn given(&self) -> u128
-        ensures given { result ≡ self.now.given }
-        ensures few { result ≤ self.now.spent + 1 }
+        ensures given { result ≡ self.now.machine.given }
+        ensures few { result ≤ self.now.machine.spent + 1 }
     {
         self.machine.given()
     }
@@ -94,16 +81,15 @@ impl<T: Tree> Paths<T> {
 
 impl<T: Tree> Iterator for Paths<T> {
     ghost use Rattle.glob_walk.specs.Iterating.{Goes};
-    ghost use Rattle.glob_walk.specs.Walks.{outcome};
-    ghost use Rattle.std.specs.Prelude.{◌+◌, ◌-◌, option_map};
+    ghost use Rattle.glob_walk.specs.Machines.{next_saying};
+    ghost use Rattle.std.specs.Prelude.{◌+◌, ◌-◌};
     ghost use Rattle.std.specs.Iterator.{at_most};
 
     type Item = GlobResult<T::Alloc>;
 
-    ghost next_gives = { λ old answer new.
-        Goes T.asks T.tells old (option_map outcome answer) new };
+    ghost next_gives = { λ old answer new. Goes T.asks T.tells old (next_saying answer) new };
 
-    ghost remaining = { λ p. at_most (p.limit + 1 - p.given) };
+    ghost remaining = { λ p. at_most (p.machine.limit + 1 - p.machine.given) };
 
     /// The next item, or `None` where none is left. So a walk by `*` over a file `x` gives `Ok` of `x`, and then
     /// `None`.
@@ -140,11 +126,12 @@ pub fn glob_in<T: Tree>(
 ) -> Result<Paths<T>, PatternRefusal>
     ensures accepted { IfOk result (λ _. walk_fault pattern.now ≡ None) }
     ensures refused { IfErr result (RefusesWith (walk_fault pattern.now)) }
-    ensures fresh { IfOk result (IsFresh tree limit) }
+    ensures tree { IfOk result (λ p. p.tree ≡ tree) }
+    ensures fresh { IfOk result (λ p. IsFresh limit p.machine) }
     ensures aim { IfOk result
-        (λ p. (c : Content) → listing_of c p.aim ≡ listing c options pattern.now) }
-    ensures listing { (c : Content) → IsTold (T.tells tree) c
-        → IfOk result (λ p. p.left ≡ Some (listing c options pattern.now)) }
+        (λ p. (c : Content) → listing_of c p.machine.aim ≡ listing c options pattern.now) }
+    ensures listing { (c : Content)
+        → IfOk result (λ p. HasGiven (listing c options pattern.now) c [] p.machine) }
 {
     let machine = WalkMachine::new(alloc, pattern, options, limit)?;
     Ok(Paths::new(tree, machine))

@@ -6,7 +6,9 @@ ghost use Rattle.glob_walk.specs.Components.{walk_fault};
 ghost use Rattle.glob_walk.specs.Listing.{listing};
 ghost use Rattle.glob.specs.Private.Walking.{EndsAs};
 ghost use Rattle.glob_walk.specs.WalkGoals.{FindsGoal, FindsExactly, FindsTaken};
-ghost use Rattle.glob_walk.specs.Iterating.{IsFresh, Walking};
+ghost use Rattle.glob_walk.specs.Iterating.{Walking};
+ghost use Rattle.glob_walk.specs.Machines.{IsFresh};
+ghost use Rattle.glob_walk.specs.Private.Walkers.{Walk as WalkOf};
 ghost use Rattle.glob_walk.specs.Walks.{HasNoRefusal, IsWalk, IsWalkAsked, RefusesWith};
 
 use crate::paths::{Paths, glob_in};
@@ -83,10 +85,10 @@ fn walked<T: Tree>(
     alloc: T::Alloc,
     begun: Result<Paths<T>, PatternRefusal>,
 ) -> Result<Walk<T>, PatternRefusal>
-    requires fresh { IfOk begun (λ p. IsFresh p.tree p.limit p) }
+    requires fresh { IfOk begun (λ p. IsFresh p.machine.limit p.machine) }
     ensures refused { IfErr result (λ e. begun ≡ Err e) }
     ensures whole { IfOk result
-        (λ walk. (p : Walking T) × (begun ≡ Ok p)
+        (λ walk. (p : Walking T (WalkOf T.Alloc)) × (begun ≡ Ok p)
         × EndsAs T.asks T.tells p walk.end walk.spent walk.items.items walk.tree) }
 {
     let paths = begun?;
@@ -95,7 +97,7 @@ fn walked<T: Tree>(
 
 /// The whole of a walk that has done nothing yet. It cannot fail.
 fn whole<T: Tree>(alloc: T::Alloc, mut paths: Paths<T>) -> Walk<T>
-    requires fresh { IsFresh paths.tree paths.limit paths }
+    requires fresh { IsFresh paths.machine.limit paths.machine }
     ensures { EndsAs T.asks T.tells paths
         result.end result.spent result.items.items result.tree }
 {
@@ -113,10 +115,10 @@ fn whole<T: Tree>(alloc: T::Alloc, mut paths: Paths<T>) -> Walk<T>
 /// Moves the items of a walk that has done nothing yet into a list, up to the end of the walk. It ends because `next`
 /// gives at most one item more than the limit has units.
 fn gather<T: Tree>(paths: &mut Paths<T>, items: &mut Vec<GlobResult<T::Alloc>, T::Alloc>) -> End
-    requires fresh { IsFresh paths.old.tree paths.old.limit paths.old }
+    requires fresh { IsFresh paths.old.machine.limit paths.old.machine }
     requires empty { items.old.items ≡ [] }
     ensures { EndsAs T.asks T.tells paths.old
-        result paths.new.spent items.new.items paths.new.tree }
+        result paths.new.machine.spent items.new.items paths.new.tree }
 {
     loop {
         let Some(item) = paths.next() else {

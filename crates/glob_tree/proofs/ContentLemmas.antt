@@ -1,3 +1,4 @@
+-- Contents: their keys and directories, the paths in them, and listings in order.
 pub mod Contents
 pub mod Directories
 pub mod Extending

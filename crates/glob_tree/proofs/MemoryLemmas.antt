@@ -1,3 +1,4 @@
+-- The tree in memory: its nodes and keys, what it answers, and what it refuses.
 pub mod Answering
 pub mod EntriesIn
 pub mod Following

@@ -1,3 +1,4 @@
+-- Disks: what the calls of a system find, and the looks and listings that follow.
 pub mod Answering
 pub mod Finding
 pub mod Holding
@@ -6,4 +7,5 @@ pub mod Looking
 pub mod Naming
 pub mod Opening
 pub mod Reading
+pub mod Saying
 pub mod Ways

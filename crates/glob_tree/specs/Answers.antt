@@ -1,4 +1,4 @@
--- What a tree with a known content has to answer.
+-- What a tree with known content must answer.
 use Rattle.std.specs.Prelude.{◌≡◌, ◌≢◌, ℕ, Bool, true, false, List, map, vec_len, Contains, IsPermutation, Option, Some, Result, Ok, Err, Vec, ⊤}
 use Rattle.std.specs.declared.io.Error.{Error}
 use Rattle.std.specs.declared.io.ErrorKind.{ErrorKind}
@@ -14,7 +14,7 @@ use Rattle.glob_tree.specs.declared.tree.ListError.TheVariants.{Read, Memory}
 abbrev pub IsTold : Option Content → Content → Type 0
 IsTold known c = (known ≡ Some c) × (is_content c ≡ true)
 
--- the entries of a listing, as a content has them
+-- the entries of a listing as pairs: a name, and whether it is reported as a directory
 abbrev pub entries_of : {A : Type 0} → List (Entry A) → List DirEntry
 entries_of entries = map (λ e. (e.name, e.is_dir)) entries
 
@@ -23,7 +23,7 @@ abbrev pub entry_count : {A E : Type 0} → Result (Vec (Entry A) A) E → ℕ
 entry_count (Ok entries) = vec_len entries
 entry_count (Err e) = 0
 
--- these entries may be returned: those of the directory, each once and in any order; where there is none, any
+-- a listing may return these entries: those of the directory, each once and in any order; if there is none, anything
 abbrev pub IsListAnswer : ListAnswer → List DirEntry → Type 0
 IsListAnswer (Entries entries) answer = IsPermutation entries answer
 IsListAnswer (Fails kind) answer = ⊥
@@ -33,30 +33,30 @@ IsListAnswer NoDirectory answer = ⊤
 abbrev pub names_of : List DirEntry → List Text
 names_of entries = map (λ e. e.0) entries
 
--- these names may be returned: those of the directory, each once and in any order; where there is none, any
-abbrev pub IsNameAnswer : ListAnswer → List Text → Type 0
-IsNameAnswer (Entries entries) names = IsPermutation (names_of entries) names
-IsNameAnswer (Fails kind) names = ⊥
-IsNameAnswer NoDirectory names = ⊤
+-- a listing may return these names: those of the directory, each once and in any order; if there is none, anything
+abbrev pub AreListedNames : ListAnswer → List Text → Type 0
+AreListedNames (Entries entries) names = IsPermutation (names_of entries) names
+AreListedNames (Fails kind) names = ⊥
+AreListedNames NoDirectory names = ⊤
 
--- one that is said to be a directory is one
+-- each entry reported as a directory is one
 abbrev pub AreDirectories : (answer entries : List DirEntry) → Type 0
 AreDirectories answer entries = (e : DirEntry) → Contains answer e → e.1 ≡ true → Contains entries e
 
--- These entries may be returned where the names alone matter: each name of the directory once and in any order, and none
--- that is no directory is said to be one; where there is no directory, any.
+-- A listing of names may return these entries: each name of the directory once and in any order, with nothing but
+-- directories reported as directories; if there is no directory, anything.
 abbrev pub IsNamesAnswer : ListAnswer → List DirEntry → Type 0
 IsNamesAnswer (Entries entries) answer =
     IsPermutation (names_of entries) (names_of answer) × AreDirectories answer entries
 IsNamesAnswer (Fails kind) answer = ⊥
 IsNamesAnswer NoDirectory answer = ⊤
 
--- These entries may be returned: where kinds are asked for, with theirs.
+-- A listing may return these entries: with their kinds, if those are asked for.
 abbrev pub IsEntriesAnswer : (kinds : Bool) → ListAnswer → List DirEntry → Type 0
 IsEntriesAnswer true said answer = IsListAnswer said answer
 IsEntriesAnswer false said answer = IsNamesAnswer said answer
 
--- an error of this kind may be returned: that of the directory; where there is none, any
+-- a listing may fail with this kind of error: that of the directory; if there is none, any
 abbrev pub IsListFault : ListAnswer → ErrorKind → Type 0
 IsListFault (Entries entries) kind = ⊥
 IsListFault (Fails wanted) kind = kind ≡ wanted
@@ -66,6 +66,6 @@ abbrev pub IsListError : ListAnswer → ListError → Type 0
 IsListError answer (Read e) = IsListFault answer (error_kind e)
 IsListError answer Memory = ⊤
 
--- the error of a listing where the system answers with this one
+-- the error of a listing, if the system returns this one
 abbrev pub IsListErrorOf : Error → ListError → Type 0
 IsListErrorOf e made = (error_kind e ≡ OutOfMemory → made ≡ Memory) × (error_kind e ≢ OutOfMemory → made ≡ Read e)

@@ -1,4 +1,4 @@
--- What a tree holds, where a path leads in it, and what it answers.
+-- What a tree holds, where a path leads in it, and what the tree answers.
 use Rattle.std.specs.Prelude.{◌-◌, Bool, true, false, ◌&&◌, not, if◌then◌else◌, List, [], ◌∷◌, ◌++◌, length, take, fold, find, filter_map, bytes_eq, Option, Some, None, is_some, option_map, option_and_then, unwrap_or}
 use Rattle.std.specs.List.{list_any, list_all}
 use Rattle.std.specs.Cmp.Lexicographic.{pointwise, slice_cmp}
@@ -15,7 +15,7 @@ use Rattle.glob_tree.specs.declared.kind.Kind.TheVariants.{Dir, Shut, Other}
 use Rattle.glob_tree.specs.declared.tree.Look.{Look}
 use Rattle.glob_tree.specs.declared.tree.Look.TheVariants as look
 
--- the place of an entry: the names from the root down
+-- where an entry is: the names from the root down
 abbrev pub Key : Type 0
 Key = List Text
 
@@ -26,13 +26,13 @@ same_key k l = pointwise bytes_eq k l
 abbrev pub parent_key : Key → Key
 parent_key k = take (length k - 1) k
 
--- what follows the names of k in a key that begins with them
+-- the rest of a key that begins with the names of k
 abbrev pub names_past : (k key : Key) → Option Key
 names_past [] names = Some names
 names_past (m ∷ ms) [] = None
 names_past (m ∷ ms) (n ∷ ns) = if bytes_eq m n then names_past ms ns else None
 
--- The keys and what is at each, as a list of pairs in no order, and the key of the current directory.
+-- What is at each key, as a list of pairs in any order, and the key of the current directory.
 pub record Content : Type 0 where
   pub kinds : List (Key × Kind)
   pub current : Key
@@ -57,16 +57,16 @@ abbrev pub are_distinct : List (Key × Kind) → Bool
 are_distinct [] = true
 are_distinct (e ∷ es) = not (list_any (λ f. same_key e.0 f.0) es) && are_distinct es
 
--- The content is well formed: its root and current directory are directories, each key is in one and has names that are
--- UTF-8 and proper, and none occurs twice.
+-- The content is well formed: its root and current directory are directories, each key is in a directory and has names
+-- that are UTF-8 and proper, and no key occurs twice.
 unfoldable pub is_content : Content → Bool
 is_content c = is_dir_at c [] && is_dir_at c c.current && list_all (is_placed c) c.kinds && are_distinct c.kinds
 
--- the key to which a name below k leads
+-- the key of a name in k, if something is there
 abbrev pub child_key : Content → Key → Text → Option Key
 child_key c k name = if is_some (kind_at c (k ++ name ∷ [])) then Some (k ++ name ∷ []) else None
 
--- where a piece leads from k: nowhere unless a directory is there
+-- where a piece of a path leads from k: nowhere unless k is a directory
 abbrev pub step : Content → Text → Key → Option Key
 step c piece k =
     if not (is_dir_at c k) then None
@@ -74,19 +74,19 @@ step c piece k =
     else if bytes_eq piece parent_dir then Some (parent_key k)
     else child_key c k piece
 
--- where pieces lead in turn
+-- where pieces lead, one after another
 abbrev pub steps : Content → Option Key → List Text → Option Key
 steps c k ps = fold (λ at piece. option_and_then (step c piece) at) k ps
 
--- the root for a path that begins with a separator, and else the current directory
+-- where a path starts: at the root if it begins with a separator, and otherwise in the current directory
 abbrev pub origin : Content → Text → Key
 origin c path = if begins_with slash path then [] else c.current
 
--- where a path leads: the empty one nowhere
+-- where a path leads; the empty path leads nowhere
 unfoldable pub resolve : Content → Text → Option Key
 resolve c path = if is_empty path then None else steps c (Some (origin c path)) (pieces path)
 
--- what is where a path leads
+-- what a path leads to
 abbrev pub kind_found : Content → Text → Option Kind
 kind_found c path = option_and_then (kind_at c) (resolve c path)
 
@@ -100,7 +100,7 @@ look_of (Some Other) = look.Other
 unfoldable pub look_result : Content → Text → Look
 look_result c path = look_of (kind_found c path)
 
--- an entry of a directory: a name, and whether it is a directory's
+-- an entry of a directory: its name, and whether it is a directory
 abbrev pub DirEntry : Type 0
 DirEntry = Text × Bool
 
@@ -109,7 +109,7 @@ only_name [] = None
 only_name (n ∷ []) = Some n
 only_name (m ∷ n ∷ ns) = None
 
--- the entry of a key in a listing of k: a key that is one name longer has one
+-- the entry of a key in a listing of k: only a key that is k and one more name has one
 abbrev pub child_entry : Key → Key × Kind → Option DirEntry
 child_entry k e = option_map (λ name. (name, is_dir e.1)) (option_and_then only_name (names_past k e.0))
 
@@ -136,7 +136,7 @@ list_found c (Some k) = list_of c k (kind_at c k)
 unfoldable pub list_result : Content → Text → ListAnswer
 list_result c path = list_found c (resolve c path)
 
--- the entry's name is at most the other's, by bytes
+-- the entry's name is not after the other's, in byte order
 abbrev pub is_before : DirEntry → DirEntry → Bool
 is_before e f = is_le (slice_cmp nat_cmp e.0 f.0)
 

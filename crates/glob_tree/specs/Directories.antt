@@ -1,4 +1,4 @@
--- What an opened directory has to read: bytes, which hold its names, and then the end, or an error of a kind.
+-- What an opened directory gives to read: bytes that hold its names, and then the end, or an error of some kind.
 use Rattle.std.specs.Prelude.{◌≡◌, ◌≢◌, ℕ, Bool, ◌&&◌, not, ◌==◌, List, [], Option, Some, None, bytes_eq, ⊤}
 use Rattle.std.specs.IoError.{error_kind}
 use Rattle.std.specs.List.{filter, slice_split}
@@ -15,21 +15,21 @@ use Rattle.glob_tree.specs.declared.tree.ListError.TheVariants.{Read, Memory}
 abbrev pub is_listed : Text → Bool
 is_listed piece = not (stays piece) && not (bytes_eq piece parent_dir)
 
--- the names of the entries, in order: a NUL stands after each
+-- the names of the entries, in order: each is followed by a NUL
 unfoldable pub names_in : List ℕ → List Text
 names_in bytes = filter is_listed (slice_split (λ b. b == nul) bytes)
 
--- nothing is left to read, and no error is to come
+-- nothing is left to read, and no error will come
 abbrev pub HasEnded : (left : Option (List ℕ)) → (fault : Option ErrorKind) → Type 0
 HasEnded None fault = ⊤
 HasEnded (Some bytes) fault = (bytes ≡ []) × (fault ≡ None)
 
--- a read may fail by this error: memory ran out, or it is the one that comes after the last byte
+-- a read may fail with this error: memory ran out, or it is the error that comes after the last byte
 abbrev pub ReadMayFail : (left : Option (List ℕ)) → (fault : Option ErrorKind) → Error → Type 0
 ReadMayFail None fault e = ⊤
 ReadMayFail (Some bytes) fault e = error_kind e ≢ OutOfMemory → (bytes ≡ []) × (fault ≡ Some (error_kind e))
 
--- reading a directory to its end may fail by this error
-abbrev pub ReadingMayFail : (fault : Option ErrorKind) → ListError → Type 0
-ReadingMayFail fault (Read e) = fault ≡ Some (error_kind e)
-ReadingMayFail fault Memory = ⊤
+-- reading a directory to its end may fail with this error
+abbrev pub ReadToEndMayFail : (fault : Option ErrorKind) → ListError → Type 0
+ReadToEndMayFail fault (Read e) = fault ≡ Some (error_kind e)
+ReadToEndMayFail fault Memory = ⊤

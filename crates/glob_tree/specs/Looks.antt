@@ -1,4 +1,4 @@
--- What the answer to a look says of a path.
+-- What a look says about a path.
 use Rattle.std.specs.Prelude.{Bool, true, false}
 use Rattle.glob_tree.specs.declared.tree.Look.{Look}
 use Rattle.glob_tree.specs.declared.tree.Look.TheVariants as look

@@ -1,4 +1,4 @@
--- A tree in memory: which changes it takes, and what they make of its content.
+-- A tree in memory: which changes it accepts, and what they do to its content.
 use Rattle.std.specs.Prelude.{◌≡◌, ℕ, ◌&&◌, not, if◌then◌else◌, [], ◌∷◌, ◌++◌, drop, bytes_eq, Option, Some, None, is_some, Result, Ok, Err, MatchResult, ⊤}
 use Rattle.std.specs.List.{list_all}
 use Rattle.std.specs.Path.{root_dir}
@@ -26,16 +26,16 @@ pub record MemoryTree : Type 0 where
 abbrev pub empty_content : Content
 empty_content = record { kinds = ([], Dir) ∷ []; current = [] }
 
--- the key that a path names: a separator, and proper names with separators between them
+-- the key that a path names: a separator, and proper names joined by separators
 abbrev pub key_of : Text → Option Key
 key_of path =
     if begins_with slash path && list_all is_proper (pieces (drop 1 path)) then Some (pieces (drop 1 path)) else None
 
--- the same, where `/` is the root
+-- the same, but `/` names the root
 unfoldable pub directory_key : Text → Option Key
 directory_key path = if bytes_eq path root_dir then Some [] else key_of path
 
--- why a key is not added: there is none, its parent is no directory, or something is there
+-- why a key is not added: the path names none, its parent is not a directory, or something is there
 abbrev pub key_refusal : Content → Option Key → Option TreeRefusal
 key_refusal c None = Some refusal.Improper
 key_refusal c (Some k) =
@@ -46,7 +46,7 @@ key_refusal c (Some k) =
 unfoldable pub add_refusal : Content → Text → Option TreeRefusal
 add_refusal c path = key_refusal c (key_of path)
 
--- the content with a further key
+-- the content with one more key
 abbrev pub with_key : Content → Kind → Option Key → Content
 with_key c kind None = c
 with_key c kind (Some k) = record { kinds = c.kinds ++ (k, kind) ∷ []; current = c.current }
@@ -54,7 +54,7 @@ with_key c kind (Some k) = record { kinds = c.kinds ++ (k, kind) ∷ []; current
 unfoldable pub content_with : Content → Text → Kind → Content
 content_with c path kind = with_key c kind (key_of path)
 
--- why a directory does not become the current one
+-- why a key does not become the current directory
 abbrev pub directory_refusal : Content → Option Key → Option TreeRefusal
 directory_refusal c None = Some refusal.Improper
 directory_refusal c (Some k) = if is_dir_at c k then None else Some refusal.NoDirectory
@@ -67,12 +67,12 @@ unfoldable pub with_current : Content → Option Key → Content
 with_current c None = c
 with_current c (Some k) = record { kinds = c.kinds; current = k }
 
--- a change is refused as it has to be, and otherwise by an allocation failure alone
+-- a change is refused for the reason that applies; if none does, it fails only because an allocation failed
 abbrev pub IsChangeAnswer : Option TreeRefusal → Result (Unit {0}) TreeRefusal → Type 0
 IsChangeAnswer (Some e) result = result ≡ Err e
 IsChangeAnswer None result = MatchResult result (λ _. ⊤) (λ e. e ≡ refusal.Memory)
 
--- why a listing of what is there fails
+-- the kind of error with which listing this fails, if it does
 abbrev pub kind_fault : Option Kind → Option ErrorKind
 kind_fault None = Some error.NotFound
 kind_fault (Some Dir) = None
@@ -82,7 +82,7 @@ kind_fault (Some Other) = Some error.NotADirectory
 unfoldable pub list_fault : Content → Text → Option ErrorKind
 list_fault c path = kind_fault (kind_found c path)
 
--- the error is the one with which the listing fails, or an allocation failure where it does not fail
+-- the error is the one with which the listing must fail; if there is none, it is an allocation failure
 abbrev pub IsFaultOf : Option ErrorKind → ListError → Type 0
 IsFaultOf fault (Read e) = fault ≡ Some (error_kind e)
 IsFaultOf fault Memory = fault ≡ None

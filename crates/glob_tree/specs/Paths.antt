@@ -1,4 +1,4 @@
--- Path texts. A path is a list of bytes, and its pieces are between separators.
+-- The texts of paths. A path is a list of bytes, and its pieces are between separators.
 use Rattle.std.specs.Prelude.{ℕ, Bool, ◌&&◌, ◌||◌, not, ◌==◌, if◌then◌else◌, ◌++◌, bytes_eq}
 use Rattle.std.specs.List.{list_any, list_all}
 use Rattle.std.specs.Path.{cur_dir, parent_dir, with_separator}
@@ -14,22 +14,22 @@ nul = 0
 unfoldable pub join : (path text : Text) → Text
 join path text = with_separator path ++ text
 
--- the piece is empty or `.`: it leads nowhere else
+-- the piece is empty or `.`, so it leads nowhere else
 abbrev pub stays : Text → Bool
 stays piece = is_empty piece || bytes_eq piece cur_dir
 
--- the path is `.`, and further pieces that stay
+-- the path is `.`, or `.` and further pieces that stay there
 abbrev pub is_here : Text → Bool
 is_here path = begins_with dot path && list_all stays (pieces path)
 
--- the path of a name in the directory of another path
+-- the path of a name in a directory
 unfoldable pub child : (path name : Text) → Text
 child path name = if is_here path then name else join path name
 
--- `/` and NUL
+-- what no name contains: `/` and NUL
 abbrev pub is_barred : ℕ → Bool
 is_barred c = c == slash || c == nul
 
--- a name is not empty, not `.`, not `..`, and holds neither `/` nor NUL
+-- a proper name is not empty, `.` or `..`, and contains neither `/` nor NUL
 abbrev pub is_proper : Text → Bool
 is_proper name = not (stays name) && not (bytes_eq name parent_dir) && not (list_any is_barred name)

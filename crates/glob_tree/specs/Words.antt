@@ -1,4 +1,4 @@
--- What is printed of the errors of trees.
+-- How the errors of trees print.
 use Rattle.std.specs.Prelude.{ℕ, List, Option, None, Some, codes}
 use Rattle.glob_tree.specs.declared.refusal.TreeRefusal.{TreeRefusal}
 use Rattle.glob_tree.specs.declared.refusal.TreeRefusal.TheVariants.{Improper, NoParent, Taken, NoDirectory, Memory}
@@ -12,7 +12,7 @@ tree_refusal_words Taken = codes "path already exists"
 tree_refusal_words NoDirectory = codes "not a directory"
 tree_refusal_words Memory = codes "out of memory"
 
--- of an I/O error nothing is promised
+-- nothing is promised for an I/O error
 abbrev pub list_error_words : ListError → Option (List ℕ)
 list_error_words (list_error.Read e) = None
 list_error_words list_error.Memory = Some (codes "out of memory")

@@ -1,14 +1,14 @@
-//! How much was asked of a tree, for contracts alone.
+//! A counter of what was asked of a tree. Only contracts see it.
 ghost use Rattle.std.specs.Prelude.{◌≡◌, ℕ, ◌+◌};
 ghost use Rattle.std.specs.Borrow.{ftrue};
 
 use std::marker::Model;
 
-/// How much was asked of a tree: a number that contracts alone see. It costs nothing: it has no bytes, and its methods
+/// How much was asked of a tree: a number that only contracts see. It costs nothing: it has no bytes, and its methods
 /// do nothing at run time.
 ///
-/// A [`Tree`](crate::Tree) of your own keeps one in a field and names it in its `ghost asks`. Each `look` is one ask,
-/// and each `list` one, and one for each entry that it returns:
+/// If you implement [`Tree`](crate::Tree), keep one in a field and name it in `ghost asks`. A `look` is one ask; a
+/// `list` or `list_names` is one, plus one for each entry that it returns:
 ///
 /// ```text
 /// struct NoTree {
@@ -53,7 +53,7 @@ impl Asks {
         }
     }
 
-    /// The count after `more` further asks: after two of them, 2. It has no upper bound.
+    /// The count after `more` further asks: 2 after two of them. It has no upper bound.
     pub fn after(&self, more: usize) -> Self
         ensures { result ≡ self.now + more }
     {
@@ -63,7 +63,7 @@ impl Asks {
     }
 }
 
-/// A number without bytes. What its functions return is proved by hand, since no code makes the number.
+/// A number without bytes. No code computes it, so what its functions return is proved by hand.
 #[derive(Debug, Drop)]
 struct Count {
     ghost number: { ℕ },

@@ -1,6 +1,6 @@
 //! The names of an opened directory.
 ghost use Rattle.std.specs.Prelude.{◌≡◌, ◌+◌, ◌<◌, length, map, vec_len, None, IfOk, IfErr, OnOk, IfSome, IsSome};
-ghost use Rattle.glob_tree.specs.Directories.{HasEnded, ReadingMayFail, names_in as names_of_bytes};
+ghost use Rattle.glob_tree.specs.Directories.{HasEnded, ReadToEndMayFail, names_in as names_of_bytes};
 ghost use Rattle.glob_tree.specs.Private.Gathering.{Gathers};
 
 use crate::name::names_entry;
@@ -8,18 +8,18 @@ use crate::system::Directory;
 use crate::tree::ListError;
 use std::alloc::{AllocError, Allocator};
 
-/// How many bytes of a directory are read at once by its first two reads. The names of some hundred entries fit. A
-/// block is cleared at each listing, so a larger one would cost a small directory more than it saves in system calls.
+/// The size in bytes of the first two reads of a directory. Some hundred names fit. Each listing zeroes the block, so
+/// for a small directory a larger block would cost more than it saves in system calls.
 const BLOCK: usize = 4096;
 
-/// How many bytes of a directory are read at once by further reads.
+/// The size in bytes of all further reads.
 const LARGE_BLOCK: usize = 32768;
 
-/// The bytes of an opened directory, read to its end: its names, each with a NUL after it, as `a\0..\0b\0`. Most
-/// directories end within two reads: one of all names, and one of none.
+/// Reads an opened directory to its end, and returns its bytes: its names, each followed by a NUL, such as
+/// `a\0..\0b\0`. Most directories take two reads: one that returns all names, and one that returns nothing.
 ///
-/// The error is `Memory` at an allocation failure, and `Read` with the error of the read that failed, which is never
-/// taken for the end: what was read before it is dropped.
+/// The error is `Read` with the error of the read that failed, or `Memory` if an allocation failed, here or in the
+/// system. A failed read is never taken for the end: what was read before it is dropped.
 pub fn read_directory<D: Directory, A: Allocator>(
     alloc: A,
     directory: &mut D,
@@ -30,7 +30,7 @@ pub fn read_directory<D: Directory, A: Allocator>(
     ensures whole { IsSome (D.left directory.old)
         → OnOk result (D.fault directory.old ≡ None) }
     ensures fails { IsSome (D.left directory.old)
-        → IfErr result (λ e. ReadingMayFail (D.fault directory.old) e) }
+        → IfErr result (λ e. ReadToEndMayFail (D.fault directory.old) e) }
 {
     let mut bytes = Vec::new(alloc);
     let mut block = [0; BLOCK];
@@ -43,7 +43,7 @@ pub fn read_directory<D: Directory, A: Allocator>(
     Ok(bytes)
 }
 
-/// Adds all that is left of the directory.
+/// Appends all that is left of the directory.
 fn read_rest<D: Directory, A: Allocator>(
     directory: &mut D,
     bytes: &mut Vec<u8, A>,
@@ -54,14 +54,14 @@ fn read_rest<D: Directory, A: Allocator>(
     ensures whole { IsSome (D.left directory.old)
         → OnOk result (D.fault directory.old ≡ None) }
     ensures fails { IsSome (D.left directory.old)
-        → IfErr result (λ e. ReadingMayFail (D.fault directory.old) e) }
+        → IfErr result (λ e. ReadToEndMayFail (D.fault directory.old) e) }
 {
     let mut block = [0; LARGE_BLOCK];
     while read_block(directory, &mut block, bytes)? > 0 {}
     Ok(())
 }
 
-/// Adds what one read gives, and returns how many bytes that is: 0 where the directory has ended.
+/// Appends what one read returns, and returns the number of bytes: 0 if the directory has ended.
 fn read_block<D: Directory, A: Allocator>(
     directory: &mut D,
     block: &mut [u8],
@@ -76,15 +76,15 @@ fn read_block<D: Directory, A: Allocator>(
     ensures known { OnOk result (IsSome (D.left directory.old) → IsSome (D.left directory.new)) }
     ensures kept { D.fault directory.new ≡ D.fault directory.old }
     ensures fails { IsSome (D.left directory.old)
-        → IfErr result (λ e. ReadingMayFail (D.fault directory.old) e) }
+        → IfErr result (λ e. ReadToEndMayFail (D.fault directory.old) e) }
 {
     let count = directory.read(block)?;
     bytes.extend_from_slice(&block[..count])?;
     Ok(count)
 }
 
-/// The names of the entries in the bytes of a directory, in order, as `a` and `b` in `a\0..\0b\0`. The error is an
-/// allocation failure.
+/// The names of the entries in the bytes of a directory, in order and without `.` and `..`: `a` and `b` for
+/// `a\0..\0b\0`. The error is an allocation failure.
 pub fn names_in<A: Allocator>(alloc: A, bytes: &[u8]) -> Result<Vec<&[u8], A>, AllocError>
     ensures { IfOk result (λ names. map (λ name. name.now) names.items
         ≡ names_of_bytes bytes.now) }

@@ -10,7 +10,7 @@ ghost use Rattle.glob_tree.specs.Private.Places.{AreNames};
 
 use crate::name::is_proper;
 
-/// The path without its first `/`, where names joined by `/` follow.
+/// The path without its leading `/`, if the rest is proper names joined by `/`.
 pub(crate) fn proper_names(path: &str) -> Option<&str>
     ensures { MatchOption result (key_of path.now ≡ None) (λ names. AreNames path.now names.now) }
 {
@@ -21,15 +21,15 @@ pub(crate) fn proper_names(path: &str) -> Option<&str>
     Some(names)
 }
 
-/// Whether each piece between `/` is a proper name.
+/// Whether each piece between separators is a proper name.
 fn are_proper(names: &str) -> bool
     ensures { result ≡ list_all is_proper_text (pieces names.now) }
 {
-    // By its name alone a proof would look for it in a module that is private to its crate.
+    // A bare `is_proper` would make a proof look for it in a module that is private to its crate.
     names.split('/').all(|name| is_proper(name))
 }
 
-/// What is before the last `/`, and the last name.
+/// The text before the last `/`, if there is one, and the last name.
 pub(crate) fn last_name(names: &str) -> (Option<&str>, &str)
     ensures names { pieces names.now ≡ directory_names result.0 ++ result.1.now ∷ [] }
     ensures utf8 { is_utf8 result.1.now ≡ true }

@@ -4,19 +4,19 @@ ghost use Rattle.glob_tree.specs.Content.{is_dir};
 
 use std::io;
 
-/// What a tree has at a key, the list of names that leads there from its root: at that of a file `Other`.
+/// What a tree has at a key, the list of names that leads there from its root: `Other` for a file.
 #[derive(Clone, Copy, PartialEq, Eq, Debug)]
 pub enum Kind {
     /// A directory.
     Dir,
-    /// A directory that cannot be listed: a listing fails with an error of this kind.
+    /// A directory that cannot be listed: listing it fails with an error of this kind.
     Shut(io::ErrorKind),
     /// Anything else.
     Other,
 }
 
 impl Kind {
-    /// Whether it is a directory, also one that cannot be listed: `Shut(NotFound)` is, `Other` is not.
+    /// Whether it is a directory, even one that cannot be listed: `Shut(NotFound)` is, `Other` is not.
     pub fn is_dir(self) -> bool
         ensures { result ≡ is_dir self }
     {

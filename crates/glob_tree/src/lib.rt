@@ -1,4 +1,4 @@
-//! Trees of files and directories: what a walk asks of one, the paths in it, a tree in memory, and the file system.
+//! Trees of files and directories: what a walk asks of one, paths, a tree in memory, and the file system.
 #![tactic(auto)]
 
 mod asks;
@@ -13,6 +13,7 @@ mod name;
 mod nodes;
 mod path_text;
 mod physical;
+mod reading;
 mod refusal;
 mod strays;
 mod system;

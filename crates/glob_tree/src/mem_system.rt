@@ -14,8 +14,8 @@ use std::fs::Metadata;
 use std::io::{self, ErrorKind, Read};
 use std::marker::Model;
 
-/// A system that holds the files of a tree in memory, without symbolic links. It has the promises of [`System`], and its
-/// directories are read in pieces, as real ones may be.
+/// A [`System`] that holds the files of a tree in memory, without symbolic links. It keeps the promises of a system,
+/// and its directories are read in pieces, as real ones may be.
 #[derive(Drop)]
 pub struct MemSystem<A: Allocator = Global> {
     tree: MemTree<A>,
@@ -32,15 +32,15 @@ impl<A: Allocator> Model for MemSystem<A> {
 }
 
 impl<A: Allocator + Copy> MemSystem<A> {
-    /// The system that holds the files of `tree`. A read of a directory gives at most `piece` bytes, or one if that is
-    /// 0: with 2, the names `a` and `bc` come as `a\0`, `bc`, and `\0`.
+    /// A system with the files of `tree`. A read of a directory returns at most `piece` bytes, or at most one if that
+    /// is 0: with 2, the names `a` and `bc` come as `a\0`, `bc` and `\0`. No clause says how the bytes are split.
     pub fn new(tree: MemTree<A>, piece: usize) -> Self
         ensures { result ≡ tree.content }
     {
         MemSystem { tree, piece }
     }
 
-    /// The metadata of what is at a path.
+    /// The metadata of what is at a path. If nothing is there, the error is `NotFound`.
     fn metadata(&self, path: &str) -> io::Result<Metadata>
         ensures { IsStatAnswer (found_by (look_result self.now path.now)) result }
     {
@@ -81,7 +81,7 @@ impl<A: Allocator + Copy> System for MemSystem<A> {
     }
 }
 
-/// The names of entries, each with a NUL after it.
+/// The names of the entries, each followed by a NUL.
 fn bytes_of<A: Allocator + Copy>(alloc: A, entries: &[Entry<A>]) -> Result<Vec<u8, A>, AllocError>
     ensures { IfOk result (λ bytes. bytes.items ≡ name_bytes (names_of (entries_of entries.now))) }
 {

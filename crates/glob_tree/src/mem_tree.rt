@@ -17,14 +17,14 @@ use std::alloc::{AllocError, Allocator, Global};
 use std::io;
 use std::marker::Model;
 
-/// A tree held in memory, whose content contracts know.
+/// A tree held in memory. Contracts know its content.
 ///
 /// ```text
 /// let mut tree = MemTree::new(alloc)?;
 /// tree.add_dir("/a")?;
 /// tree.add_other("/a/b")?;
 /// tree.look("a/b")?          // Look::Other
-/// tree.list("a")?            // one entry: b, no directory
+/// tree.list("a")?            // one entry: b, which is not a directory
 /// tree.add_dir("/x/y")       // Err(TreeRefusal::NoParent)
 /// ```
 #[derive(Debug, Drop)]
@@ -50,9 +50,10 @@ impl<A: Allocator> Model for MemTree<A> {
 }
 
 impl<A: Allocator + Copy> MemTree<A> {
-    /// A tree of the root alone, which is the current directory. `alloc` serves all that the tree holds and lists.
+    /// A tree with only its root, which is the current directory. All that the tree holds and lists is allocated from
+    /// `alloc`.
     ///
-    /// It succeeds, since changes alone take memory. Its error would be an allocation failure, as theirs is.
+    /// This call succeeds, since only changes take memory. It has the error type of an allocation failure, as they do.
     pub fn new(alloc: A) -> Result<Self, AllocError>
         ensures made { IsOk result }
         ensures empty { IfOk result (λ tree. tree.content ≡ empty_content) }
@@ -67,14 +68,14 @@ impl<A: Allocator + Copy> MemTree<A> {
         })
     }
 
-    /// Adds an empty directory at `path`, which is `/` and one or more proper names joined by `/`.
+    /// Adds an empty directory at `path`, which must be `/` followed by one or more proper names joined by `/`.
     ///
-    /// The errors, of which the first that applies is returned, and after which the content is what it was:
+    /// The first of these errors that applies is returned, and then the content is unchanged:
     ///
-    /// - [`TreeRefusal::Improper`]: `path` is any other text.
-    /// - [`TreeRefusal::NoParent`]: `path` without its last name leads to no directory.
+    /// - [`TreeRefusal::Improper`]: `path` has another form.
+    /// - [`TreeRefusal::NoParent`]: `path` without its last name does not lead to a directory.
     /// - [`TreeRefusal::Taken`]: something is at `path` already.
-    /// - [`TreeRefusal::Memory`]: allocation failure.
+    /// - [`TreeRefusal::Memory`]: an allocation failed.
     pub fn add_dir(&mut self, path: &str) -> Result<(), TreeRefusal>
         ensures answer { IsChangeAnswer (add_refusal self.old.content path.now) result }
         ensures added { OnOk result
@@ -86,8 +87,8 @@ impl<A: Allocator + Copy> MemTree<A> {
         self.add(path, Kind::Dir)
     }
 
-    /// Adds a directory that cannot be listed: a listing of it fails with an error of this kind. So after
-    /// `add_shut("/a", ErrorKind::PermissionDenied)` a look at `/a` returns `Look::Dir`, and `list("/a")` fails.
+    /// Adds a directory that cannot be listed: listing it fails with an error of this kind. After `add_shut("/a",
+    /// ErrorKind::PermissionDenied)`, a look at `/a` returns `Look::Dir`, and `list("/a")` fails.
     ///
     /// The errors are those of [`add_dir`](MemTree::add_dir).
     pub fn add_shut(&mut self, path: &str, kind: io::ErrorKind) -> Result<(), TreeRefusal>
@@ -101,7 +102,7 @@ impl<A: Allocator + Copy> MemTree<A> {
         self.add(path, Kind::Shut(kind))
     }
 
-    /// Adds something that is no directory, as a file. So after `add_other("/a.rs")` a look at `/a.rs` returns
+    /// Adds something other than a directory, such as a file. After `add_other("/a.rs")`, a look at `/a.rs` returns
     /// `Look::Other`.
     ///
     /// The errors are those of [`add_dir`](MemTree::add_dir).
@@ -116,13 +117,13 @@ impl<A: Allocator + Copy> MemTree<A> {
         self.add(path, Kind::Other)
     }
 
-    /// Makes the directory at `path` the current one. `path` is `/`, or one that [`add_dir`](MemTree::add_dir) takes.
-    /// So after `set_current("/a")` the path `b` leads where `/a/b` leads.
+    /// Makes the directory at `path` the current one. `path` is `/`, or has the form that [`add_dir`](MemTree::add_dir)
+    /// wants. After `set_current("/a")`, the path `b` leads where `/a/b` leads.
     ///
-    /// The errors, after which the current directory is what it was:
+    /// After one of these errors the current directory is unchanged:
     ///
-    /// - [`TreeRefusal::Improper`]: `path` is any other text.
-    /// - [`TreeRefusal::NoDirectory`]: `path` leads to no directory.
+    /// - [`TreeRefusal::Improper`]: `path` has another form.
+    /// - [`TreeRefusal::NoDirectory`]: `path` does not lead to a directory.
     #[tactic(auto, unfolding(crate::specs::Memory::current_refusal, crate::specs::Memory::directory_key, crate::specs::Memory::with_current))]
     pub fn set_current(&mut self, path: &str) -> Result<(), TreeRefusal>
         ensures answer { result ≡ change_answer (current_refusal self.old.content path.now) }
@@ -161,7 +162,7 @@ impl<A: Allocator + Copy> Tree for MemTree<A> {
 
     ghost asks = { λ tree. tree.asks };
 
-    /// It never fails: a path that leads nowhere is `Look::Missing`.
+    /// It never fails: for a path that leads nowhere it returns `Look::Missing`.
     fn look(&mut self, path: &str) -> Result<Look, AllocError>
         ensures well_formed { is_content self.old.content ≡ true }
         ensures asks { self.new.asks ≡ self.old.asks + 1 }
@@ -172,9 +173,9 @@ impl<A: Allocator + Copy> Tree for MemTree<A> {
         Ok(self.seen(path))
     }
 
-    /// Where `path` leads to no directory, the error's kind is `NotADirectory`; where it leads nowhere, `NotFound`;
-    /// where it leads to a directory of [`add_shut`](MemTree::add_shut), the kind given there. [`ListError::Memory`]
-    /// comes where the entries cannot be allocated.
+    /// The error is [`ListError::Read`]. Its kind is `NotADirectory` if `path` leads to a non-directory, `NotFound` if
+    /// it leads nowhere, and for a directory of [`add_shut`](MemTree::add_shut) the kind given there.
+    /// [`ListError::Memory`] comes if the entries cannot be allocated.
     fn list(&mut self, path: &str) -> Result<Vec<Entry<A>, A>, ListError>
         ensures well_formed { is_content self.old.content ≡ true }
         ensures asks { self.new.asks ≡ self.old.asks + 1 + entry_count result }
@@ -192,7 +193,7 @@ impl<A: Allocator + Copy> Tree for MemTree<A> {
 }
 
 impl<A: Allocator + Copy> MemTree<A> {
-    /// The entries of the directory to which a path leads.
+    /// The entries of the directory at a path.
     #[tactic(auto, unfolding(crate::specs::Memory::list_fault))]
     pub(crate) fn entries(&self, path: &str) -> Result<Vec<Entry<A>, A>, ListError>
         ensures entries { IfOk result (λ v.
@@ -226,7 +227,7 @@ impl<A: Allocator> MemTree<A> {
         Look::Other
     }
 
-    /// Where an entry may be added at a path: the number of its directory, and its name.
+    /// Where to add an entry at `path`: the number of its directory, and its name.
     #[tactic(auto, unfolding(crate::specs::Memory::add_refusal))]
     fn place<'p>(&self, path: &'p str) -> Result<(usize, &'p str), TreeRefusal>
         ensures { MatchResult result

@@ -1,16 +1,15 @@
 //! Names of entries.
-ghost use Rattle.std.specs.Prelude.{◌≡◌, true, false, is_ok, IfOk, IfErr, MatchOption, string_bytes};
+ghost use Rattle.std.specs.Prelude.{◌≡◌, true, is_ok, IfOk, IfErr, string_bytes};
 ghost use Rattle.std.specs.List.{list_any};
 ghost use Rattle.glob_tree.specs.Directories.{is_listed as names_entry_bytes};
-ghost use Rattle.glob_tree.specs.Private.Listing.{is_text_name};
 ghost use Rattle.glob_tree.specs.Paths.{is_barred, is_proper as is_proper_text};
 
 use std::alloc::{AllocError, Allocator, Global};
 use std::marker::Model;
 
-/// A proper name, as an entry of a directory has: not empty, not `.`, not `..`, and without `/` and NUL.
+/// A proper name, as the entries of directories have: not empty, not `.` or `..`, and without `/` and NUL.
 ///
-/// `a.rs` and `...` are names; `a/b` is none.
+/// `a.rs` and `...` are names; `a/b` is not.
 #[derive(Drop)]
 #[derive_where(Debug)]
 pub struct Name<A: Allocator = Global> {
@@ -29,9 +28,9 @@ impl<A: Allocator> Model for Name<A> {
 }
 
 impl<A: Allocator> Name<A> {
-    /// The name `text`, as `a.rs`. It allocates nothing.
+    /// Makes the name `text`, such as `a.rs`. It allocates nothing.
     ///
-    /// The error is `text` itself, where it is no proper name: `Name::new(text)` is `Err(text)` for `..` and for `a/b`.
+    /// The error is `text` itself, if it is not a proper name: `Name::new(text)` is `Err(text)` for `..` and for `a/b`.
     pub fn new(text: String<A>) -> Result<Self, String<A>>
         ensures proper { is_ok result ≡ is_proper_text (string_bytes text) }
         ensures name { IfOk result (λ name. name ≡ string_bytes text) }
@@ -44,7 +43,7 @@ impl<A: Allocator> Name<A> {
         }
     }
 
-    /// The text of the name, as `a.rs`.
+    /// The text of the name, such as `a.rs`.
     pub fn as_str(&self) -> &str
         ensures { result.now ≡ self.now }
     {
@@ -52,7 +51,7 @@ impl<A: Allocator> Name<A> {
     }
 }
 
-/// A copy of the name, as `a.rs` of `a.rs`. The error is an allocation failure.
+/// A copy of the name: for `a.rs`, another `a.rs`. The error is an allocation failure.
 pub fn copy_name<A: Allocator>(alloc: A, name: &Name<A>) -> Result<Name<A>, AllocError>
     ensures { IfOk result (λ copy. copy ≡ name.now) }
 {
@@ -60,8 +59,8 @@ pub fn copy_name<A: Allocator>(alloc: A, name: &Name<A>) -> Result<Name<A>, Allo
     Ok(Name { text })
 }
 
-/// The name `text`, which has to be proper, as `a.rs` is: what [`Name::new`] returns, without its test. The error is an
-/// allocation failure.
+/// The name `text`, which must be proper, such as `a.rs`. It is [`Name::new`] of a copy of `text`, without its test.
+/// The error is an allocation failure.
 pub fn name_from_proper<A: Allocator>(alloc: A, text: &str) -> Result<Name<A>, AllocError>
     requires { is_proper_text text.now ≡ true }
     ensures { IfOk result (λ name. name ≡ text.now) }
@@ -70,43 +69,21 @@ pub fn name_from_proper<A: Allocator>(alloc: A, text: &str) -> Result<Name<A>, A
     Ok(Name { text })
 }
 
-/// Whether the text is a proper name: `a.rs` is, and `..` is not.
+/// Whether the text is a proper name: `a.rs` is, `..` is not.
 pub fn is_proper(text: &str) -> bool
     ensures { result ≡ is_proper_text text.now }
 {
     names_entry(text.as_bytes()) && !has_barred(text)
 }
 
-/// The name that the bytes are, if they are a text, and proper.
-pub(crate) fn text_name(bytes: &[u8]) -> Option<&str>
-    ensures { MatchOption result (is_text_name bytes.now ≡ false)
-        (λ name. (name.now ≡ bytes.now) × (is_text_name bytes.now ≡ true)) }
-{
-    match std::str::from_utf8(bytes) {
-        Ok(name) => proper_name(name),
-        Err(_) => None,
-    }
-}
-
-/// The name, if it is proper.
-fn proper_name(name: &str) -> Option<&str>
-    ensures { MatchOption result (is_proper_text name.now ≡ false)
-        (λ proper. (proper.now ≡ name.now) × (is_proper_text name.now ≡ true)) }
-{
-    if is_proper(name) {
-        return Some(name);
-    }
-    None
-}
-
-/// Whether the bytes are neither empty nor `.` or `..`, which lead to no entry of the directory.
+/// Whether the bytes can name an entry: they are not empty, `.` or `..`.
 pub(crate) fn names_entry(bytes: &[u8]) -> bool
     ensures { result ≡ names_entry_bytes bytes.now }
 {
     !bytes.is_empty() && bytes != b".".as_slice() && bytes != b"..".as_slice()
 }
 
-/// Whether some byte is `/` or NUL, which no name holds.
+/// Whether some byte is `/` or NUL, which no name contains.
 fn has_barred(text: &str) -> bool
     ensures { result ≡ list_any is_barred text.now }
 {

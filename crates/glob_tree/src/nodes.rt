@@ -19,16 +19,16 @@ use std::marker::Model;
 #[derive(Drop)]
 #[derive_where(Debug)]
 pub(crate) struct Node<A: Allocator = Global> {
-    /// The number of the directory it is in.
+    /// The number of the directory that it is in.
     parent: usize,
     /// Its name in that directory.
     name: Name<A>,
-    /// What it is.
+    /// Its kind.
     kind: Kind,
 }
 
-/// The nodes of a tree, each after its parent. Numbers count from the root, which is a directory, has number 0 and no
-/// node: node 0 of the list has number 1.
+/// The nodes of a tree, each after its parent. The root is a directory with number 0 and without a node, so the node at
+/// index 0 has number 1.
 #[derive(Drop)]
 #[derive_where(Debug)]
 pub(crate) struct Nodes<A: Allocator = Global> {
@@ -50,7 +50,7 @@ impl<A: Allocator> Model for Nodes<A> {
 }
 
 impl<A: Allocator> Nodes<A> {
-    /// The root alone.
+    /// A tree with only its root.
     pub(crate) fn new(alloc: A) -> Self
         ensures { result ≡ root_entry ∷ [] }
     {
@@ -65,12 +65,12 @@ impl<A: Allocator> Nodes<A> {
         ensures inside { result < length self.now }
         ensures content { is_content (rooted_content self.now) ≡ true }
     {
-        // A proof has the invariant where a field is read.
+        // Reading a field gives a proof the invariant.
         let _nodes = &self.nodes;
         0
     }
 
-    /// The node of this number, and none for the root.
+    /// The node of this number; `None` for the root.
     fn node(&self, number: usize) -> Option<&Node<A>>
         requires { number < length self.now }
         ensures node { IsNode self.now number result }
@@ -83,7 +83,7 @@ impl<A: Allocator> Nodes<A> {
         nodes.get(number - 1)
     }
 
-    /// Adds a node to a directory in which its name is free.
+    /// Adds a node to a directory that has no entry of this name.
     pub(crate) fn add(
         &mut self,
         directory: usize,
@@ -106,7 +106,7 @@ impl<A: Allocator> Nodes<A> {
         Ok(())
     }
 
-    /// Of what kind the entry of this number is.
+    /// The kind of the entry of this number.
     pub(crate) fn kind(&self, number: usize) -> Kind
         requires { number < length self.now }
         ensures kind { result ≡ kind_numbered self.now number }
@@ -118,7 +118,7 @@ impl<A: Allocator> Nodes<A> {
         }
     }
 
-    /// The number of the directory it is in; the root is in itself.
+    /// The number of the directory that the entry is in; the root is in itself.
     fn parent(&self, number: usize) -> usize
         requires { number < length self.now }
         ensures key { key_numbered self.now result ≡ parent_key (key_numbered self.now number) }
@@ -171,7 +171,7 @@ impl<A: Allocator> Nodes<A> {
         Some(number)
     }
 
-    /// Where a path begins: at the root or in the current directory.
+    /// Where a path starts: at the root or in the current directory.
     fn origin(&self, current: usize, path: &str) -> usize
         requires { current < length self.now }
         ensures key { key_numbered self.now result ≡ origin (content_at self.now current) path.now }
@@ -183,7 +183,7 @@ impl<A: Allocator> Nodes<A> {
         current
     }
 
-    /// Where a path leads, where `current` is the current directory.
+    /// Where a path leads if `current` is the current directory.
     pub(crate) fn find(&self, current: usize, path: &str) -> Option<usize>
         requires { current < length self.now }
         ensures { Leads self.now result (resolve (content_at self.now current) path.now) }
@@ -194,7 +194,7 @@ impl<A: Allocator> Nodes<A> {
         self.follow(self.origin(current, path), path)
     }
 
-    /// The directory that these names lead to from the root; no names are the root.
+    /// The directory that these names lead to from the root; `None` is the root.
     pub(crate) fn directory(&self, names: Option<&str>) -> Option<usize>
         requires { list_all is_proper (directory_names names) ≡ true }
         ensures { IsDirectoryAt self.now (directory_names names.entry) result }
@@ -206,7 +206,7 @@ impl<A: Allocator> Nodes<A> {
         Some(number)
     }
 
-    /// The entry that these names lead to from the root; no names are the root.
+    /// The entry that these names lead to from the root; `None` is the root.
     fn find_names(&self, names: Option<&str>) -> Option<usize>
         requires { list_all is_proper (directory_names names) ≡ true }
         ensures { IsFoundAt self.now (directory_names names.entry) result }
@@ -229,7 +229,7 @@ impl<A: Allocator + Copy> Nodes<A> {
     }
 }
 
-/// What a listing returns of the nodes in a directory.
+/// The listing of a directory, from its nodes.
 fn entries_in<A: Allocator + Copy>(
     alloc: A,
     nodes: &[Node<A>],
@@ -247,7 +247,7 @@ fn entries_in<A: Allocator + Copy>(
     Ok(entries)
 }
 
-/// What a listing returns of a node.
+/// The entry of a node in a listing.
 fn entry_at<A: Allocator>(alloc: A, node: &Node<A>) -> Result<Entry<A>, AllocError>
     ensures name { IfOk result (λ entry. entry.name ≡ node.now.name) }
     ensures kind { IfOk result (λ entry. entry.is_dir ≡ is_dir node.now.kind) }
@@ -258,7 +258,7 @@ fn entry_at<A: Allocator>(alloc: A, node: &Node<A>) -> Result<Entry<A>, AllocErr
     })
 }
 
-/// The place in the list of the node with this name in a directory, counted from 0.
+/// The index in the list of the node with this name in a directory.
 fn place_of<A: Allocator>(nodes: &[Node<A>], directory: usize, name: &str) -> Option<usize>
     ensures { result ≡ position (is_named directory name.now) nodes.now }
 {

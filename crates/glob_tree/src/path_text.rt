@@ -9,8 +9,8 @@ ghost use Rattle.glob_tree.specs.Private.Looking.{IsOnWay};
 
 use std::alloc::{AllocError, Allocator};
 
-/// The path of a name in a directory: the name alone where the directory is `.`, and else the two joined, as `a/b` of
-/// `a` and `b`. The error is an allocation failure.
+/// The path of a name in a directory: only the name if the directory is `.` (or `./`, `./.`), and otherwise the two
+/// joined, such as `a/b` for `a` and `b`. The error is an allocation failure.
 #[tactic(auto, unfolding(crate::specs::Paths::child))]
 pub fn child<A: Allocator>(alloc: A, dir: &str, name: &str) -> Result<String<A>, AllocError>
     ensures { IfOk result (λ p. string_bytes p ≡ child_text dir.now name.now) }
@@ -22,7 +22,7 @@ pub fn child<A: Allocator>(alloc: A, dir: &str, name: &str) -> Result<String<A>,
     }
 }
 
-/// The path, a separator unless the path is empty or ends in one, and the name: `a/b` of `a` and `b`, and of `a/` and
+/// The path, a separator unless the path is empty or ends in one, and the name: `a/b` for `a` and `b`, and for `a/` and
 /// `b`. The error is an allocation failure.
 #[tactic(auto, unfolding(crate::specs::Paths::join))]
 pub fn join<A: Allocator>(alloc: A, dir: &str, name: &str) -> Result<String<A>, AllocError>
@@ -38,28 +38,28 @@ pub fn join<A: Allocator>(alloc: A, dir: &str, name: &str) -> Result<String<A>, 
     Ok(path)
 }
 
-/// Whether a separator stands between the path and a name.
+/// Whether a separator has to come between the path and a name.
 fn needs_separator(dir: &str) -> bool
     ensures { with_separator dir.now ≡ (if result then dir.now ++ slash ∷ [] else dir.now) }
 {
     !dir.is_empty() && !dir.ends_with('/')
 }
 
-/// Whether the path is `.`, and further pieces that stay there.
+/// Whether the path is `.`, or `.` and further pieces that stay there, such as `./.`.
 fn is_here(path: &str) -> bool
     ensures { result ≡ is_here_text path.now }
 {
     path.starts_with('.') && all_stay(path)
 }
 
-/// Whether no piece of the path leads elsewhere.
+/// Whether each piece of the path is empty or `.`.
 fn all_stay(path: &str) -> bool
     ensures { result ≡ list_all stays_text (pieces path.now) }
 {
     path.split('/').all(stays)
 }
 
-/// What is before the last `/` of a path, and what is after it.
+/// The text before the last `/` of a path and the text after it; `None` if it has no `/`.
 pub(crate) fn cut_last(path: &str) -> Option<(&str, &str)>
     ensures { MatchOption result (has_no_slash path.now ≡ true)
         (λ cut. (path.now ≡ cut.0.now ++ slash ∷ cut.1.now)
@@ -71,7 +71,7 @@ pub(crate) fn cut_last(path: &str) -> Option<(&str, &str)>
     }
 }
 
-/// Whether a piece of a path is empty or `.`, so that it leads nowhere else.
+/// Whether a piece of a path leads nowhere else: it is empty or `.`, and not `a` or `..`.
 pub fn stays(piece: &str) -> bool
     ensures { result ≡ stays_text piece.now }
 {
@@ -85,7 +85,7 @@ pub fn begins_with_dot(name: &str) -> bool
     name.starts_with('.')
 }
 
-/// Whether a directory is the last one on a way, or above it; the empty path is above each.
+/// Whether a directory is `way` or above it. The empty path is above every path.
 pub(crate) fn is_on_way(directory: &str, way: &str) -> bool
     ensures { IsOnWay directory.now way.now result }
 {

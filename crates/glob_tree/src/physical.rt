@@ -1,10 +1,10 @@
-//! The file system, where a symbolic link is no directory unless links are followed.
-ghost use Rattle.std.specs.Prelude.{◌≡◌, ◌+◌, ◌⊎◌, true, IfOk, IfErr, OnOk, option_and_then};
-ghost use Rattle.glob_tree.specs.Answers.{IsListAnswer, IsListError, IsNameAnswer, IsTold, entries_of, entry_count, names_of};
+//! The file system, where a symbolic link is not treated as a directory unless links are followed.
+ghost use Rattle.std.specs.Prelude.{◌≡◌, ◌+◌, true, IfOk, IfErr, OnOk, option_and_then};
+ghost use Rattle.glob_tree.specs.Answers.{IsListAnswer, IsListError, AreListedNames, IsTold, entries_of, entry_count, names_of};
 ghost use Rattle.glob_tree.specs.Content.{Content, list_result, look_result};
 ghost use Rattle.glob_tree.specs.Disks.{content_with_links};
 ghost use Rattle.glob_tree.specs.FileSystems.{FileSystem, IsHeld, IsReceived, is_direct, strays_found};
-ghost use Rattle.glob_tree.specs.Followed.{IsLinkReceived, list_looked, look_followed};
+ghost use Rattle.glob_tree.specs.Followed.{AreKindsSaid, IsLookSaid};
 ghost use Rattle.glob_tree.specs.declared.physical.Links.TheVariants.{Followed, Kept};
 
 use crate::asks::Asks;
@@ -18,41 +18,44 @@ use std::marker::Model;
 /// Whether symbolic links are followed.
 #[derive(Clone, Copy, PartialEq, Eq)]
 pub enum Links {
-    /// They are no directories: a walk by `**` does not enter one, and ends on a cycle of links.
+    /// A link is not treated as a directory. A walk by `**` enters none, so it ends on a cycle of links.
     Kept,
-    /// They are what they point to, or no directory where that is missing. A link to a directory that is on the way
-    /// down to the link is none either, and the [`Strays`] receive it: so a walk by `**` ends on a cycle of links, as
-    /// at `a/up` that points to `a`. Where the system numbers no files, it ends once the system follows no more of
-    /// them.
+    /// A link is treated as what it points to, or as a non-directory if its target is missing. A link to one of its own
+    /// ancestors is not treated as a directory, and the [`Strays`] receive it, so a walk by `**` ends on a cycle of
+    /// links, such as `a/up` that points to `a`. If the system numbers no files, the walk ends when the system stops
+    /// following links. The clauses allow any link to a directory to be received instead of followed.
     Followed,
 }
 
-/// The file system that a [`System`] reaches, as a tree where a symbolic link is no directory unless links are
-/// [`Followed`](Links::Followed): nothing is below it, so `link/a` is missing. Where the system holds a known file
-/// system, that is its content. Where links are followed, it is so only if none points to a directory; else a look at a
-/// path that is there says what `stat` says, or the strays receive a link to a directory. Relative paths begin at the
-/// current directory of the process.
+/// The file system that a [`System`] reaches, as a tree where a symbolic link is not treated as a directory unless
+/// links are [`Followed`](Links::Followed): nothing is below it, so `link/a` is missing. If the system holds a known
+/// file system, the tree has its content; if links are followed, only if none points to a directory. With such links, a
+/// look at a path that passes none of them before its end says what `stat` says (`Other` for a link without a target),
+/// or the path is a link to a directory and the strays receive it. Relative paths start at the current directory of the
+/// process.
 ///
-/// A walk over it is complete, or the [`Strays`] receive what is missing: each name that is not UTF-8, which costs only
-/// itself, and each path where the system does not say what is there, as below a directory that may be listed and not
-/// searched. A path where the system says that nothing is, as at a link without a target, is none of these. A directory
-/// that cannot be listed is an error of its listing.
+/// A walk over it is complete, or the [`Strays`] receive what is missing: each name that is not UTF-8, without loss of
+/// other entries, and each path where the system does not say what is there, such as one below a directory that may be
+/// listed but not searched. A path where the system says that nothing is there is not received, such as a link without
+/// a target. A directory that cannot be listed is an error of its listing. The clauses promise this for the names, and
+/// for followed links to directories.
 ///
 /// ```text
 /// let disk = PhysicalDisk::new(rt, Lost { count: 0 }, alloc);
-/// walk_in(alloc, disk, "**/*.rs", options, u64::MAX)?    // `a/b.rs`, and not `link/b.rs` where `link` points to `a`
+/// walk_in(alloc, disk, "**/*.rs", options, u64::MAX)?    // `a/b.rs`, but not `link/b.rs` if `link` points to `a`
 /// ```
 ///
-/// A look makes one system call, and one for each directory above the path that is not above the last such path, too. A
-/// listing makes one for each entry, besides those that open, read and close the directory. Where links are followed,
-/// each link costs a second one, and a link to a directory one more for each directory on the way down to it.
+/// A look makes one system call, and one more for each directory above the path, except for those that are above the
+/// last such path as well. A listing makes one for each entry, besides those that open, read and close the directory.
+/// If links are followed, each link costs a second call, and a link to a directory at most one more for each of its
+/// ancestors. No clause counts system calls.
 #[derive(Drop)]
 pub struct PhysicalDisk<R: System, S: Strays, A: Allocator = Global> {
     lookups: Lookups<R, S, A>,
     asks: Asks,
 }
 
-/// Its file system, where that is known, how much was asked of it, how it takes links, and what the strays received.
+/// The file system, if it is known, how much was asked, whether links are followed, and what the strays received.
 impl<R: System, S: Strays, A: Allocator> Model for PhysicalDisk<R, S, A> {
     ghost use Rattle.glob_tree.specs.Disks.{PhysicalModel};
 
@@ -67,20 +70,23 @@ impl<R: System, S: Strays, A: Allocator> Model for PhysicalDisk<R, S, A> {
 }
 
 impl<R: System, S: Strays, A: Allocator + Copy> PhysicalDisk<R, S, A> {
-    /// The file system that `rt` reaches. Its listings are allocated from `alloc`. This call takes no memory.
+    /// A tree of the file system that `rt` reaches, with links kept. Its listings are allocated from `alloc`. This call
+    /// takes no memory.
     pub fn new(rt: R, strays: S, alloc: A) -> Self
         ensures files { result.files ≡ R.holds rt }
         ensures asks { result.asks ≡ 0 }
         ensures links { result.links ≡ Kept }
+        ensures strays { result.strays ≡ strays }
     {
         PhysicalDisk::with_links(rt, strays, alloc, Links::Kept)
     }
 
-    /// As [`new`](Self::new), where links are as `links` says.
+    /// As [`new`](Self::new), with links kept or followed as `links` says.
     pub fn with_links(rt: R, strays: S, alloc: A, links: Links) -> Self
         ensures files { result.files ≡ R.holds rt }
         ensures asks { result.asks ≡ 0 }
         ensures links { result.links ≡ links }
+        ensures strays { result.strays ≡ strays }
     {
         PhysicalDisk {
             lookups: Lookups::new(rt, links, strays, alloc),
@@ -99,8 +105,8 @@ impl<R: System, S: Strays, A: Allocator + Copy> Tree for PhysicalDisk<R, S, A> {
 
     ghost asks = { λ disk. disk.asks };
 
-    /// A symbolic link that is not followed is `Other`, and what is below it `Missing`. A path that cannot be looked up
-    /// is `Missing`, and the strays receive it unless the system says that nothing is there. The error comes only where
+    /// A symbolic link that is not followed is `Other`, and what is below it is `Missing`. A path that cannot be looked
+    /// up is `Missing`, and the strays receive it unless the system says that nothing is there. The error comes only if
     /// the I/O error's kind is `OutOfMemory`, or an allocation fails.
     fn look(&mut self, path: &str) -> Result<Look, AllocError>
         ensures files { self.new.files ≡ self.old.files }
@@ -110,15 +116,16 @@ impl<R: System, S: Strays, A: Allocator + Copy> Tree for PhysicalDisk<R, S, A> {
             → IsTold (option_and_then (content_with_links self.old.links) self.old.files) c
             → IfOk result (λ seen. seen ≡ look_result c path.now) }
         ensures followed { (f : FileSystem) → IsHeld self.old.files f → is_direct f path.now ≡ true
-            → self.old.links ≡ Followed → IfOk result (λ seen. (seen ≡ look_followed f path.now)
-            ⊎ IsLinkReceived f (S.paths self.old.strays) (S.paths self.new.strays)) }
+            → self.old.links ≡ Followed → IfOk result (λ seen.
+            IsLookSaid f path.now seen (S.paths self.old.strays) (S.paths self.new.strays)) }
     {
         self.asks = self.asks.after(1);
         self.lookups.look(path)
     }
 
-    /// An entry whose kind cannot be learned is no directory, and the strays receive its path. The error is `Memory` at
-    /// an allocation failure, and else `Read` with the I/O error of the system, as `PermissionDenied` or `NotFound`.
+    /// An entry whose kind cannot be learned is not reported as a directory, and the strays receive its path. The error
+    /// is `Read` with the I/O error of the system, such as `PermissionDenied` or `NotFound`, or `Memory` if an
+    /// allocation failed.
     fn list(&mut self, path: &str) -> Result<Vec<Entry<A>, A>, ListError>
         ensures files { self.new.files ≡ self.old.files }
         ensures links { self.new.links ≡ self.old.links }
@@ -130,10 +137,10 @@ impl<R: System, S: Strays, A: Allocator + Copy> Tree for PhysicalDisk<R, S, A> {
             → IsTold (option_and_then (content_with_links self.old.links) self.old.files) c
             → IfErr result (λ e. IsListError (list_result c path.now) e) }
         ensures followed { (f : FileSystem) → IsHeld self.old.files f → self.old.links ≡ Followed
-            → IfOk result (λ v. IsListAnswer (list_looked f path.now) (entries_of v.items)
-            ⊎ IsLinkReceived f (S.paths self.old.strays) (S.paths self.new.strays)) }
+            → IfOk result (λ v. AreKindsSaid f path.now (list_result f.content path.now)
+            (entries_of v.items) (S.paths self.old.strays) (S.paths self.new.strays)) }
         ensures named { (f : FileSystem) → IsHeld self.old.files f → IfOk result
-            (λ v. IsNameAnswer (list_result f.content path.now) (names_of (entries_of v.items))) }
+            (λ v. AreListedNames (list_result f.content path.now) (names_of (entries_of v.items))) }
         ensures unread { (f : FileSystem) → IsHeld self.old.files f
             → IfErr result (λ e. IsListError (list_result f.content path.now) e) }
         ensures strays { (f : FileSystem) → IsHeld self.old.files f
@@ -141,7 +148,7 @@ impl<R: System, S: Strays, A: Allocator + Copy> Tree for PhysicalDisk<R, S, A> {
             (S.names self.old.strays) (S.names self.new.strays)) }
     {
         self.asks = self.asks.after(1);
-        let entries = self.lookups.entries(path)?;
+        let entries = self.lookups.list(path)?;
         self.asks = self.asks.after(entries.len());
         Ok(entries)
     }

@@ -6,19 +6,19 @@ use std::alloc::AllocError;
 use std::error::Error;
 use std::fmt;
 
-/// Why a tree in memory refused a change. Where several reasons hold, the first of them is reported. So in an empty
-/// tree `add_dir("/a/..")` is `Improper`, and `add_dir("/a/b")` is `NoParent`, which prints as `no parent directory`.
+/// Why a tree in memory refused a change. If several reasons hold, the first one is reported. In an empty tree,
+/// `add_dir("/a/..")` is `Improper`, and `add_dir("/a/b")` is `NoParent`, which prints as `no parent directory`.
 #[derive(Clone, Copy, PartialEq, Eq, Debug)]
 pub enum TreeRefusal {
-    /// The path is not `/` and one or more proper names joined by `/`.
+    /// The path is not `/` followed by one or more proper names joined by `/`.
     Improper,
-    /// The path without its last name leads to no directory.
+    /// The path without its last name does not lead to a directory.
     NoParent,
     /// Something is at the path already.
     Taken,
-    /// The path leads to no directory, so it cannot become the current one.
+    /// The path does not lead to a directory, so it cannot become the current one.
     NoDirectory,
-    /// The memory for the change could not be allocated.
+    /// Out of memory: the change could not be allocated.
     Memory,
 }
 

@@ -1,4 +1,4 @@
-//! What a disk cannot answer, for someone to hear.
+//! Receivers of what a disk leaves out or cannot learn.
 ghost use Rattle.std.specs.Prelude.{◌≡◌, ◌≢◌, ◌⊎◌, ℕ, List, Option, None, [], ◌∷◌, IfOk, IfErr, IsSome, OnOk};
 ghost use Rattle.std.specs.IoError.{error_kind};
 ghost use Rattle.glob_tree.specs.FileSystems.{Found, IsStatAnswer};
@@ -9,8 +9,8 @@ use std::alloc::AllocError;
 use std::fs::Metadata;
 use std::io::{self, ErrorKind};
 
-/// Receives what a [`PhysicalDisk`](crate::PhysicalDisk) left out or did not learn, so that a walk over it is complete
-/// where nothing is received.
+/// Receives what a [`PhysicalDisk`](crate::PhysicalDisk) left out or could not learn. A walk over it is complete if
+/// nothing is received.
 ///
 /// ```text
 /// #[derive(Drop)]
@@ -29,27 +29,27 @@ use std::io::{self, ErrorKind};
 /// }
 /// ```
 pub trait Strays: Drop {
-    /// The names that it received, in order, where they are known.
+    /// The received names, in order, if they are known.
     ghost names: { Self → Option (List (List ℕ)) } = { λ _. None };
 
-    /// The paths that it received, in order, where they are known.
+    /// The received paths, in order, if they are known.
     ghost paths: { Self → Option (List (List ℕ)) } = { λ _. None };
 
-    /// The directory has an entry whose name is not UTF-8: `name`, as its bytes are. The listing goes on without it.
+    /// The directory has an entry whose name is not UTF-8: `name`, in bytes. The listing goes on without it.
     fn stray(&mut self, directory: &str, name: &[u8])
         ensures names { names self.new ≡ and_then (names self.old) (name.now ∷ []) }
         ensures paths { paths self.new ≡ paths self.old };
 
-    /// What is at `path` could not be learned, for this reason, as `PermissionDenied` or `InvalidFilename` where the
-    /// path is longer than the system takes. `FilesystemLoop` is also the reason of a link that is followed, and points
-    /// to a directory on the way down to it. A listing has it as no directory, and goes on.
+    /// The disk could not learn what is at `path`, for this reason: for example `PermissionDenied`, or
+    /// `InvalidFilename` if the path is too long for the system. `FilesystemLoop` is also the reason for a followed
+    /// link that points to one of its ancestors. A listing does not report the path as a directory, and goes on.
     fn unsettled(&mut self, path: &str, error: &io::Error)
         ensures names { names self.new ≡ names self.old }
         ensures paths { paths self.new ≡ and_then (paths self.old) (path.now ∷ []) };
 }
 
-/// What the system answers of a path. There is nothing where it says so; each other reason why it does not know is
-/// received, and an allocation failure is one.
+/// What the system says is at a path; `None` if it says that nothing is there. An allocation failure is returned as an
+/// error. Any other error goes to the strays, and the result is `None`.
 pub(crate) fn settle<S: Strays>(
     strays: &mut S,
     path: &str,

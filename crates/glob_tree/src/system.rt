@@ -1,4 +1,4 @@
-//! The calls of a system that disks are made of.
+//! The system calls that disks are built on.
 ghost use Rattle.std.specs.Prelude.{◌≡◌, ℕ, ◌<◌, List, Option, true, None, length, IfOk, IfErr};
 ghost use Rattle.std.specs.Io.{ReadsAtMost};
 ghost use Rattle.std.specs.Io.KnownBytes.{ReadConsumes};
@@ -10,40 +10,41 @@ ghost use Rattle.glob_tree.specs.FileSystems.{FileSystem, IsHeld, IsOpened, Open
 use std::fs::{Files, Metadata};
 use std::io::{self, Read};
 
-/// The calls of a system: what is at a path, and which names a directory has. `HostRuntime` is the real one, and says
-/// nothing of what it holds.
+/// The calls of a system: what is at a path, and which names a directory has. `HostRuntime` is the real one; nothing is
+/// known of what it holds.
 ///
-/// What contracts see of a system is the file system that it holds, where that is known. It then stays as it is, each
-/// call answers for paths of any length, and a call on what is there fails only where memory runs out, with an error of
-/// the kind `OutOfMemory`. Nothing is said of a path that goes on behind a symbolic link to a directory.
+/// What contracts see of a system is the file system that it holds, if that is known. It then never changes, and each
+/// call answers for paths of any length. If something is there, `lstat` fails only if memory runs out, with an error of
+/// the kind `OutOfMemory`; so does `stat`, unless a link there points nowhere, and `open`, unless it is no directory
+/// that can be listed. Nothing is promised for a path that goes on behind a symbolic link to a directory.
 ///
 /// In a file system with a directory `a`, a file `a/b` and a symbolic link `l` to it, `lstat("l")` returns the metadata
-/// of a symbolic link and `stat("l")` that of a file, `lstat("a/c")` fails, and `open("a")` has the bytes `b\0` to
-/// read, maybe with `.\0` and `..\0` before, between and after names.
+/// of a symbolic link and `stat("l")` that of a file, `lstat("a/c")` fails, and `open("a")` gives the bytes `b\0` to
+/// read, maybe with `.\0` and `..\0` before, between and after the names.
 pub trait System: Drop {
-    /// A directory that is open.
+    /// An open directory.
     type Dir: Directory;
 
     ghost holds: { Self → Option FileSystem };
 
-    /// The metadata of what is at a path, also of a symbolic link there.
+    /// The metadata of what is at a path; for a symbolic link, of the link itself.
     ///
-    /// It fails where nothing is there, with any error.
+    /// It fails with any error if nothing is there.
     fn lstat(&self, path: &str) -> io::Result<Metadata>
         ensures found { (f : FileSystem) → IsHeld (holds self.now) f → is_direct f path.now ≡ true
             → IsStatAnswer (lstat_found f path.now) result };
 
-    /// The metadata of what is at a path, or of what a symbolic link there points to.
+    /// The metadata of what is at a path; for a symbolic link, of what it points to.
     ///
-    /// It fails where nothing is there, or a symbolic link that points nowhere, with any error.
+    /// It fails with any error if nothing is there, or a symbolic link that points nowhere.
     fn stat(&self, path: &str) -> io::Result<Metadata>
         ensures found { (f : FileSystem) → IsHeld (holds self.now) f → is_direct f path.now ≡ true
             → IsStatAnswer (stat_found f path.now) result };
 
     /// Opens the directory at a path.
     ///
-    /// Where the directory cannot be listed, this call fails with an error of that kind, or a read of it does. It may
-    /// fail with any error where the path leads to no directory.
+    /// If the directory cannot be listed, this call or a read fails with an error of that kind. If the path does not
+    /// lead to a directory, this call may fail with any error.
     fn open(&self, path: &str) -> io::Result<Self::Dir>
         ensures opened { (f : FileSystem) → IsHeld (holds self.now) f → is_direct f path.now ≡ true
             → IfOk result (λ dir. IsOpened (list_result f.content path.now)
@@ -52,19 +53,19 @@ pub trait System: Drop {
             → IfErr result (λ e. OpenMayFail (list_result f.content path.now) e) };
 }
 
-/// A directory that is open: its names are read, each with a NUL after it, in pieces of any size. `.` and `..` may be
-/// among them.
+/// An open directory. Reads return its names, each followed by a NUL, in pieces of any size. `.` and `..` may be among
+/// them.
 pub trait Directory: Drop {
-    /// The bytes that reads will give from here on, where they are known.
+    /// The bytes that further reads return, if they are known.
     ghost left: { Self → Option (List ℕ) };
 
-    /// The kind of the error that a read returns after the last byte; `None` where the end comes.
+    /// The kind of the error that a read returns after the last byte; `None` if the directory ends there.
     ghost fault: { Self → Option ErrorKind };
 
-    /// Reads the next bytes into the first places of `block`, and returns how many they are: 0 at the end. So a
-    /// directory with the names `a` and `b` may be read as `a\0b`, `\0`, and the end.
+    /// Reads the next bytes into the front of `block`, and returns how many they are: 0 at the end, or if `block` is
+    /// empty. A directory with the names `a` and `b` may be read as `a\0b`, `\0`, and the end.
     ///
-    /// Where its bytes are known, it fails where memory runs out, with an error of the kind `OutOfMemory`, and after
+    /// If its bytes are known, a read fails only if memory runs out, with an error of the kind `OutOfMemory`, or after
     /// the last byte of a directory whose reading fails, with an error of that kind.
     fn read(&mut self, block: &mut [u8]) -> io::Result<usize>
         ensures bound { ReadsAtMost result block.new }
@@ -75,7 +76,7 @@ pub trait Directory: Drop {
         ensures fails { IfErr result (λ e. ReadMayFail (left self.old) (fault self.old) e) };
 }
 
-/// The real system: what is believed of it is that its calls do what [`System`] says.
+/// The real system. That its calls do what [`System`] says is believed, not proved.
 impl System for HostRuntime {
     type Dir = OpenDirectory;
 

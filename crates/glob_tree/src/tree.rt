@@ -1,4 +1,4 @@
-//! Trees: what a walk can ask, and how it is answered.
+//! Trees: what a walk can ask, and what the answers are.
 ghost use Rattle.std.specs.Prelude.{◌≡◌, ℕ, ◌+◌, Option, IfOk, IfErr};
 ghost use Rattle.glob_tree.specs.Content.{Content, look_result, list_result};
 ghost use Rattle.glob_tree.specs.Answers.{IsTold, IsListAnswer, IsListError, IsNamesAnswer, entries_of, entry_count};
@@ -11,20 +11,20 @@ use std::error::Error;
 use std::fmt;
 use std::io::{self, ErrorKind};
 
-/// What a path leads to. Where `a` is a directory with the file `b`, `a` leads to `Dir`, `a/b` to `Other`, and `a/c` to
-/// `Missing`.
+/// What a path leads to. If `a` is a directory with the file `b`, then `a` leads to `Dir`, `a/b` to `Other`, and `a/c`
+/// to `Missing`.
 #[derive(Clone, Copy, PartialEq, Eq, Debug)]
 pub enum Look {
     /// A directory.
     Dir,
-    /// Something that is no directory.
+    /// Something other than a directory.
     Other,
     /// Nothing.
     Missing,
 }
 
 impl Look {
-    /// Whether it is that of a directory: true of `Dir` alone.
+    /// Whether it is a directory: true only for `Dir`.
     pub fn is_dir(self) -> bool
         ensures { result ≡ is_directory self }
     {
@@ -32,22 +32,23 @@ impl Look {
     }
 }
 
-/// An entry of a directory, as a listing returns it. The file `b` in it has the name `b`, and is no directory.
+/// An entry of a directory, as a listing returns it. A file `b` has the name `b`, and is not a directory.
 #[derive(Drop)]
 #[derive_where(Debug)]
 pub struct Entry<A: Allocator = Global> {
     /// Its name in the directory.
     pub name: Name<A>,
-    /// Whether it is a directory, also one that cannot be listed.
+    /// Whether it is a directory, even one that cannot be listed. In a listing of names it may be false for a
+    /// directory.
     pub is_dir: bool,
 }
 
-/// Why a listing failed. That of a file in a tree in memory has `Read`, with an I/O error of the kind `NotADirectory`.
+/// Why a listing failed. For a file in a tree in memory it is `Read`, with an I/O error of the kind `NotADirectory`.
 ///
-/// `Read` prints the words of its I/O error, and `Memory` is printed as `out of memory`.
+/// `Read` prints as its I/O error does, which no clause describes, and `Memory` prints as `out of memory`.
 #[derive(Debug, Drop)]
 pub enum ListError {
-    /// The directory cannot be read, or there is none, for this reason.
+    /// The directory cannot be read, or the path does not lead to one, for this reason.
     Read(io::Error),
     /// Out of memory: the entries could not be allocated.
     Memory,
@@ -90,7 +91,7 @@ impl<T: Drop> From<AllocFailed<T>> for ListError {
     }
 }
 
-/// An error of the system: a failed allocation, where its kind is `OutOfMemory`.
+/// An error of the system. If its kind is `OutOfMemory`, it is a failed allocation.
 impl From<io::Error> for ListError {
     ghost use Rattle.glob_tree.specs.Answers.{IsListErrorOf};
 
@@ -105,18 +106,17 @@ impl From<io::Error> for ListError {
     }
 }
 
-/// A tree of files and directories: what a walk asks of it.
+/// A tree of files and directories, as a walk sees it.
 ///
 /// Contracts see two things of a tree:
 ///
-/// - `tells` is its content, where that is known: what is at each key, and the current directory. Each answer is
-///   then the content's, allocation failures aside, and no call changes the content. Where a path leads to no
-///   directory, a listing may return any entries and any error. Where it is `None`, any answer may come.
-/// - `asks` counts what was asked: one for each `look`, and for each `list` or `list_names` one and one for each entry
-///   that it returns. A tree keeps the count in a field of type [`Asks`](crate::Asks).
+/// - `tells` is its content, if it is known: what is at each key, and the current directory. Each answer is then that
+///   of the content, apart from allocation failures, and no call changes the content. If a path does not lead to a
+///   directory, a listing may return any entries and any error. If `tells` is `None`, any answer may come.
+/// - `asks` counts what was asked: one for each `look`; and for each `list` or `list_names` one, plus one for each
+///   entry that it returns. A tree keeps the count in a field of type [`Asks`](crate::Asks).
 ///
-/// Over a tree in memory `tree.look("/")` returns `Look::Dir`, and raises its
-/// `asks` by one.
+/// For a tree in memory, `tree.look("/")` returns `Look::Dir`, and raises its `asks` by one.
 pub trait Tree: Drop {
     /// The allocator of the entries that it lists.
     type Alloc: Allocator + Copy;
@@ -125,23 +125,23 @@ pub trait Tree: Drop {
 
     ghost asks: { Self → ℕ };
 
-    /// What `path` leads to, from the root if it begins with `/`, and otherwise from the current directory. Where the
-    /// directory `a` is the current one and has the file `b`, both `look("b")` and `look("/a/b")` return `Look::Other`,
-    /// and `look("b/c")` returns `Look::Missing`. It is one question.
+    /// What `path` leads to, from the root if it begins with `/`, and otherwise from the current directory. If the
+    /// current directory is `/a` and has the file `b`, both `look("b")` and `look("/a/b")` return `Look::Other`, and
+    /// `look("b/c")` returns `Look::Missing`. It is one question.
     ///
-    /// [`AllocError`] is an allocation failure, and says nothing of the path.
+    /// [`AllocError`] is an allocation failure, and says nothing about the path.
     fn look(&mut self, path: &str) -> Result<Look, AllocError>
         ensures asks { asks self.new ≡ asks self.old + 1 }
         ensures content { tells self.new ≡ tells self.old }
         ensures seen { (c : Content) → IsTold (tells self.old) c
             → IfOk result (λ seen. seen ≡ look_result c path.now) };
 
-    /// The entries of the directory to which `path` leads, each once, in any order: of a directory with the file `b`
-    /// and the directory `c`, `b` with `is_dir` as `false` and `c` with `true`. `.` and `..` are none. It is one
-    /// question more than there are entries.
+    /// The entries of the directory that `path` leads to, each once and in any order, without `.` and `..`. For a
+    /// directory with the file `b` and the directory `c`, it returns `b` with `is_dir` false and `c` with `is_dir`
+    /// true. It is one question, plus one for each entry.
     ///
-    /// [`ListError::Read`] is the reason why it cannot be listed, as that `path` leads to a file or to nothing, and
-    /// [`ListError::Memory`] an allocation failure.
+    /// [`ListError::Read`] is the reason why it cannot be listed, for example that `path` leads to a file or to
+    /// nothing, and [`ListError::Memory`] an allocation failure.
     fn list(&mut self, path: &str) -> Result<Vec<Entry<Self::Alloc>, Self::Alloc>, ListError>
         ensures asks { asks self.new ≡ asks self.old + 1 + entry_count result }
         ensures content { tells self.new ≡ tells self.old }
@@ -150,11 +150,11 @@ pub trait Tree: Drop {
         ensures fails { (c : Content) → IsTold (tells self.old) c
             → IfErr result (λ e. IsListError (list_result c path.now) e) };
 
-    /// As [`list`](Tree::list), where the names alone matter: `is_dir` may be `false` at any entry. A tree that would
-    /// have to find out what each entry is can leave that out here.
+    /// As [`list`](Tree::list), for callers that need only the names: `is_dir` may be `false` for any entry. A tree
+    /// that would have to find out what each entry is can skip that here.
     ///
-    /// Of a directory with the directory `a` and the file `b` it returns the names `a` and `b`. The errors are those of
-    /// [`list`](Tree::list), which is the provided body.
+    /// For a directory with the directory `a` and the file `b` it returns the names `a` and `b`. The errors are those
+    /// of [`list`](Tree::list), which is the provided body.
     fn list_names(&mut self, path: &str) -> Result<Vec<Entry<Self::Alloc>, Self::Alloc>, ListError>
         ensures asks { asks self.new ≡ asks self.old + 1 + entry_count result }
         ensures content { tells self.new ≡ tells self.old }

@@ -1,4 +1,4 @@
--- Entries in ascending order are all of them, and each name is at most those after it.
+-- Sorted entries are the same entries in ascending order of names.
 use Rattle.std.proofs.Common.{◌≡◌, Bool, true, false, cond, List, [], ◌∷◌, refl, ap, sym, ◌∙◌, arith}
 use Rattle.std.specs.Prelude.{All, AllPairs}
 use Rattle.std.specs.List.Sorted.{IsPermutation}
@@ -10,7 +10,8 @@ use Rattle.std.specs.declared.cmp.Ordering.{Ordering}
 use Rattle.std.specs.declared.cmp.Ordering.TheVariants.{Less, Equal, Greater}
 use Rattle.std.proofs.lemmas.Bool.{both_ways}
 use Rattle.std.proofs.lemmas.Cmp.{nat_list_cmp_total}
-use Rattle.std.proofs.lemmas.List.Sorted.{IsPermutation-refl, IsPermutation-cons, IsPermutation-middle, IsPermutation-trans, All-permutation}
+use Rattle.std.proofs.lemmas.List.Sorted.{IsPermutation-refl, IsPermutation-cons, IsPermutation-middle}
+use Rattle.std.proofs.lemmas.List.Sorted.{IsPermutation-trans, All-permutation}
 use Rattle.std.proofs.lemmas.List.Elements.{All-nil, All-cons, All-weaker}
 use Rattle.std.proofs.lemmas.List.Kept.{AllPairs-cons}
 use Rattle.glob_tree.specs.Content.{DirEntry, is_before, insert_entry, sorted_entries}
@@ -20,15 +21,18 @@ insert_entry-keeps : (e : DirEntry) (es : List DirEntry) → IsPermutation (e �
 insert_entry-keeps e [] = IsPermutation-refl (e ∷ [])
 insert_entry-keeps e (f ∷ es) = by_test (is_before e f) (insert_entry-keeps e es)
   where
-    by_test : (b : Bool) → IsPermutation (e ∷ es) (insert_entry e es) → IsPermutation (e ∷ f ∷ es) (cond b (e ∷ f ∷ es) (f ∷ insert_entry e es))
+    by_test : (b : Bool) → IsPermutation (e ∷ es) (insert_entry e es) → IsPermutation (e ∷ f ∷ es) (cond b (e ∷ f ∷ es)
+        (f ∷ insert_entry e es))
     by_test true kept = IsPermutation-refl (e ∷ f ∷ es)
-    by_test false kept = IsPermutation-trans (e ∷ f ∷ es) (f ∷ e ∷ es) (f ∷ insert_entry e es) (IsPermutation-middle (e ∷ []) f es) (IsPermutation-cons f _ _ kept)
+    by_test false kept = IsPermutation-trans (e ∷ f ∷ es) (f ∷ e ∷ es) (f ∷ insert_entry e es) (IsPermutation-middle
+        (e ∷ []) f es) (IsPermutation-cons f _ _ kept)
 
 pub sorted_entries-keep : (es : List DirEntry) → IsPermutation es (sorted_entries es)
 sorted_entries-keep [] = IsPermutation-refl []
-sorted_entries-keep (e ∷ es) = IsPermutation-trans _ _ _ (IsPermutation-cons e _ _ (sorted_entries-keep es)) (insert_entry-keeps e (sorted_entries es))
+sorted_entries-keep (e ∷ es) = IsPermutation-trans _ _ _ (IsPermutation-cons e _ _ (sorted_entries-keep es))
+    (insert_entry-keeps e (sorted_entries es))
 
--- by the bytes of names, e is at most f
+-- in byte order, e's name is not after f's
 abbrev AtMost : DirEntry → DirEntry → Type 0
 AtMost e f = is_before e f ≡ true
 
@@ -54,7 +58,7 @@ AtMost-other e f h = by_answer (slice_cmp nat_cmp e.0 f.0) refl
     by_answer Equal is = absurd (both_ways (is_before e f) h (ap is_le is))
     by_answer Greater is = ap is_le (nat_list_cmp_total.antisymm f.0 e.0 ∙ ap ordering_reverse is)
 
--- each is at most those after it
+-- no name is after those that follow
 abbrev Rises : List DirEntry → Type 0
 Rises [] = Unit {0}
 Rises (e ∷ es) = All (AtMost e) es × Rises es
@@ -69,7 +73,8 @@ Rises-insert_entry e (f ∷ es) up = by_test (is_before e f) refl (Rises-insert_
       up,
     )
     by_test false h rest = (
-      All-permutation (AtMost f) (e ∷ es) (insert_entry e es) (insert_entry-keeps e es) (All-cons (AtMost f) e es (AtMost-other e f h) up.0),
+      All-permutation (AtMost f) (e ∷ es) (insert_entry e es) (insert_entry-keeps e es) (All-cons (AtMost f) e es
+          (AtMost-other e f h) up.0),
       rest,
     )
 

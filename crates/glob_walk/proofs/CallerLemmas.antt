@@ -1,4 +1,4 @@
--- What a caller's proof needs of the words of a whole walk, which its goals show closed.
+-- What a caller's proof needs of the definitions of a whole walk, which are opaque in its goals.
 use Rattle.std.proofs.Common.{◌≡◌, ℕ, ◌+◌, ◌<◌, ◌≤◌, List, Option, Result, IsTrue}
 use Rattle.std.specs.declared.path.buf.PathBuf.{PathBuf}
 use Rattle.glob_text.specs.Text.{Text}
@@ -8,38 +8,43 @@ use Rattle.glob_pattern.specs.declared.options.MatchOptions.{MatchOptions}
 use Rattle.glob_walk.specs.Goal.{is_plain, is_readable, ReachesGoal, GivesGoal}
 use Rattle.glob_walk.specs.Marks.{Mark, Item, items, cost, front, paths, IsBeginning}
 use Rattle.glob_walk.specs.Order.{IsOrderly}
-use Rattle.glob_walk.specs.WalkGoals.{Answers, given_items, WalksPlainly, FindsGoal, FindsExactly, FindsTaken}
+use Rattle.glob_walk.specs.WalkGoals.{Answers, given_items, WalksSensitively, FindsGoal, FindsExactly, FindsTaken}
 use Rattle.glob_walk.specs.Walks.{AreItems, IsCutShort, HasNoRefusal, IsWalk, IsWalkAsked}
 use Rattle.glob_walk.specs.declared.error.GlobError.{GlobError}
 use Rattle.glob_walk.proofs.ListingLemmas.Marks.{IsBeginning-cut}
 use Rattle.glob_walk.specs.declared.ending.End.{End}
 use Rattle.glob_walk.specs.declared.ending.End.TheVariants.{Done, Limit, Memory}
--- What a machine has given at first, and after each step.
-pub use Rattle.glob_walk.proofs.WalkLemmas.Giving.{given_fresh, gives_next}
+-- What a machine has given at the start and at its end.
+pub use Rattle.glob_walk.proofs.WalkLemmas.Giving.{given_fresh, upto_end, upto_limit, upto_cut}
 
--- A walk is plain if the content is known, the pattern is plain, and the options keep case.
-pub walks_plainly : (known : Option Content) (c : Content) (o : MatchOptions) (pattern : Text) → IsTold known c → IsTrue (is_plain pattern) → IsTrue o.case_sensitive → WalksPlainly known c o pattern
-unfolding WalksPlainly
-walks_plainly known c o pattern is plain case = (is, plain, case)
+-- If the content is known, the pattern is plain, and the options are case-sensitive, it is a case-sensitive plain walk.
+pub walks_sensitively : (known : Option Content) (c : Content) (o : MatchOptions) (pattern : Text) → IsTold known c
+    → IsTrue (is_plain pattern) → IsTrue o.case_sensitive → WalksSensitively known c o pattern
+unfolding WalksSensitively
+walks_sensitively known c o pattern is plain case = (is, plain, case)
 
--- So it is, only if.
-pub facts_of_plain_walk : (known : Option Content) (c : Content) (o : MatchOptions) (pattern : Text) → WalksPlainly known c o pattern → IsTold known c × IsTrue (is_plain pattern) × IsTrue o.case_sensitive
-unfolding WalksPlainly
-facts_of_plain_walk known c o pattern plain = plain
+-- And only then.
+pub facts_of_sensitive_walk : (known : Option Content) (c : Content) (o : MatchOptions) (pattern : Text)
+    → WalksSensitively known c o pattern → IsTold known c × IsTrue (is_plain pattern) × IsTrue o.case_sensitive
+unfolding WalksSensitively
+facts_of_sensitive_walk known c o pattern plain = plain
 
 module _ {A : Type 0} (known : Option Content) (o : MatchOptions) (pattern : Text) (end : End) (answers : Answers A) where
-  -- Each path is a goal, and where the walk is done each goal is a path or hidden.
-  pub found_goal : FindsGoal known o pattern end answers → (c : Content) → WalksPlainly known c o pattern → ReachesGoal c o pattern (end ≡ Done) (given_items answers)
+  -- Each path is a goal, and if the walk is done, each goal is a path or is hidden.
+  pub found_goal : FindsGoal known o pattern end answers → (c : Content) → WalksSensitively known c o pattern
+      → ReachesGoal c o pattern (end ≡ Done) (given_items answers)
   unfolding FindsGoal
   found_goal finds = finds
 
-  -- Over a readable content the paths are exactly the goal.
-  pub found_exactly : FindsExactly known o pattern end answers → (c : Content) → WalksPlainly known c o pattern → IsTrue (is_readable c pattern) → end ≡ Done → GivesGoal c o pattern (given_items answers)
+  -- Over a readable content, the paths are exactly the goal.
+  pub found_exactly : FindsExactly known o pattern end answers → (c : Content) → WalksSensitively known c o pattern
+      → IsTrue (is_readable c pattern) → end ≡ Done → GivesGoal c o pattern (given_items answers)
   unfolding FindsExactly
   found_exactly finds = finds
 
-  -- Case-sensitively or not, the paths come once and in order, as far as the runs of `**` allow.
-  pub found_in_order : FindsTaken known o pattern end answers → (c : Content) → IsTold known c → IsTrue (is_plain pattern) → IsOrderly pattern (paths (given_items answers))
+  -- Case-sensitively or not, the paths come once and in order, as far as the places of `**` allow.
+  pub found_in_order : FindsTaken known o pattern end answers → (c : Content) → IsTold known c → IsTrue
+      (is_plain pattern) → IsOrderly pattern (paths (given_items answers))
   unfolding FindsTaken
   found_in_order finds c told plain = (finds c told plain).2
 
@@ -50,18 +55,19 @@ module _ {A : Type 0} (answers : List (Result (PathBuf A) (GlobError A))) where
   items_of_answers has = has
 
   module _ (ms : List Mark) (limit spent : ℕ) where
-    -- A walk that is done has all items of the listing, at its cost.
+    -- A walk that is done has all items of the listing, and its cost.
     pub done_walk : IsWalk ms limit Done spent answers → (cost ms ≤ limit) × (spent ≡ cost ms) × AreItems answers (items ms)
     unfolding IsWalk
     done_walk walk = walk
 
-    -- A walk that ended at its limit has the items before the unit that does not fit.
+    -- A walk that ended at its limit has the items before the first unit that does not fit.
     pub limited_walk : IsWalk ms limit Limit spent answers → (limit < cost ms) × (spent ≡ limit) × AreItems answers (items (front limit ms))
     unfolding IsWalk
     limited_walk walk = walk
 
-    -- A walk that ran out of memory has a beginning of the items.
-    pub stopped_walk : IsWalk ms limit Memory spent answers → (is : List Item) × AreItems answers is × IsBeginning is (items ms) × IsCutShort ms spent is
+    -- A walk that ran out of memory has a prefix of the items.
+    pub stopped_walk : IsWalk ms limit Memory spent answers → (is : List Item) × AreItems answers is × IsBeginning is
+        (items ms) × IsCutShort ms spent is
     unfolding IsWalk
     stopped_walk walk = (walk.0, walk.1, IsBeginning-cut ms spent walk.0 walk.2, walk.2)
 

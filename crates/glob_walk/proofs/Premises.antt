@@ -1,4 +1,4 @@
--- What each premise of a headline promise is for: a small content at which the promise fails without it, computed from
+-- Why each premise of a headline promise is needed: a small content where the promise fails without it, computed from
 -- the definitions.
 use Rattle.std.specs.Prelude.{◌≡◌, true, false, Bool, List, [], ◌∷◌, map, codes, refl}
 use Prim.Native.String.{String}
@@ -22,9 +22,10 @@ use Rattle.glob_walk.specs.Listing.{listing, descent, enter, meet}
 use Rattle.glob_walk.specs.Marks.{Found, Unread, items, front, paths}
 use Rattle.glob_walk.specs.Order.{has_one_recursive, keeps_order}
 
--- opens the definitions by which the rows compute
+-- makes the definitions compute in the rows
 unfoldable computed : Unit {0}
-unfolding chars is_utf8 encode units_from is_match tokens_match join child kind_at children resolve look_result list_result is_content descent enter meet listing walk_fault is_plain goal
+unfolding chars is_utf8 encode units_from is_match tokens_match join child kind_at children resolve look_result
+    list_result is_content descent enter meet listing walk_fault is_plain goal
 computed = tt
 
 abbrev new : MatchOptions
@@ -36,7 +37,7 @@ dot_rule = record new { require_literal_leading_dot = true }
 abbrev no_case : MatchOptions
 no_case = default_options
 
--- a key is written as its names joined by separators
+-- a key, written as its names joined by separators
 abbrev key : String → Key
 key names = pieces (codes names)
 
@@ -49,7 +50,7 @@ file names = (key names, Other)
 abbrev shut : ErrorKind → String → Key × Kind
 shut kind names = (key names, Shut kind)
 
--- a content whose current directory is its root
+-- a content with its root as the current directory
 abbrev at_root : List (Key × Kind) → Content
 at_root entries = record { kinds = ([], Dir) ∷ entries; current = [] }
 
@@ -69,14 +70,15 @@ nested = at_root (dir "a" ∷ dir "a/a" ∷ file "a/a/b" ∷ [])
 abbrev crossed : Content
 crossed = at_root (dir "a" ∷ dir "a/c" ∷ file "a/c/d" ∷ file "a/x" ∷ [])
 
--- case-insensitively a walk finds more than the pattern case-sensitively matches, and less
+-- case-insensitively, a walk finds some things that the pattern does not match case-sensitively, and misses others
 case_counts :
     IsGiven one_file no_case "[A]" ("a" ∷ []) × IsGoal one_file no_case "[A]" []
     × IsGiven (at_root (file "A" ∷ [])) no_case "[!a]" [] × IsGoal (at_root (file "A" ∷ [])) no_case "[!a]" ("A" ∷ [])
 unfolding computed
 case_counts = (refl, refl, refl, refl)
 
--- a dotted wildcard finds the special names; a walk goes through `.`, `..` and an empty component
+-- a wildcard component that begins with a dot finds the special names; a walk goes through `.`, `..` and an empty
+-- component
 plain_counts :
     (is_plain (codes ".*") ≡ false) × IsGiven one_file new ".*" ("./.." ∷ "./." ∷ []) × IsGoal one_file new ".*" []
     × (is_plain (codes "./a") ≡ false) × IsGiven one_file new "./a" ("a" ∷ []) × IsGoal one_file new "./a" []
@@ -86,35 +88,36 @@ plain_counts :
 unfolding computed
 plain_counts = (refl, refl, refl, refl, refl, refl, refl, refl, refl, refl, refl, refl, refl, refl, refl)
 
--- the goal asks the dot rule as the options set it
+-- the goal uses the dot rule as the options set it
 dots_count :
     IsGoal (at_root (file ".a" ∷ [])) dot_rule "*" []
     × IsGoal (at_root (file ".a" ∷ [])) new "*" (".a" ∷ [])
 unfolding computed
 dots_count = (refl, refl)
 
--- directories alone are the goal of a pattern that ends in a separator or in `**`
+-- only directories are the goal of a pattern that ends in a separator or in `**`
 kinds_count :
     IsGoal (at_root (dir "a" ∷ file "b" ∷ [])) new "*/" ("a" ∷ [])
     × IsGoal (at_root (dir "a" ∷ file "b" ∷ [])) new "**" ("a" ∷ [])
 unfolding computed
 kinds_count = (refl, refl)
 
--- a pattern that begins with a separator has the texts from the root as its goal
+-- the goal of a pattern that begins with a separator has texts from the root
 rooted_counts :
     IsGiven crossed new "/a/*" ("/a/c" ∷ "/a/x" ∷ []) × IsGoal crossed new "/a/*" ("/a/c" ∷ "/a/x" ∷ [])
     × IsGiven crossed new "/**" ("/a" ∷ "/a/c" ∷ []) × IsGoal crossed new "/**" ("/a" ∷ "/a/c" ∷ [])
 unfolding computed
 rooted_counts = (refl, refl, refl, refl)
 
--- two runs give a path twice, and two components after a run break the order
+-- `**` in two places gives a path twice, and two components after it break the order
 runs_count :
     (has_one_recursive (codes "**/a/**/b") ≡ false) × IsGiven nested new "**/a/**/b" ("a/a/b" ∷ "a/a/b" ∷ [])
-    × (has_one_recursive (codes "**/*/*") ≡ true) × (keeps_order (codes "**/*/*") ≡ false) × IsGiven crossed new "**/*/*" ("a/c" ∷ "a/x" ∷ "a/c/d" ∷ [])
+    × (has_one_recursive (codes "**/*/*") ≡ true) × (keeps_order (codes "**/*/*") ≡ false) × IsGiven crossed new
+    "**/*/*" ("a/c" ∷ "a/x" ∷ "a/c/d" ∷ [])
 unfolding computed
 runs_count = (refl, refl, refl, refl, refl)
 
--- what lies below a shut directory is a goal that the walk does not find: the error stands in its place
+-- what is below a shut directory is a goal that the walk does not find: it gives the error instead
 abbrev closed : Content
 closed = at_root (dir "a" ∷ file "a/x" ∷ shut PermissionDenied "b" ∷ file "b/x" ∷ [])
 
@@ -125,14 +128,14 @@ readable_counts :
 unfolding computed is_readable
 readable_counts = (refl, refl, refl)
 
--- within a limit the walk finds goals alone, though not each of them
+-- within a limit the walk finds only goals, but not all of them
 whole_counts :
     (paths (items (front 5 (listing crossed new (codes "**")))) ≡ codes "a" ∷ [])
     × IsGoal crossed new "**" ("a" ∷ "a/c" ∷ [])
 unfolding computed
 whole_counts = (refl, refl)
 
--- over a list of keys that is no content, since `a` is missing, a walk does not find what the pattern matches
+-- over keys that are no content, since `a` is missing, a walk does not find what the pattern matches
 abbrev no_content : Content
 no_content = at_root (file "a/b" ∷ [])
 
@@ -140,24 +143,25 @@ content_counts : (is_content no_content ≡ false) × IsGiven no_content new "*/
 unfolding computed
 content_counts = (refl, refl, refl)
 
--- of names joined by `/`: whether the undivided pattern matches, whether the components take them, and whether it is plain
+-- for joined names: whether the undivided pattern matches them, whether the components take them, and whether it is
+-- plain
 abbrev row : MatchOptions → String → List String → List Bool
 row o pattern names =
     matches_undivided o (codes pattern) (text_below (codes pattern) (map codes names))
     ∷ takes_names o (matches_name o) (components (codes pattern)) (map codes names)
     ∷ is_plain (codes pattern) ∷ []
 
--- the start is no goal, though `**` matches the empty text
+-- the start is not a goal, though `**` matches the empty text
 names_count : row new "**" [] ≡ true ∷ false ∷ true ∷ []
 unfolding computed
 names_count = refl
 
--- a bracket that holds `/`, and an empty component after a run
+-- a bracket with `/` in it, and an empty component after `**`
 components_count : (row new "[a/b]" ("a" ∷ []) ≡ true ∷ false ∷ false ∷ []) × (row new "**//" ("a" ∷ []) ≡ true ∷ false ∷ false ∷ [])
 unfolding computed
 components_count = (refl, refl)
 
--- without the separator rule `*` takes a path of two names
+-- without the separator rule, `*` takes a path of two names
 separators_count :
     (is_match new (codes "*") (codes "a/b") ≡ true)
     × (takes_names new (is_match new) (codes "*" ∷ []) (codes "a" ∷ codes "b" ∷ []) ≡ false)

@@ -1,3 +1,4 @@
+-- The walk against the written listing: reading the pattern, turns, frames, the stack, and steps.
 pub mod Charging
 pub mod Driving
 pub mod Entering

@@ -18,7 +18,7 @@ use Rattle.glob_pattern.specs.declared.options.MatchOptions.{MatchOptions}
 abbrev pub has_root : Text → Bool
 has_root pattern = begins_with slash pattern
 
--- the path from which the walk goes on
+-- the path where the walk starts
 abbrev pub start : Text → Text
 start pattern = if has_root pattern then root_dir else cur_dir
 
@@ -28,15 +28,15 @@ without_root pattern = if has_root pattern then drop 1 pattern else pattern
 abbrev pub without_end_separator : Text → Text
 without_end_separator text = if ends_with slash text then take (length text - 1) text else text
 
--- the pieces after the root, where one separator at the end does not count
+-- the pieces after the root, without one separator at the end
 abbrev pub components : Text → List Text
 components pattern = pieces (without_end_separator (without_root pattern))
 
--- a pattern that ends in a separator wants directories alone
+-- a pattern that ends in a separator wants only directories
 abbrev pub wants_directories : Text → Bool
 wants_directories pattern = ends_with slash pattern
 
--- the component stands for itself alone
+-- the component has no wildcard
 abbrev pub is_literal : Text → Bool
 is_literal component = not (list_any is_wildcard component)
 
@@ -56,7 +56,7 @@ pub data ComponentKind : Type 0 where
 abbrev pub component_kind : Text → ComponentKind
 component_kind t = if is_literal t then Literal else if is_recursive t then Recursive else Wild
 
--- the component matches the name, by their characters
+-- the component matches the name, by characters
 abbrev pub matches_name : MatchOptions → (component name : Text) → Bool
 matches_name o component name = is_match o (chars component) (chars name)
 
@@ -64,6 +64,6 @@ abbrev pub first_fault : List Text → Option Fault
 first_fault [] = None
 first_fault (t ∷ ts) = option_or (result_err (reading_of (chars t))) (first_fault ts)
 
--- the fault of a walk's pattern: that of the whole text, or else that of the first component which has one
+-- the fault of a walk's pattern: that of the whole text or, if that has none, of the first component that has one
 unfoldable pub walk_fault : Text → Option Fault
 walk_fault pattern = first_fault (pattern ∷ components pattern)

@@ -5,7 +5,7 @@ use Rattle.std.specs.declared.io.ErrorKind.TheVariants.{OutOfMemory, Other}
 use Rattle.glob_walk.specs.declared.error.GlobCause.{GlobCause}
 use Rattle.glob_walk.specs.declared.error.GlobCause.TheVariants.{Read, Memory, Limit}
 
--- The kind of I/O error that the cause has: any, where reading failed.
+-- The kind of I/O error for a cause; for a failed read, any kind.
 abbrev pub HasKind : GlobCause → ErrorKind → Type 0
 HasKind Read kind = ⊤
 HasKind Memory kind = kind ≡ OutOfMemory

@@ -1,4 +1,4 @@
--- What is known of a path that a walk could not read.
+-- The parts of a walk's error.
 use Rattle.std.specs.Prelude.{ℕ, List}
 use Rattle.std.specs.Path.{path_buf_bytes}
 use Rattle.std.specs.declared.io.Error.{Error}
@@ -13,6 +13,6 @@ path_of e = path_buf_bytes e.path
 abbrev pub error_of : {A : Type 0} → GlobError A → Error
 error_of e = e.error
 
--- why it came
+-- the cause
 abbrev pub cause_of : {A : Type 0} → GlobError A → GlobCause
 cause_of e = e.cause

@@ -1,4 +1,4 @@
--- What a walk is for: the texts of the keys below its start that the undivided pattern matches.
+-- The goal of a walk: the texts of the keys below its start that the undivided pattern matches.
 use Rattle.std.specs.Prelude.{◌≡◌, ◌≢◌, Bool, true, false, ◌&&◌, ◌||◌, not, if◌then◌else◌, List, [], ◌∷◌, ◌++◌, filter_map, Contains, bytes_eq, Option, Some, None, is_none, option_and_then, ◌⊎◌, ◌↔◌, IsTrue}
 use Rattle.std.specs.List.{list_all, join_with_byte}
 use Rattle.std.specs.Str.{chars, IsUtf8}
@@ -15,7 +15,7 @@ use Rattle.glob_pattern.specs.declared.options.MatchOptions.{MatchOptions}
 use Rattle.glob_tree.specs.declared.kind.Kind.{Kind}
 use Rattle.glob_tree.specs.declared.kind.Kind.TheVariants.{Dir, Shut, Other}
 
--- The component is neither empty, nor `.`, nor `..`; and if it has a wildcard and begins with a dot, `**` is before it.
+-- The component is not empty, `.` or `..`; and if it has a wildcard and begins with a dot, it is right after `**`.
 abbrev pub is_plain_component : (after_recursive : Bool) → Text → Bool
 is_plain_component after_recursive t =
     not (is_empty t) && not (is_current_or_parent t) && (is_literal t || not (begins_with dot t) || after_recursive)
@@ -24,20 +24,20 @@ abbrev pub are_plain : (after_recursive : Bool) → List Text → Bool
 are_plain after_recursive [] = true
 are_plain after_recursive (t ∷ ts) = is_plain_component after_recursive t && are_plain (is_recursive t) ts
 
--- The pattern has no fault, and no component whose meaning is not that of the undivided text: an empty one, `.`, `..`,
+-- The pattern has no fault, and no component that means something else in the undivided text: an empty one, `.`, `..`,
 -- or one that may find the special names `.` and `..` of a directory.
 unfoldable pub is_plain : (pattern : Text) → Bool
 is_plain pattern = is_none (walk_fault pattern) && are_plain false (components pattern)
 
--- the key at which the walk starts
+-- the key where the walk starts
 abbrev pub start_key : Content → (pattern : Text) → Key
 start_key c pattern = if has_root pattern then [] else c.current
 
--- the text of a key that has these names past the start
+-- the text of a key that has these names after the start
 abbrev pub text_below : (pattern : Text) → Key → Text
 text_below pattern names = if has_root pattern then slash ∷ join_with_byte slash names else join_with_byte slash names
 
--- case-sensitive, with the separator rule, and the dot rule as the walk has it
+-- case-sensitive, with the separator rule, and with the walk's dot rule
 abbrev pub goal_options : MatchOptions → MatchOptions
 goal_options o = record o { case_sensitive = true; require_literal_separator = true }
 
@@ -50,29 +50,29 @@ ends_recursive [] = false
 ends_recursive (t ∷ []) = is_recursive t
 ends_recursive (t ∷ u ∷ us) = ends_recursive (u ∷ us)
 
--- a pattern that ends in a separator or in `**` matches directories alone
+-- a pattern that ends in a separator or in `**` matches only directories
 abbrev pub matches_kind : (pattern : Text) → Kind → Bool
 matches_kind pattern kind = is_dir kind || not (wants_directories pattern || ends_recursive (components pattern))
 
--- the text of the names past the start of a key of this kind, if the pattern matches it
+-- the text of a key of this kind with these names after the start, if the pattern matches it
 abbrev pub goal_text : MatchOptions → (pattern : Text) → Kind → Key → Option Text
 goal_text o pattern kind [] = None
 goal_text o pattern kind (n ∷ ns) =
     if matches_kind pattern kind && matches_undivided o pattern (text_below pattern (n ∷ ns))
     then Some (text_below pattern (n ∷ ns)) else None
 
--- the texts that a walk is to find, in no order
+-- the texts that a walk has to find, in any order
 unfoldable pub goal : Content → MatchOptions → (pattern : Text) → List Text
 goal c o pattern =
     filter_map (λ e. option_and_then (goal_text o pattern e.1) (names_past (start_key c pattern) e.0)) c.kinds
 
--- A component takes a name: one that stands for itself takes that name alone, unless `**` is before it, and another each
+-- A component takes a name: a literal one only the name equal to it, unless it is right after `**`; any other, each
 -- name that it matches.
 abbrev pub walk_takes_name : MatchOptions → (after_recursive : Bool) → (component name : Text) → Bool
 walk_takes_name o after_recursive t n = if after_recursive || not (is_literal t) then matches_name o t n else bytes_eq t n
 
--- The components take the names: `**` any number of them that are open to it, at the end at least one, and another
--- component one name.
+-- The components take the names: `**` any number of those that the dot rule lets it take (at the end at least one), and
+-- any other component one name.
 abbrev pub walk_takes : MatchOptions → (after_recursive : Bool) → (components names : List Text) → Bool
 walk_takes o after [] [] = true
 walk_takes o after [] (n ∷ ns) = false
@@ -82,14 +82,14 @@ walk_takes o after (t ∷ u ∷ us) names =
     if is_recursive t then run_before o (walk_takes o true (u ∷ us)) names
     else name_before (walk_takes_name o after t) (walk_takes o false (u ∷ us)) names
 
--- the text of the names past the start of a key of this kind, if the components take them
+-- the text of a key of this kind with these names after the start, if the components take them
 abbrev pub taken_text : MatchOptions → (pattern : Text) → Kind → Key → Option Text
 taken_text o pattern kind [] = None
 taken_text o pattern kind (n ∷ ns) =
     if matches_kind pattern kind && walk_takes o false (components pattern) (n ∷ ns)
     then Some (text_below pattern (n ∷ ns)) else None
 
--- The texts that a walk is to find, case-sensitively or not, in no order. Case-sensitively they are the goal.
+-- The texts that a walk has to find, case-sensitively or not, in any order. Case-sensitively they are the goal.
 unfoldable pub taken_goal : Content → MatchOptions → (pattern : Text) → List Text
 taken_goal c o pattern =
     filter_map (λ e. option_and_then (taken_text o pattern e.1) (names_past (start_key c pattern) e.0)) c.kinds
@@ -99,22 +99,22 @@ is_shut Dir = false
 is_shut (Shut kind) = true
 is_shut Other = false
 
--- neither the start nor a key below it is shut
+-- neither the start nor a key below it is a directory that cannot be listed
 unfoldable pub is_readable : Content → (pattern : Text) → Bool
 is_readable c pattern = list_all (λ e. not (is_shut e.1) || is_none (names_past (start_key c pattern) e.0)) c.kinds
 
--- a plain walk: over a content, after a plain pattern
+-- a plain walk: of a plain pattern over a content
 pub record IsPlainWalk (c : Content) (pattern : Text) : Type 0 where
   pub content : IsTrue (is_content c)
   pub text : IsUtf8 pattern
   pub plain : IsTrue (is_plain pattern)
 
--- a plain walk, case-sensitively
+-- a case-sensitive plain walk
 pub record IsSensitiveWalk (c : Content) (o : MatchOptions) (pattern : Text) : Type 0 where
   pub plain : IsPlainWalk c pattern
   pub case : IsTrue o.case_sensitive
 
--- the text is that of a key below a shut one, to which the path of an error item leads
+-- the text is that of a key below a directory that cannot be listed, which an error item reports
 pub record IsHidden (c : Content) (pattern : Text) (given : List Item) (text : Text) : Type 0 where
   pub path : Text
   pub kind : ErrorKind
@@ -128,13 +128,13 @@ pub record IsHidden (c : Content) (pattern : Text) (given : List Item) (text : T
   pub extends : start_key c pattern ++ names ≡ above ++ below
   pub same : text ≡ text_below pattern names
 
--- each path is wanted, and if the walk is whole, each text that is wanted is a path or hidden
+-- each path is wanted; if the walk is whole, each wanted text is a path or is hidden
 pub record ReachesTexts (c : Content) (pattern : Text) (wanted : List Text) (IsWhole : Type 0) (given : List Item) : Type 0 where
   pub sound : (text : Text) → Contains (paths given) text → Contains wanted text
   pub complete : IsWhole → (text : Text) → Contains wanted text
       → Contains (paths given) text ⊎ IsHidden c pattern given text
 
--- no item is an error, and the paths are exactly those that are wanted
+-- no item is an error, and the paths are exactly the wanted texts
 pub record GivesTexts (wanted : List Text) (given : List Item) : Type 0 where
   pub readable : (path : Text) (kind : ErrorKind) → ¬ (Contains given (Unread path kind))
   pub exact : (text : Text) → Contains (paths given) text ↔ Contains wanted text

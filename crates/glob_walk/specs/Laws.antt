@@ -13,32 +13,32 @@ use Rattle.glob_walk.specs.Order.{IsOrderly}
 use Rattle.glob_pattern.specs.declared.options.MatchOptions.{MatchOptions}
 use Rattle.glob_pattern.specs.Matching.Components.{takes_names}
 
--- names as the keys of a content have them
+-- names that the keys of a content may have
 abbrev pub are_names : List Text → Bool
 are_names names = list_all (λ name. is_utf8 name && is_proper name) names
 
--- Case-sensitively, a plain pattern without a separator at its end matches the text of names below the start, under the
--- separator rule, exactly where its components take the names.
+-- Case-sensitively and under the separator rule, a plain pattern without a separator at its end matches the text of
+-- names below the start exactly if its components take the names.
 abbrev pub PlainMatchesLevels : Type 0
 PlainMatchesLevels =
     (o : MatchOptions) (pattern : Text) → IsUtf8 pattern → IsTrue (is_plain pattern) → IsTrue o.case_sensitive
     → (n : Text) (ns : List Text) → IsTrue (are_names (n ∷ ns))
     → matches_undivided o pattern (text_below pattern (n ∷ ns)) ≡ takes_names o (matches_name o) (components pattern) (n ∷ ns)
 
--- of a plain walk, each path among a beginning of the items is a goal, and all the items reach the goal
+-- in a case-sensitive plain walk, each path in a prefix of the items is a goal, and all items together reach the goal
 abbrev pub SensitiveWalkReaches : Type 0
 SensitiveWalkReaches =
     (c : Content) (o : MatchOptions) (pattern : Text) → IsSensitiveWalk c o pattern
     → (given : List Item) → IsBeginning given (items (listing c o pattern))
     → ReachesGoal c o pattern (given ≡ items (listing c o pattern)) given
 
--- over a readable content the items of a plain walk are exactly the goal
+-- over a readable content, the items of a case-sensitive plain walk are exactly the goal
 abbrev pub SensitiveWalkGives : Type 0
 SensitiveWalkGives =
     (c : Content) (o : MatchOptions) (pattern : Text) → IsSensitiveWalk c o pattern → IsTrue (is_readable c pattern)
     → GivesGoal c o pattern (items (listing c o pattern))
 
--- case-sensitively or not, the same holds of the keys whose names the components take
+-- case-sensitively or not, the same holds for the keys whose names the components take
 abbrev pub TakenWalkReaches : Type 0
 TakenWalkReaches =
     (c : Content) (o : MatchOptions) (pattern : Text) → IsPlainWalk c pattern
@@ -55,12 +55,12 @@ PlainWalkOrderly =
     (c : Content) (o : MatchOptions) (pattern : Text) → IsPlainWalk c pattern
     → (given : List Item) → IsBeginning given (items (listing c o pattern)) → IsOrderly pattern (paths given)
 
--- case-sensitively these keys are those whose texts the undivided pattern matches
+-- case-sensitively, these are the keys whose texts the undivided pattern matches
 abbrev pub TakenGoalIsGoal : Type 0
 TakenGoalIsGoal = (c : Content) (o : MatchOptions) (pattern : Text) → IsSensitiveWalk c o pattern → taken_goal c o pattern ≡ goal c o pattern
 
--- What components cost at most for each of n keys: a polynomial in n, whose degree is at most the number of places with
--- `**`, `**/**` being one.
+-- What components cost at most for each of n keys: a polynomial in n. Its degree is at most the number of places with
+-- `**`; `**/**` is one place.
 abbrev pub cost_per_key : (n : ℕ) → (components : List Text) → ℕ
 cost_per_key n [] = 0
 cost_per_key n (t ∷ ts) =
@@ -68,24 +68,24 @@ cost_per_key n (t ∷ ts) =
     else if begins_recursive ts then cost_per_key n ts
     else 2 + n * cost_per_key n ts
 
--- the whole walk of a plain pattern costs at most one unit, and this for each key of the content
+-- the whole walk of a plain pattern costs at most one unit, plus this for each key of the content
 abbrev pub PlainWalkCosts : Type 0
 PlainWalkCosts =
     (c : Content) (o : MatchOptions) (pattern : Text) → IsPlainWalk c pattern
     → cost (listing c o pattern) ≤ 1 + cost_per_key (length c.kinds) (components pattern) * length c.kinds
 
--- as many levels as `levels` or more give the same marks of a descent below a directory
+-- `levels` levels, and any greater number, give the same marks of a descent below a directory
 abbrev pub EnoughLevelsAgree : Type 0
 EnoughLevelsAgree =
     (c : Content) (o : MatchOptions) (each : Text → Text → Bool → List Mark) (path : Text) (k : Key)
     → IsTrue (is_content c) → resolve c path ≡ Some k → IsTrue (is_dir_at c k)
     → (n m : ℕ) → levels c ≤ n → levels c ≤ m → descent c o each n path ≡ descent c o each m path
 
--- the order in which the listing has entries is one of them all, and each name is at most those after it
+-- the listing has the same entries, and each name is not after those that follow
 pub record IsAscendingOrder (entries sorted : List DirEntry) : Type 0 where
   pub same : IsPermutation entries sorted
   pub rising : AllPairs (λ e later. IsTrue (is_before e later)) sorted
 
--- entries are put in ascending byte order of names, and none is lost or added
+-- sorting puts entries into ascending byte order of names, and loses and adds none
 abbrev pub EntriesAscend : Type 0
 EntriesAscend = (entries : List DirEntry) → IsAscendingOrder entries (sorted_entries entries)

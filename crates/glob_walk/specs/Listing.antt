@@ -13,77 +13,76 @@ use Rattle.glob_pattern.specs.Matching.Components.{is_open}
 use Rattle.glob_pattern.specs.declared.options.MatchOptions.{MatchOptions}
 use Rattle.glob_tree.specs.declared.tree.Look.{Look}
 
--- what comes of a path or of an entry's name, by whether it is a directory's
+-- what follows at a path or at an entry's name; the flag says whether it is a directory
 abbrev pub Next : Type 0
 Next = Text → Bool → List Mark
 
--- The path is looked up, and if it is there, `next` says what comes of it, by whether it is a directory's.
+-- Looks the path up. If it is there, `next` says what follows.
 abbrev pub look_up : Content → (is_found : Look → Bool) → (next : Next) → Text → List Mark
 look_up c is_found next path =
     Work path ∷ (if is_found (look_result c path) then next path (is_directory (look_result c path)) else [])
 
--- A component that stands for itself is looked up, and no option touches it. `.` and `..` are there in a directory.
+-- A literal component is looked up by name, whatever the options. `.` and `..` are there exactly in a directory.
 abbrev pub by_name : Content → (next : Next) → (component path : Text) → Bool → List Mark
 by_name c next component path d =
     look_up c (λ seen. if is_current_or_parent component then d else is_there seen) next (child path component)
 
--- What comes of a listing: a unit for each entry, what stands before the entries, and then what comes of each in
--- ascending byte order of names; or else an error. Over a content only directories are listed, so nothing comes of the
--- last case.
+-- What follows a listing: one unit for each entry, then `before`, then what follows at each entry in ascending byte
+-- order of names; or an error. Over a content only directories are listed, so the last case does not occur.
 abbrev pub after_listing : Text → (before : List Mark) → (each : Next) → ListAnswer → List Mark
 after_listing path before each (Entries entries) =
     replicate (length entries) (Work path) ++ before ++ flat_map (λ e. each e.0 e.1) (sorted_entries entries)
 after_listing path before each (Fails kind) = Give (Unread path kind) ∷ []
 after_listing path before each NoDirectory = []
 
--- the directory is listed
+-- lists a directory
 abbrev pub list_directory : Content → Text → (before : List Mark) → (each : Next) → List Mark
 list_directory c path before each = Work path ∷ after_listing path before each (list_result c path)
 
--- `..` or `.` in a directory, where the component matches it
+-- looks up `..` or `.` in a directory, if the component matches that name
 abbrev pub special_name : Content → MatchOptions → (next : Next) → (component path name : Text) → List Mark
 special_name c o next component path name =
     if matches_name o component name then look_up c (λ seen. true) next (join path name) else []
 
--- first `..` and then `.`, for a component that begins with a dot
+-- first `..` and then `.`, if the component begins with a dot
 abbrev pub special_names : Content → MatchOptions → (next : Next) → (component path : Text) → List Mark
 special_names c o next component path =
     if begins_with dot component
     then special_name c o next component path parent_dir ++ special_name c o next component path cur_dir
     else []
 
--- what comes of an entry where the component matches its name
+-- what follows at an entry, if the component matches its name
 abbrev pub match_at : MatchOptions → (next : Next) → (component path name : Text) → Bool → List Mark
 match_at o next component path name d = if matches_name o component name then next path d else []
 
--- a component with wildcards meets the special names and then the entries of a directory
+-- a component with wildcards meets the special names, and then the entries of a directory
 abbrev pub by_match : Content → MatchOptions → (next : Next) → (component path : Text) → List Mark
 by_match c o next component path =
     list_directory c path (special_names c o next component path) (λ name d. match_at o next component (child path name) name d)
 
--- `**` enters the entry: a directory whose name it may take
+-- `**` enters the entry: a directory whose name the dot rule lets it take
 abbrev pub is_entered : MatchOptions → (name : Text) → Bool → Bool
 is_entered o name d = d && is_open o name
 
--- `**` from a directory on, down n levels: of each entry `each` says what comes of it by its path and name,
--- and then it is entered.
+-- `**` from a directory on, down n levels: at each entry, `each` says what follows by its path and name, and then it is
+-- entered.
 unfoldable pub descent : Content → MatchOptions → (each : Text → Text → Bool → List Mark) → ℕ → (path : Text) → List Mark
 descent c o each zero path = []
 descent c o each (suc n) path =
     list_directory c path [] (λ name d.
     each (child path name) name d ++ (if is_entered o name d then descent c o each n (child path name) else []))
 
--- the number of names of the longest key
+-- the number of names in the longest key
 abbrev pub deepest : Content → ℕ
 deepest c = fold (λ n e. max n (length e.0)) 0 c.kinds
 
--- more levels than the longest key has names, so that a descent of so many levels meets each key below it
+-- one level more than that, so a descent meets each key below it
 abbrev pub levels : Content → ℕ
 levels c = suc (deepest c)
 
 module _ (c : Content) (o : MatchOptions) (directories : Bool) where
   unfoldable mutual
-    -- what comes of a path, which is a directory's where d holds, with these components left
+    -- what follows at a path with these components left; d says whether it is a directory
     pub enter : List Text → (path : Text) → Bool → List Mark
     enter [] path d = if not directories || d then Give (Found path) ∷ [] else []
     enter (t ∷ ts) path d = elim (component_kind t) [
@@ -95,21 +94,21 @@ module _ (c : Content) (o : MatchOptions) (directories : Bool) where
           else []
     ]
 
-    -- what comes of an entry under `**`, with these components left after it
+    -- what follows at an entry under `**`, with these components after it
     pub meet : List Text → (path name : Text) → Bool → List Mark
     meet [] path name d = if is_entered o name d then Give (Found path) ∷ [] else []
     meet (t ∷ ts) path name d = match_at o (enter ts) t path name d
 
--- what a walk looks for from its beginning to its end
+-- what a walk looks for; it never changes
 pub record Aim : Type 0 where
   pub options : MatchOptions
-  -- from the root, and not from the current directory
+  -- it starts at the root, and not in the current directory
   pub rooted : Bool
   pub components : List Text
-  -- directories alone are given
+  -- only directories are given
   pub directories : Bool
 
--- the whole written listing of a walk that looks for it, over any content
+-- the whole written listing of a walk that looks for this, over a content
 abbrev pub listing_of : Content → Aim → List Mark
 listing_of c aim = look_up c (λ seen. true) (enter c aim.options aim.directories aim.components)
     (if aim.rooted then root_dir else cur_dir)

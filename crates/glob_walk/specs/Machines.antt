@@ -1,21 +1,22 @@
--- A walk that asks its caller: what contracts see of it, and what each of its steps does.
-use Rattle.std.specs.Prelude.{◌≡◌, ℕ, ◌+◌, ◌≤◌, Bool, true, false, List, ◌∷◌, Option, Some, None}
+-- A walk that asks its caller: what contracts see of it, and what each step does.
+use Rattle.std.specs.Prelude.{◌≡◌, ℕ, ◌+◌, ◌≤◌, Bool, true, false, List, [], ◌∷◌, ◌++◌, Option, Some, None, Result, is_some}
 use Rattle.std.specs.IoError.{error_kind}
+use Rattle.std.specs.declared.path.buf.PathBuf.{PathBuf}
 use Rattle.glob_text.specs.Text.{Text}
 use Rattle.glob_tree.specs.Content.{Content}
 use Rattle.glob_tree.specs.declared.tree.ListError.{ListError}
 use Rattle.glob_tree.specs.declared.tree.ListError.TheVariants.{Read, Memory}
 use Rattle.glob_walk.specs.Listing.{Aim, listing_of}
-use Rattle.glob_walk.specs.Marks.{Mark, Work, Unread}
+use Rattle.glob_walk.specs.Marks.{Mark, Item, Work, Unread, IsUpTo}
 use Rattle.glob_walk.specs.Questions.{Question, IsLook, IsListWith, question_path}
-use Rattle.glob_walk.specs.Iterating.{Charges, TakesFront, is_last, item_number}
-use Rattle.glob_walk.specs.Walks.{Outcome, Gives, LimitAt, NoMemory, outcome}
+use Rattle.glob_walk.specs.Walks.{Outcome, Gives, LimitAt, NoMemory, outcome, refusal_end}
+use Rattle.glob_walk.specs.declared.error.GlobError.{GlobError}
 use Rattle.glob_walk.specs.declared.machine.Step.{Step}
 use Rattle.glob_walk.specs.declared.machine.Step.TheVariants as step
 
--- How far a walk has come is its own affair, of a type of its own. What a caller knows of it is which part of the written
--- listing is left over a content, where the unit of an open question is charged, and whether the answers so far agree
--- with a content.
+-- How far a walk has come is private, and has a type of its own. A caller knows three things of it: what is left of the
+-- written listing over a content, where the unit of an open question is charged, and whether the answers so far agree
+-- with a content. This crate's type is `Walk A`; no statement depends on what it is.
 pub record Progress : Type 1 where
   pub State : Type 0
   pub left : Content → State → List Mark
@@ -24,9 +25,9 @@ pub record Progress : Type 1 where
 -- what contracts see of a walk that asks its caller
 pub record MachineState (P : Progress) : Type 0 where
   pub limit : ℕ
-  -- the units of work that were charged, that of an open question too
+  -- the units of work that were charged, including that of an open question
   pub spent : ℕ
-  -- the items that were given, a refusal too
+  -- the items that were given, including a refusal
   pub given : ℕ
   -- only `Done` follows
   pub over : Bool
@@ -41,12 +42,13 @@ pub record MachineState (P : Progress) : Type 0 where
 abbrev pub left_of : {P : Progress} → Content → MachineState P → List Mark
 left_of {P} c walk = P.left c walk.state
 
--- It holds of each content at first, and each answer that is that of a content keeps it of that content.
+-- The answers so far agree with the content. At first they do with each content, and an answer of that content keeps it
+-- so.
 abbrev pub Agrees : {P : Progress} → Content → MachineState P → Type 0
 Agrees {P} c walk = P.Agrees c walk.state
 
 -- a walk that has done nothing yet
-pub record IsFreshMachine {P : Progress} (most : ℕ) (walk : MachineState P) : Type 0 where
+pub record IsFresh {P : Progress} (most : ℕ) (walk : MachineState P) : Type 0 where
   pub limit : walk.limit ≡ most
   pub spent : walk.spent ≡ 0
   pub given : walk.given ≡ 0
@@ -55,8 +57,8 @@ pub record IsFreshMachine {P : Progress} (most : ℕ) (walk : MachineState P) : 
   pub agrees : (c : Content) → Agrees c walk
   pub whole : (c : Content) → left_of c walk ≡ listing_of c walk.aim
 
--- What a step says: that a look or a listing is asked for, with the kinds of the entries or their names alone, an item or a
--- refusal, or that nothing is left.
+-- What a step says: it asks for a look, or for a listing with kinds or only names; it gives an item or a refusal; or
+-- nothing is left.
 pub data Saying : Type 0 where
   AsksLook : Saying
   AsksList : (kinds : Bool) → Saying
@@ -70,25 +72,31 @@ saying step.ListNames = AsksList false
 saying (step.Item item) = Says (outcome item)
 saying step.Done = Ends
 
--- the item after a listing that failed
+-- what the next item of a walk says, or that there is none
+abbrev pub next_saying : {A : Type 0} → Option (Result (PathBuf A) (GlobError A)) → Saying
+next_saying (Some item) = Says (outcome item)
+next_saying None = Ends
+
+-- the item after a failed listing
 abbrev pub list_error_outcome : (path : Text) → ListError → Outcome
 list_error_outcome path (Read e) = Gives (Unread path (error_kind e))
 list_error_outcome path Memory = NoMemory
 
--- the item of a step
-abbrev pub step_outcome : Saying → Option Outcome
-step_outcome AsksLook = None
-step_outcome (AsksList kinds) = None
-step_outcome (Says o) = Some o
-step_outcome Ends = None
+-- the number of items that it gives
+abbrev pub item_number : Saying → ℕ
+item_number AsksLook = 0
+item_number (AsksList kinds) = 0
+item_number (Says o) = 1
+item_number Ends = 0
 
 -- only `Done` follows
-abbrev pub is_last_step : Saying → Bool
-is_last_step AsksLook = false
-is_last_step (AsksList kinds) = false
-is_last_step s = is_last (step_outcome s)
+abbrev pub is_last : Saying → Bool
+is_last AsksLook = false
+is_last (AsksList kinds) = false
+is_last (Says o) = is_some (refusal_end o)
+is_last Ends = true
 
--- the unit of a question
+-- the cost of the question that it asks
 abbrev pub step_units : Saying → ℕ
 step_units AsksLook = 1
 step_units (AsksList kinds) = 1
@@ -102,46 +110,58 @@ IsAskedAfter (AsksList kinds) q = IsListWith kinds q
 IsAskedAfter (Says o) q = q ≡ None
 IsAskedAfter Ends q = q ≡ None
 
--- What is charged where so many entries were answered: a unit for each, and one for the next question. At a limit refusal
--- all of the limit is spent, and it does not pay for the entries and one unit more.
+-- What is charged for n entries in the answer: one unit each, and one for the next question. At a limit refusal the
+-- whole limit is spent, and does not pay for the entries and one unit more.
 abbrev pub IsCharged : {P : Progress} → ℕ → MachineState P → Saying → MachineState P → Type 0
 IsCharged n old (Says (LimitAt path)) new = (new.spent ≡ new.limit) × (new.limit ≤ old.spent + n)
 IsCharged n old s new = new.spent ≡ old.spent + n + step_units s
 
--- whatever was answered: what a step does to the counts
-pub record StepCounts {P : Progress} (n : ℕ) (old : MachineState P) (s : Saying) (new : MachineState P) : Type 0 where
+-- the counts up to a step, or up to the next item, whatever the answers
+pub record Counts {P : Progress} (old : MachineState P) (s : Saying) (new : MachineState P) : Type 0 where
   pub limit : new.limit ≡ old.limit
   pub aim : new.aim ≡ old.aim
   pub grows : old.spent ≤ new.spent
   pub within : new.spent ≤ new.limit
-  pub charged : IsCharged n old s new
-  pub given : new.given ≡ old.given + item_number (step_outcome s)
+  pub given : new.given ≡ old.given + item_number s
   pub few : new.given ≤ new.spent + 1
-  pub asks : IsAskedAfter s new.asked
-  pub ends : new.over ≡ is_last_step s
+  pub ends : new.over ≡ is_last s
   pub stays : old.over ≡ true → (s ≡ Ends) × (new ≡ old)
 
--- the next unit is at the path, and it and the ones before it are charged
-pub record AsksNext (left : List Mark) (spent : ℕ) (path : Text) (after : List Mark) (spent' : ℕ) : Type 0 where
+-- the same for one step, with what it asks and charges
+pub record StepCounts {P : Progress} (n : ℕ) (old : MachineState P) (s : Saying) (new : MachineState P) : Type 0 where
+  pub counts : Counts old s new
+  pub charged : IsCharged n old s new
+  pub asks : IsAskedAfter s new.asked
+
+-- For a content that gave the answers: these items were given. They and the charged units are a prefix of the written
+-- listing, and the rest is what is left of the walk.
+pub record HasGiven {P : Progress} (listing : List Mark) (c : Content) (given : List Item) (walk : MachineState P) : Type 0 where
+  pub agrees : Agrees c walk
+  pub going : walk.over ≡ false
+  pub upto : IsUpTo listing walk.spent given (left_of c walk)
+
+-- What the next step does to it: a question keeps it, an item is the next one, `Done` means that it was all, a limit
+-- refusal that the next unit does not fit, and an allocation failure that what was charged is a prefix of the listing.
+abbrev pub GivesNext : {P : Progress} → List Mark → Content → List Item → Saying → MachineState P → Type 0
+GivesNext listing c given AsksLook walk = HasGiven listing c given walk
+GivesNext listing c given (AsksList kinds) walk = HasGiven listing c given walk
+GivesNext listing c given (Says (Gives item)) walk = HasGiven listing c (given ++ item ∷ []) walk
+GivesNext listing c given (Says (LimitAt path)) walk =
+    (walk.spent ≡ walk.limit) × (rest : List Mark) × IsUpTo listing walk.spent given (Work path ∷ rest)
+GivesNext listing c given (Says NoMemory) walk = (rest : List Mark) × IsUpTo listing walk.spent given rest
+GivesNext listing c given Ends walk = IsUpTo listing walk.spent given []
+
+-- the last charged unit is that of a question at the path
+pub record AsksNext (listing : List Mark) (given : List Item) (path : Text) (spent : ℕ) (left : List Mark) : Type 0 where
   pub before : ℕ
-  pub charges : Charges left spent (Work path ∷ after) before
-  pub unit : spent' ≡ before + 1
+  pub unit : spent ≡ before + 1
+  pub upto : IsUpTo listing before given (Work path ∷ left)
 
--- what a step takes from the front of what was left
-abbrev pub TakesStep : (old : List Mark) → (spent : ℕ) → Saying → Option Question → (new : List Mark) → (spent' : ℕ)
-    → Type 0
-TakesStep old spent AsksLook q new spent' = AsksNext old spent (question_path q) new spent'
-TakesStep old spent (AsksList kinds) q new spent' = AsksNext old spent (question_path q) new spent'
-TakesStep old spent (Says o) q new spent' = TakesFront old spent (Some o) new spent'
-TakesStep old spent Ends q new spent' = TakesFront old spent None new spent'
-
--- Over a content: the answers so far are still its own, and the step is the next of its written listing.
-pub record StepTakes {P : Progress} (old : MachineState P) (s : Saying) (new : MachineState P) (c : Content) : Type 0 where
-  pub agrees : Agrees c new
-  pub takes : TakesStep (left_of c old) old.spent s new.asked (left_of c new) new.spent
-
--- What one step does: the counts whatever was answered, and the rest over each content that has answered as the caller did.
+-- What one step does: the counts, whatever the answer, and the rest for each content that gave the caller's answers.
 pub record StepGoes {P : Progress} (Fits : Content → Type 0) (n : ℕ) (old : MachineState P) (s : Saying) (new : MachineState P)
     : Type 0 where
   pub counts : StepCounts n old s new
-  pub takes : (c : Content) → Fits c → old.over ≡ false → Agrees c old → StepTakes old s new c
+  pub gives : (c : Content) → Fits c → (listing : List Mark) (given : List Item) → HasGiven listing c given old
+      → GivesNext listing c given s new
+  pub charges : (c : Content) → Fits c → (listing : List Mark) (given : List Item) → HasGiven listing c given old
+      → step_units s ≡ 1 → AsksNext listing given (question_path new.asked) new.spent (left_of c new)

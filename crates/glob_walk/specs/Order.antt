@@ -13,30 +13,30 @@ use Rattle.glob_walk.specs.Components.{components, is_recursive}
 abbrev pub from_first_recursive : List Text → List Text
 from_first_recursive ts = drop (prefix_len (λ t. not (is_recursive t)) ts) ts
 
--- the components after the first `**`, and those `**` that follow it at once
+-- the components after the first `**` and the `**` right after it
 abbrev pub after_first_recursive : List Text → List Text
 after_first_recursive ts = drop (prefix_len is_recursive (from_first_recursive ts)) (from_first_recursive ts)
 
--- `**` is in at most one place of the pattern, `**/**` being one
+-- the pattern has `**` in at most one place; `**/**` is one place
 abbrev pub has_one_recursive : (pattern : Text) → Bool
 has_one_recursive pattern = not (list_any is_recursive (after_first_recursive (components pattern)))
 
--- the pattern has no `**`, or one with at most one component after it
+-- the pattern has no `**`, or has it in one place with at most one component after it
 abbrev pub keeps_order : (pattern : Text) → Bool
 keeps_order pattern = has_one_recursive pattern && nat_le (length (after_first_recursive (components pattern))) 1
 
 abbrev pub names_of : (path : Text) → List Text
 names_of path = filter (λ piece. not (is_empty piece)) (pieces path)
 
--- name by name in the order of bytes, a list of names before one that extends it
+-- name by name in byte order; a list of names is before one that extends it
 abbrev pub path_cmp : Text → Text → Ordering
 path_cmp path other = slice_cmp (slice_cmp nat_cmp) (names_of path) (names_of other)
 
--- no path comes twice
+-- no path occurs twice
 abbrev pub IsOnce : List Text → Type 0
 IsOnce paths = AllPairs (λ path later. path ≢ later) paths
 
--- each path stands before those after it
+-- each path is before those that follow
 abbrev pub IsAscending : List Text → Type 0
 IsAscending paths = AllPairs (λ path later. path_cmp path later ≡ Less) paths
 

@@ -13,7 +13,7 @@ use Rattle.glob_walk.specs.declared.error.GlobError.{GlobError}
 use Rattle.glob_walk.specs.declared.ending.End.{End}
 use Rattle.glob_walk.specs.declared.ending.End.TheVariants.{Done}
 
--- what `walk_in` puts into `items`
+-- what `walk_in` appends to `items`
 abbrev pub Answers : (A : Type 0) → Type 0
 Answers A = List (Result (PathBuf A) (GlobError A))
 
@@ -22,27 +22,28 @@ item_of (Gives item) = Some item
 item_of (LimitAt path) = None
 item_of NoMemory = None
 
--- the items that they say
+-- the items in the answers
 abbrev pub given_items : {A : Type 0} → Answers A → List Item
 given_items answers = filter_map item_of (map outcome answers)
 
--- c is the known content of the tree, the pattern is plain, and the options keep case
-unfoldable pub WalksPlainly : (known : Option Content) → Content → MatchOptions → (pattern : Text) → Type 0
-WalksPlainly known c o pattern = IsTold known c × IsTrue (is_plain pattern) × IsTrue o.case_sensitive
+-- c is the tree's known content, the pattern is plain, and the walk is case-sensitive
+unfoldable pub WalksSensitively : (known : Option Content) → Content → MatchOptions → (pattern : Text) → Type 0
+WalksSensitively known c o pattern = IsTold known c × IsTrue (is_plain pattern) × IsTrue o.case_sensitive
 
--- each path is a goal, and where the walk is done each goal is a path or hidden
+-- each path is a goal, and if the walk is done, each goal is a path or is hidden
 unfoldable pub FindsGoal : {A : Type 0} → (known : Option Content) → MatchOptions → (pattern : Text) → End → Answers A → Type 0
 FindsGoal known o pattern end answers =
-    (c : Content) → WalksPlainly known c o pattern → ReachesGoal c o pattern (end ≡ Done) (given_items answers)
+    (c : Content) → WalksSensitively known c o pattern → ReachesGoal c o pattern (end ≡ Done) (given_items answers)
 
--- where the walk is done over a readable content, no item is an error, and the paths are exactly the goal
+-- if the walk over a readable content is done, no item is an error, and the paths are exactly the goal
 unfoldable pub FindsExactly : {A : Type 0} → (known : Option Content) → MatchOptions → (pattern : Text) → End → Answers A → Type 0
 FindsExactly known o pattern end answers =
-    (c : Content) → WalksPlainly known c o pattern → IsTrue (is_readable c pattern) → end ≡ Done
+    (c : Content) → WalksSensitively known c o pattern → IsTrue (is_readable c pattern) → end ≡ Done
     → GivesGoal c o pattern (given_items answers)
 
--- Case-sensitively or not, each path is one whose names the components take, once and in order as far as each `**` allows.
--- Where the walk is done each of these is a path or hidden, and over a readable content they are exactly the paths.
+-- Case-sensitively or not, the components take the names of each path, and the paths come once and in order as far as
+-- the places of `**` allow. If the walk is done, each key whose names they take is a path or is hidden, and over a
+-- readable content these are exactly the paths.
 unfoldable pub FindsTaken : {A : Type 0} → (known : Option Content) → MatchOptions → (pattern : Text) → End → Answers A → Type 0
 FindsTaken known o pattern end answers =
     (c : Content) → IsTold known c → IsTrue (is_plain pattern)

@@ -1,4 +1,4 @@
--- What is written of an error of a walk.
+-- How the errors of a walk print.
 use Rattle.std.specs.Prelude.{ℕ, List, ◌++◌, Option, Some, None, codes, option_map}
 use Rattle.glob_pattern.specs.Words.{out_of_memory}
 use Rattle.glob_walk.specs.GlobErrors.{path_of, cause_of}
@@ -6,7 +6,7 @@ use Rattle.glob_walk.specs.declared.error.GlobCause.{GlobCause}
 use Rattle.glob_walk.specs.declared.error.GlobCause.TheVariants as cause
 use Rattle.glob_walk.specs.declared.error.GlobError.{GlobError}
 
--- the words for a cause; of an I/O error nothing is promised
+-- the text for a cause; nothing is promised for an I/O error
 abbrev pub cause_words : GlobCause → Option (List ℕ)
 cause_words cause.Read = None
 cause_words cause.Memory = Some out_of_memory

@@ -10,8 +10,8 @@ use glob_pattern::{MatchOptions, Pattern, PatternRefusal};
 use std::alloc::{AllocError, Allocator};
 use std::marker::Model;
 
-/// What is kept of a component: of a literal one its text, of one with wildcards its pattern, and of `**` nothing more,
-/// since no name is matched with it.
+/// What is kept of a component: the text of a literal one, the pattern of one with wildcards, and for `**` nothing,
+/// since no name is matched against it.
 #[derive(Drop)]
 enum Form<A: Allocator> {
     Literal(String<A>),
@@ -37,7 +37,7 @@ impl<A: Allocator> Model for Component<A> {
 }
 
 impl<A: Allocator> Component<A> {
-    /// Its text.
+    /// The text of the component.
     pub fn as_str(&self) -> &str
         ensures { result.now ≡ self.now }
     {
@@ -48,7 +48,7 @@ impl<A: Allocator> Component<A> {
         }
     }
 
-    /// Whether it has no wildcard, and is looked up.
+    /// Whether it has no wildcard, and so is looked up by name.
     pub fn is_literal(&self) -> bool
         ensures { result ≡ is_literal_text self.now }
     {
@@ -70,7 +70,7 @@ impl<A: Allocator> Component<A> {
 }
 
 impl<A: Allocator + Copy> Component<A> {
-    /// Reads a component. One with a fault is refused with it; and any may be refused with `Memory`.
+    /// Reads a component. The error is its fault, or `Memory` if an allocation failed.
     pub fn read(alloc: A, text: &str) -> Result<Self, PatternRefusal>
         ensures text { IfOk result (λ component. component ≡ text.now) }
         ensures accepted { IfOk result (λ _. text_fault text.now ≡ None) }
@@ -86,7 +86,8 @@ impl<A: Allocator + Copy> Component<A> {
         Ok(Component { form })
     }
 
-    /// Refuses a text that has a fault, and keeps nothing of it. Any text with a wildcard may be refused with `Memory`.
+    /// Checks a text for a fault, and keeps nothing of it. The error is that fault, or `Memory` if an allocation
+    /// failed.
     pub fn check(alloc: A, text: &str) -> Result<(), PatternRefusal>
         ensures accepted { IfOk result (λ _. text_fault text.now ≡ None) }
         ensures refused { IfErr result (RefusesWith (text_fault text.now)) }
@@ -98,7 +99,7 @@ impl<A: Allocator + Copy> Component<A> {
         Ok(())
     }
 
-    /// Whether it is no `**` and matches the name.
+    /// Whether it matches the name; `**` matches none.
     pub fn matches(&self, name: &str, options: MatchOptions) -> Result<bool, AllocError>
         ensures { IfOk result (λ yes. yes ≡ takes_name options self.now name.now) }
     {
@@ -110,7 +111,7 @@ impl<A: Allocator + Copy> Component<A> {
     }
 }
 
-/// Whether the texts are the same, case-sensitively or not.
+/// Whether the texts are equal, case-sensitively or not.
 fn is_same_text(text: &str, other: &str, case_sensitive: bool) -> bool
     ensures { result ≡ same_texts case_sensitive text.now other.now }
 {
@@ -121,7 +122,7 @@ fn is_same_text(text: &str, other: &str, case_sensitive: bool) -> bool
     }
 }
 
-/// Compiles a text. One with a fault is refused with it; and any may be refused with `Memory`.
+/// Compiles a text. The error is its fault, or `Memory` if an allocation failed.
 fn compile<A: Allocator + Copy>(alloc: A, text: &str) -> Result<Pattern<A>, PatternRefusal>
     ensures text { IfOk result (λ pattern. pattern ≡ text.now) }
     ensures accepted { IfOk result (λ _. text_fault text.now ≡ None) }
@@ -137,7 +138,7 @@ pub fn is_recursive(component: &str) -> bool
     component == "**"
 }
 
-/// Whether the component stands for itself alone.
+/// Whether the component has no wildcard, and so matches only its own text.
 pub fn is_literal(component: &str) -> bool
     ensures { result ≡ is_literal_text component.now }
 {

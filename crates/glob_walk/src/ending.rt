@@ -5,19 +5,20 @@ ghost use Rattle.glob_walk.specs.Walks.{outcome, refusal_end};
 use crate::error::{GlobCause, GlobResult};
 use std::alloc::Allocator;
 
-/// How a walk ended. Over a file `x`, `*` needs 3 units: with the limit 3 it ends with `Done`, and with 2 with `Limit`.
+/// How a walk ended. Over a file `x`, `*` needs 3 units: it ends with `Done` at a limit of 3, and with `Limit` at a
+/// limit of 2.
 #[derive(Clone, Copy, Debug, PartialEq, Eq)]
 pub enum End {
-    /// All of it was done.
+    /// The walk is complete.
     Done,
     /// Out of memory: an allocation failed.
     Memory,
-    /// A further unit of work did not fit the limit.
+    /// The next unit of work did not fit the limit.
     Limit,
 }
 
-/// How a walk ended that gave this item, if that is a refusal: `None` for a path and for a directory that could not be
-/// listed, and `End::Limit` for an error with the cause `Limit`.
+/// How a walk ended if this item ended it: `None` for a path and for a directory that could not be listed, and
+/// `End::Limit` for an error with the cause `Limit`.
 pub fn end_of<A: Allocator>(item: &GlobResult<A>) -> Option<End>
     ensures { result ≡ refusal_end (outcome item.now) }
 {

@@ -1,4 +1,4 @@
-//! What stops a walk from reading a path.
+//! The errors of a walk.
 ghost use Rattle.std.specs.Prelude.{◌≡◌, []};
 ghost use Rattle.std.specs.IoError.{error_kind};
 ghost use Rattle.std.specs.Path.{path_bytes, path_buf_bytes};
@@ -9,22 +9,22 @@ use std::error::Error;
 use std::path::{Path, PathBuf};
 use std::{fmt, io};
 
-/// Why a walk reports a path as an error. A directory that may not be listed is a `Read`.
+/// Why a walk reports a path as an error: `Read` for a directory without read permission.
 #[derive(Clone, Copy, Debug, PartialEq, Eq)]
 pub enum GlobCause {
     /// The directory at the path could not be listed.
     Read,
-    /// Out of memory: an allocation failed, and the walk has ended. Nothing is promised of the error's path; in this
+    /// Out of memory: an allocation failed, and the walk has ended. Nothing is promised for the error's path; in this
     /// version it is empty.
     Memory,
-    /// The next unit of work, which is at the path, does not fit the walk's limit. The walk has ended.
+    /// The next unit of work does not fit the walk's limit. It is for this path. The walk has ended.
     Limit,
 }
 
 /// A path that a walk could not read, and why. No call on it takes memory.
 ///
-/// That of `a`, which may not be listed, has the path `a`, the cause `Read`, and an I/O error of the kind
-/// `PermissionDenied`. At a limit of 0 the first item has the path `.` and the cause `Limit`, and it prints as
+/// The error of a directory `a` without read permission has the path `a`, the cause `Read`, and an I/O error of the
+/// kind `PermissionDenied`. At a limit of 0 the first item has the path `.` and the cause `Limit`, and prints as
 /// ``attempting to read `.` resulted in an error: walk limit reached``.
 #[derive(Drop)]
 #[derive_where(Debug)]
@@ -35,7 +35,7 @@ pub struct GlobError<A: Allocator = Global> {
     ghost kind: { ∥ HasKind cause (error_kind error) ∥₁ },
 }
 
-/// An item of a walk: a path that the pattern leads to, as `Ok` of `src/a.rs`, or an error.
+/// An item of a walk: a path that the pattern leads to, such as `Ok` of `src/a.rs`, or an error.
 pub type GlobResult<A = Global> = Result<PathBuf<A>, GlobError<A>>;
 
 impl<A: Allocator> GlobError<A> {
@@ -54,7 +54,7 @@ impl<A: Allocator> GlobError<A> {
         }
     }
 
-    /// There was no memory to go on. The path is empty.
+    /// An allocation failed. The path is empty.
     pub(crate) fn memory(alloc: A) -> Self
         ensures path { path_of result ≡ [] }
         ensures cause { cause_of result ≡ GlobCause.Memory }
@@ -66,7 +66,7 @@ impl<A: Allocator> GlobError<A> {
         }
     }
 
-    /// The walk's limit was reached at the path.
+    /// The walk reached its limit at the path.
     pub(crate) fn limit(path: PathBuf<A>) -> Self
         ensures path { path_of result ≡ path_buf_bytes path }
         ensures cause { cause_of result ≡ GlobCause.Limit }
@@ -78,7 +78,7 @@ impl<A: Allocator> GlobError<A> {
         }
     }
 
-    /// The path that could not be read: `a` for the directory `a`. Where the cause is `Memory`, nothing is promised of
+    /// The path that could not be read: `a` for the directory `a`. If the cause is `Memory`, nothing is promised for
     /// it.
     pub fn path(&self) -> Path<'_>
         ensures { path_bytes result ≡ path_of self.now }
@@ -86,8 +86,8 @@ impl<A: Allocator> GlobError<A> {
         self.path.as_path()
     }
 
-    /// The I/O error, as of the kind `PermissionDenied` for a directory that may not be listed. Its kind is
-    /// `OutOfMemory` where the cause is `Memory`, and `Other` where it is `Limit`.
+    /// The I/O error, for example of the kind `PermissionDenied` for a directory without read permission. Its kind is
+    /// `Other` if the cause is `Limit`, and `OutOfMemory` if it is `Memory`.
     pub fn error(&self) -> &io::Error
         ensures error { result.now ≡ error_of self.now }
         ensures kind { HasKind (cause_of self.now) (error_kind result.now) }
@@ -95,7 +95,7 @@ impl<A: Allocator> GlobError<A> {
         &self.error
     }
 
-    /// The I/O error, as of [`error`](Self::error).
+    /// The I/O error that [`error`](Self::error) returns.
     pub fn into_error(self) -> io::Error
         ensures error { result ≡ error_of self }
         ensures kind { HasKind (cause_of self) (error_kind result) }
@@ -103,7 +103,7 @@ impl<A: Allocator> GlobError<A> {
         *self.error()
     }
 
-    /// Why the path could not be read: `Read` for a directory that may not be listed.
+    /// Why the path could not be read: `Read` for a directory without read permission.
     pub fn cause(&self) -> GlobCause
         ensures { result ≡ cause_of self.now }
     {
@@ -111,7 +111,7 @@ impl<A: Allocator> GlobError<A> {
     }
 }
 
-/// The I/O error of [`GlobError::error`].
+/// The I/O error that [`GlobError::error`] returns.
 impl<A: Allocator> From<GlobError<A>> for io::Error {
     ghost use Rattle.glob_walk.specs.GlobErrors.{error_of};
 
@@ -122,8 +122,8 @@ impl<A: Allocator> From<GlobError<A>> for io::Error {
     }
 }
 
-/// The path, and why it could not be read. Where the cause is `Read`, the words of the I/O error stand at the end, and
-/// nothing is promised of the whole text.
+/// The path, and why it could not be read. If the cause is `Read`, the text ends with what the I/O error prints, and
+/// nothing is promised for any of it.
 impl<A: Allocator> fmt::Display for GlobError<A> {
     ghost use Rattle.glob_walk.specs.Words.{glob_error_words};
 

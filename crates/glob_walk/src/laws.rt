@@ -1,4 +1,4 @@
-//! Laws of the definitions that contracts name, of patterns and of walks, with worked examples. Each is the contract of
+//! Laws of the definitions in the contracts, for patterns and for walks, with worked examples. Each is the contract of
 //! a function that does nothing. No program needs them.
 
 pub mod calls;

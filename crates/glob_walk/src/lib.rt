@@ -1,4 +1,4 @@
-//! The walk of a pattern over a tree, as a machine whose questions its caller answers.
+//! The walk of a pattern over a tree, as a machine whose caller answers its questions.
 #![tactic(auto)]
 
 mod component;

@@ -1,10 +1,10 @@
-//! A walk that asks its caller, and reads nothing itself.
-ghost use Rattle.std.specs.Prelude.{◌≡◌, ◌≤◌, ◌+◌, ℕ, List, [], None, IfOk, IfErr, string_bytes, if◌then◌else◌};
+//! A walk that asks its caller, and reads nothing by itself.
+ghost use Rattle.std.specs.Prelude.{◌≡◌, ◌≤◌, ◌+◌, ℕ, List, [], None, IfOk, IfErr, IsSome, string_bytes, if◌then◌else◌};
 ghost use Rattle.std.specs.Path.{root_dir, cur_dir};
 ghost use Rattle.glob_tree.specs.Answers.{IsTold, entry_count};
 ghost use Rattle.glob_tree.specs.Content.{Content};
 ghost use Rattle.glob_walk.specs.Listing.{listing_of, listing};
-ghost use Rattle.glob_walk.specs.Machines.{IsFreshMachine, Says, StepGoes, list_error_outcome, left_of, saying};
+ghost use Rattle.glob_walk.specs.Machines.{IsAskedAfter, IsFresh, Says, StepGoes, list_error_outcome, left_of, saying};
 ghost use Rattle.glob_walk.specs.Components.{walk_fault};
 ghost use Rattle.glob_walk.specs.Walks.{NoMemory, RefusesWith};
 ghost use Rattle.glob_walk.specs.Private.Stacks.{aim_of};
@@ -31,48 +31,48 @@ pub enum Step<A: Allocator = Global> {
     /// It asks for the entries of the directory at [`path`](WalkMachine::path), and [`listed`](WalkMachine::listed)
     /// answers.
     List,
-    /// It asks for the same, where the names alone matter: `is_dir` may be `false` at any entry.
+    /// It asks for the same, but needs only the names: `is_dir` may be `false` for any entry.
     /// [`listed`](WalkMachine::listed) answers.
     ListNames,
-    /// It gives an item: a path, or an error. After an error with the cause `Limit` or `Memory` only `Done` follows.
+    /// It gives an item: a path, or an error. After an error with the cause `Limit` or `Memory`, only `Done` follows.
     Item(GlobResult<A>),
     /// Nothing is left: each further call of [`next`](WalkMachine::next) returns it again.
     Done,
 }
 
-/// The answer to the question that is open, as [`ask`](WalkMachine::ask) returns it. Where a look at the directory `a`
-/// is asked for, that is an `Answer::Look` with `Look::Dir`.
+/// The answer to the open question, as [`ask`](WalkMachine::ask) returns it. For a look at the directory `a` it is an
+/// `Answer::Look` with `Look::Dir`.
 #[derive(Drop)]
 pub enum Answer<A: Allocator = Global> {
     /// No question is open.
     Nothing,
     /// The answer to a look.
     Look(Result<Look, AllocError>),
-    /// The answer to a listing, of entries or of names alone.
+    /// The answer to a listing, of entries or of names.
     List(Result<Vec<Entry<A>, A>, ListError>),
 }
 
-/// A walk without a tree: it asks its questions one by one, and whoever drives it answers them from a file system, an
-/// archive or a network, at once or later. Where a [`Tree`](glob_tree::Tree) answers, as in `Paths` of the crate
-/// `glob`, [`advance`](WalkMachine::advance) is the one call that is needed.
+/// A walk without a tree: it asks one question after another, and its caller answers them from a file system, an
+/// archive or a network, at once or later. If a [`Tree`](glob_tree::Tree) answers, as in `Paths` of the crate `glob`,
+/// [`advance`](WalkMachine::advance) is the only call that is needed.
 ///
 /// ```text
 /// let mut machine = WalkMachine::new(alloc, "*", MatchOptions::new(), 100)?;
-/// machine.next()                  // Step::Look, where machine.path() is "."
-/// machine.looked(Ok(Look::Dir))   // Step::ListNames, where machine.path() is "."
+/// machine.next()                  // Step::Look; machine.path() is "."
+/// machine.looked(Ok(Look::Dir))   // Step::ListNames; machine.path() is "."
 /// machine.listed(Ok(entries))     // of files `y` and `x`: Step::Item(Ok("x"))
 /// machine.next()                  // Step::Item(Ok("y"))
 /// machine.next()                  // Step::Done; machine.spent() is 4
 /// ```
 ///
-/// As long as each answer is that of one content, its questions and items are those of the written listing, one after
-/// another: the items so far are a beginning of all of them, and at `Done` all. Whatever is answered, it charges a unit
-/// for each question before it asks it, and one for each entry that is answered, gives at most one item more than it
-/// charged units, never charges more than its limit, and so comes to an end.
+/// As long as all answers are those of one content, its questions and items are those of the written listing, in order:
+/// the items so far are a prefix of the listing's, and at `Done` they are all. Whatever the answers are, it charges one
+/// unit for each question, before it asks it, and one for each entry in an answer; it gives at most one item more than
+/// it charged units; and it never charges more than its limit, so it comes to an end.
 #[derive(Drop)]
 pub struct WalkMachine<A: Allocator = Global> {
     walker: Walker<A>,
-    /// How many items were given: up to one more than the limit, so it may be 2^64.
+    /// The number of items that were given: up to one more than the limit, so it can be 2^64.
     given: u128,
     over: bool,
 }
@@ -100,10 +100,10 @@ impl<A: Allocator> Model for WalkMachine<A> {
 }
 
 impl<A: Allocator + Copy> WalkMachine<A> {
-    /// A walk after the components of a pattern, with at most `limit` units of work: one for each lookup, one for each
-    /// listing, and one for each entry of a listing. It has asked nothing.
+    /// A walk of a pattern with at most `limit` units of work: one for each lookup, one for each listing, and one for
+    /// each entry of a listing. It has asked nothing yet.
     ///
-    /// A pattern with a fault is refused with `Syntax`: the fault of the whole text, or else that of the first
+    /// A pattern with a fault is refused with `Syntax`: the fault of the whole text or, if that has none, of the first
     /// component that has one. Any pattern may be refused with `Memory`.
     pub fn new(
         alloc: A,
@@ -113,7 +113,7 @@ impl<A: Allocator + Copy> WalkMachine<A> {
     ) -> Result<Self, PatternRefusal>
         ensures accepted { IfOk result (λ _. walk_fault pattern.now ≡ None) }
         ensures refused { IfErr result (RefusesWith (walk_fault pattern.now)) }
-        ensures fresh { IfOk result (IsFreshMachine limit) }
+        ensures fresh { IfOk result (IsFresh limit) }
         ensures aim { IfOk result
             (λ walk. (c : Content) → listing_of c walk.aim ≡ listing c options pattern.now) }
     {
@@ -122,10 +122,10 @@ impl<A: Allocator + Copy> WalkMachine<A> {
         Ok(WalkMachine::from_plan(plan, start, limit))
     }
 
-    /// A walk after a plan from its start, which is looked up first.
+    /// A walk of a plan. It first looks up the start.
     fn from_plan(plan: Plan<A>, start: String<A>, limit: u64) -> Self
         requires start { string_bytes start ≡ (if plan.rooted then root_dir else cur_dir) }
-        ensures fresh { IsFreshMachine limit result }
+        ensures fresh { IsFresh limit result }
         ensures aim { result.aim ≡ aim_of plan }
     {
         let frames = Vec::new(plan.alloc);
@@ -147,8 +147,8 @@ impl<A: Allocator + Copy> WalkMachine<A> {
         }
     }
 
-    /// The next step, where no question is open: at first, and after an item. The first step of each walk is
-    /// `Step::Look`, at the path `.` or `/`, or the refusal of its unit by a limit of 0.
+    /// The next step when no question is open: at first, and after an item. The first step of each walk is
+    /// `Step::Look`, at the path `.` or `/`; at a limit of 0 it is an error with the cause `Limit`.
     pub fn next(&mut self) -> Step<A>
         requires free { self.old.asked ≡ None }
         ensures steps { StepGoes IsSomeContent 0 self.old (saying result) self.new }
@@ -156,10 +156,10 @@ impl<A: Allocator + Copy> WalkMachine<A> {
         self.resume(Answer::Nothing)
     }
 
-    /// The next step, where a tree answers the question that is open, if one is. Calls of it alone make a whole walk:
-    /// over a file `x`, those of `*` return `Look`, `ListNames`, the item `x`, and `Done`.
+    /// The next step, with the open question, if there is one, answered by a tree. These calls are enough for a whole
+    /// walk: for `*` over a file `x` they return `Look`, `ListNames`, the item `x`, and `Done`.
     ///
-    /// The tree is asked at most one question. Its allocation failure makes the step an error with the cause `Memory`.
+    /// The tree is asked at most one question. If its allocation fails, the step is an error with the cause `Memory`.
     pub fn advance<T: Tree<Alloc = A>>(&mut self, tree: &mut T) -> Step<A>
         ensures content { T.tells tree.new ≡ T.tells tree.old }
         ensures untouched { self.old.asked ≡ None → tree.new ≡ tree.old }
@@ -171,8 +171,8 @@ impl<A: Allocator + Copy> WalkMachine<A> {
         self.resume(answer)
     }
 
-    /// The answer of a tree to the question that is open, and `Nothing` where none is. [`resume`](WalkMachine::resume)
-    /// takes it; [`advance`](WalkMachine::advance) is the two in one.
+    /// A tree's answer to the open question; `Nothing` if none is open. [`resume`](WalkMachine::resume) takes the
+    /// answer; [`advance`](WalkMachine::advance) does both.
     pub fn ask<T: Tree<Alloc = A>>(&self, tree: &mut T) -> Answer<A>
         ensures content { T.tells tree.new ≡ T.tells tree.old }
         ensures untouched { self.now.asked ≡ None → tree.new ≡ tree.old }
@@ -193,9 +193,9 @@ impl<A: Allocator + Copy> WalkMachine<A> {
         }
     }
 
-    /// Answers the look that is asked for, and returns the next step. Where `*` looks at `.`, `looked(Ok(Look::Dir))`
-    /// is `Step::ListNames`, and `looked(Ok(Look::Missing))` is `Step::Done`. `Err` says that there was no memory to
-    /// look: the step is then an error with the cause `Memory`, and the walk is over.
+    /// Answers the open look, and returns the next step. If `*` looks at `.`, then `looked(Ok(Look::Dir))` returns
+    /// `Step::ListNames`, and `looked(Ok(Look::Missing))` returns `Step::Done`. `Err` means that memory ran out: the
+    /// step is then an error with the cause `Memory`, and the walk is over.
     pub fn looked(&mut self, seen: Result<Look, AllocError>) -> Step<A>
         requires asked { IsLook self.old.asked }
         ensures failed { IfErr seen (λ _. saying result ≡ Says NoMemory) }
@@ -205,10 +205,10 @@ impl<A: Allocator + Copy> WalkMachine<A> {
         self.resume(Answer::Look(seen))
     }
 
-    /// Answers the listing that is asked for, of entries or of names alone, with its entries in any order, and returns
-    /// the next step, for one unit of work an entry. Where `*` lists `.`, `listed` of the files `y` and `x` gives the
-    /// item `x`. After `Err(ListError::Read(e))` that is an error with the path, the kind of `e` and the cause `Read`,
-    /// and the walk goes on; after `Err(ListError::Memory)` it is one with the cause `Memory`, and the walk is over.
+    /// Answers the open listing, of entries or of names, with its entries in any order, and returns the next step. Each
+    /// entry costs one unit of work. If `*` lists `.`, `listed` with the files `y` and `x` returns the item `x`. After
+    /// `Err(ListError::Read(e))` the step is an error with the path, the kind of `e` and the cause `Read`, and the walk
+    /// goes on; after `Err(ListError::Memory)` it is an error with the cause `Memory`, and the walk is over.
     pub fn listed(&mut self, listed: Result<Vec<Entry<A>, A>, ListError>) -> Step<A>
         requires asked { IsList self.old.asked }
         ensures failed { IfErr listed
@@ -219,16 +219,20 @@ impl<A: Allocator + Copy> WalkMachine<A> {
         self.resume(Answer::List(listed))
     }
 
-    /// Takes the answer to the question that is open, or `Nothing` where none is, and returns the next step, as
-    /// [`looked`](WalkMachine::looked), [`listed`](WalkMachine::listed) and [`next`](WalkMachine::next) do: with
-    /// `Answer::Look(seen)` it is `looked(seen)`. What is no answer to the open question leaves it open: it is asked
-    /// again, for no unit.
+    /// Takes the answer to the open question, if there is one, and returns the next step, as
+    /// [`looked`](WalkMachine::looked), [`listed`](WalkMachine::listed) and [`next`](WalkMachine::next) do:
+    /// `Answer::Look(seen)` does what `looked(seen)` does. If no question is open, the answer does not matter. An
+    /// answer to another question leaves the walk as it is: the question is asked again, at no cost.
     pub fn resume(&mut self, answer: Answer<A>) -> Step<A>
-        requires answer { IsAnswer self.old.asked answer }
-        ensures failed { IfFailed answer (question_path self.old.asked)
-            (λ o. saying result ≡ Says o) }
-        ensures steps { StepGoes (IsAnswered self.old.asked answer) (answer_count answer)
+        ensures failed { IsAnswer self.old.asked answer
+            → IfFailed answer (question_path self.old.asked) (λ o. saying result ≡ Says o) }
+        ensures steps { IsAnswer self.old.asked answer
+            → StepGoes (IsAnswered self.old.asked answer) (answer_count answer)
             self.old (saying result) self.new }
+        ensures free { self.old.asked ≡ None
+            → StepGoes IsSomeContent 0 self.old (saying result) self.new }
+        ensures waits { IsSome self.old.asked → ¬ (IsAnswer self.old.asked answer)
+            → IsAskedAfter (saying result) self.old.asked × (self.new ≡ self.old) }
     {
         if self.over {
             return Step::Done;
@@ -241,8 +245,7 @@ impl<A: Allocator + Copy> WalkMachine<A> {
 }
 
 impl<A: Allocator> WalkMachine<A> {
-    /// The path that is asked for, as `a` where the entries of the directory `a` are, and the empty text where no
-    /// question is open.
+    /// The path of the open question, such as `a` for the entries of the directory `a`; empty if no question is open.
     pub fn path(&self) -> &str
         ensures { result.now ≡ question_path self.now.asked }
     {
@@ -252,8 +255,8 @@ impl<A: Allocator> WalkMachine<A> {
         }
     }
 
-    /// How many units of work were charged, that of an open question too: never more than the limit. It is 1 at the
-    /// first question, and 4 where `*` has looked at a directory, and listed it with two entries.
+    /// How many units of work were charged, including that of an open question: never more than the limit. It is 1 at
+    /// the first question, and 4 after `*` has looked at a directory and listed it with two entries.
     pub fn spent(&self) -> u64
         ensures spent { result ≡ self.now.spent }
         ensures within { result ≤ self.now.limit }
@@ -261,8 +264,8 @@ impl<A: Allocator> WalkMachine<A> {
         self.walker.meter.spent
     }
 
-    /// How many items were given, a refusal too: at most one more than `spent`. It is 2 where `*` has given two files,
-    /// and 1 where a limit of 0 refused the first unit.
+    /// How many items were given, including a refusal: at most one more than `spent`. It is 2 after `*` has given two
+    /// files, and 1 after a limit of 0 refused the first unit.
     pub fn given(&self) -> u128
         ensures given { result ≡ self.now.given }
         ensures few { result ≤ self.now.spent + 1 }

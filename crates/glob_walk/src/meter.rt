@@ -1,7 +1,7 @@
-//! The limit of a walk, and what is charged to it.
+//! The limit of a walk, and what is charged against it.
 //!
-//! Each unit is charged before the question that it pays for, and a question that the limit does not allow is not
-//! asked. Only the entries of a listing are charged after it, since they cannot be counted before.
+//! Each unit is charged before the question that it pays for, and a question that does not fit the limit is not asked.
+//! Only the entries of a listing are charged afterwards, since they cannot be counted before.
 ghost use Rattle.std.specs.Prelude.{◌≡◌, ◌+◌, ◌<◌, ◌≤◌, true, false, vec_len, IsPermutation};
 ghost use Rattle.std.specs.List.Sorted.{IsSortedByKey};
 ghost use Rattle.std.specs.Cmp.Lexicographic.{slice_cmp};
@@ -10,7 +10,7 @@ ghost use Rattle.std.specs.Ordering.{nat_cmp};
 use glob_tree::Entry;
 use std::alloc::Allocator;
 
-/// How many units of a limit were spent: never more than the limit.
+/// How many units of a limit were spent; never more than the limit.
 #[derive(Clone, Copy)]
 pub struct Meter {
     pub limit: u64,
@@ -33,7 +33,7 @@ impl Meter {
         true
     }
 
-    /// Charges a unit for each of `count` entries. Where they pass the limit, all of it is spent.
+    /// Charges one unit for each of `count` entries. If they do not fit the limit, all of it is spent.
     pub fn charge_entries(&mut self, count: usize) -> bool
         ensures limit { self.new.limit ≡ self.old.limit }
         ensures charged { result ≡ true → self.new.spent ≡ self.old.spent + count }

@@ -11,12 +11,12 @@ use glob_pattern::{MatchOptions, PatternRefusal};
 use glob_tree::begins_with_dot;
 use std::alloc::Allocator;
 
-/// Whether the pattern is plain, so that a walk by it finds what the undivided pattern matches: no component is empty,
-/// `.` or `..`, and each that has a wildcard and begins with a dot is right after a `**`. A `/` at the start or at the
-/// end makes no component; `/` alone, as the empty pattern, has an empty one. What
-/// [`WalkMachine::new`](crate::WalkMachine::new) refuses is refused as there.
+/// Whether the pattern is plain, so that its walk finds what the undivided pattern matches: no component is empty, `.`
+/// or `..`, and each that has a wildcard and begins with a dot is right after a `**`. A `/` at the start or at the end
+/// makes no component, but `/` by itself has an empty one, as the empty pattern has. The errors are those of
+/// [`WalkMachine::new`](crate::WalkMachine::new).
 ///
-/// So `src/**/*.rs` is plain, and `src/./*.rs` and `.*` are not; `a**` is refused.
+/// For example, `src/**/*.rs` is plain, `src/./*.rs` and `.*` are not, and `a**` is refused.
 #[tactic(auto, unfolding(crate::specs::Goal::is_plain))]
 pub fn is_plain<A: Allocator + Copy>(alloc: A, pattern: &str) -> Result<bool, PatternRefusal>
     ensures plain { IfOk result (λ yes. yes ≡ is_plain pattern.now) }
@@ -27,7 +27,7 @@ pub fn is_plain<A: Allocator + Copy>(alloc: A, pattern: &str) -> Result<bool, Pa
     Ok(are_plain(past_root(pattern)))
 }
 
-/// Whether the components of a text are plain, which stand between separators.
+/// Whether the components of a text, which are between its separators, are plain.
 fn are_plain(text: &str) -> bool
     ensures { result ≡ are_plain false (pieces text.now) }
 {
@@ -41,7 +41,7 @@ fn are_plain(text: &str) -> bool
     true
 }
 
-/// Whether the component is plain, where `**` is right before it or not.
+/// Whether the component is plain; `after_recursive` says whether it is right after a `**`.
 fn is_plain_component(after_recursive: bool, component: &str) -> bool
     ensures { result ≡ is_plain_component after_recursive component.now }
 {

@@ -1,8 +1,8 @@
 //! What a walk looks for.
 //!
-//! A plan is a pattern that was read once, before the walk: its components in order, each with its kind, the options,
-//! and whether directories alone are given. Neighbouring `**` mean what one of them means, and are read as one. Nothing
-//! of it changes while the walk goes on.
+//! A plan is a pattern read once, before the walk: its components in order, each with its kind, the options, and
+//! whether only directories are given. Adjacent `**` mean the same as one of them, and are read as one. A plan does not
+//! change during the walk.
 ghost use Rattle.std.specs.Prelude.{◌≡◌, ◌+◌, ◌<◌, ◌≤◌, [], ◌∷◌, true, false, None, IfOk, IfErr, MatchOption, OnSome, IfNone, drop, vec_len, if◌then◌else◌};
 ghost use Rattle.std.specs.Path.{root_dir, cur_dir};
 ghost use Rattle.glob_text.specs.Pieces.{pieces};
@@ -18,22 +18,22 @@ use std::alloc::Allocator;
 /// What a walk looks for: the components of a pattern, in order.
 #[derive(Drop)]
 pub struct Plan<A: Allocator> {
-    /// The components. No two neighbours are `**`.
+    /// The components. No two adjacent ones are `**`.
     pub components: Vec<Component<A>, A>,
     /// How names are matched.
     pub options: MatchOptions,
-    /// Whether it begins at the root, and not at the current directory.
+    /// Whether it starts at the root, and not in the current directory.
     pub rooted: bool,
-    /// Whether directories alone are given.
+    /// Whether only directories are given.
     pub directories: bool,
-    /// Where the walk takes its memory from.
+    /// The allocator of the walk.
     pub alloc: A,
     ghost merged: { are_merged components.items ≡ true },
 }
 
 impl<A: Allocator + Copy> Plan<A> {
-    /// Reads a pattern. One with a fault is refused with the fault of the whole text, or else with that of the first
-    /// component that has one; and any may be refused with `Memory`.
+    /// Reads a pattern. The error is the fault of the whole text or, if that has none, of the first component that has
+    /// one; or `Memory` if an allocation failed.
     pub fn read(alloc: A, pattern: &str, options: MatchOptions) -> Result<Self, PatternRefusal>
         ensures components { IfOk result
             (λ plan. plan.components.items ≡ merged (components pattern.now)) }
@@ -44,7 +44,7 @@ impl<A: Allocator + Copy> Plan<A> {
         ensures accepted { IfOk result (λ _. walk_fault pattern.now ≡ None) }
         ensures refused { IfErr result (RefusesWith (walk_fault pattern.now)) }
     {
-        // The whole first, so that a fault's place counts from the start of the pattern where the whole has one.
+        // The whole text first, so that the place of its fault is counted from the start of the pattern.
         Component::check(alloc, pattern)?;
         let components = read_components(alloc, past_root(pattern))?;
         Ok(Plan {
@@ -67,7 +67,7 @@ impl<A: Allocator> Plan<A> {
         if self.rooted { "/" } else { "." }
     }
 
-    /// The component with the number, counted from 0; `None` past the last.
+    /// The component of this number, counted from 0; `None` past the last.
     pub fn component(&self, number: usize) -> Option<&Component<A>>
         ensures rest { MatchOption result (drop number self.now.components.items ≡ [])
             (λ t. drop number self.now.components.items
@@ -78,7 +78,7 @@ impl<A: Allocator> Plan<A> {
         self.components.get(number)
     }
 
-    /// Whether the component with the number begins with a dot.
+    /// Whether the component of this number begins with a dot.
     pub fn is_dotted(&self, number: usize) -> bool
         ensures { result ≡ is_dotted (drop number self.now.components.items) }
     {
@@ -88,8 +88,8 @@ impl<A: Allocator> Plan<A> {
         }
     }
 
-    /// Whether it matters which of the entries that are met are directories, where the component with the number is
-    /// `**` or has wildcards: not where it is the last, is no `**`, and directories are not wanted.
+    /// Whether the kinds of a directory's entries matter for the component of this number, which is `**` or has
+    /// wildcards. They do not if it is the last, is not `**`, and not only directories are wanted.
     pub fn needs_kinds(&self, number: usize, recursive: bool) -> bool
         requires { number < vec_len self.now.components }
         ensures { result ≡ false → IgnoresKinds self.now number recursive }
@@ -98,7 +98,7 @@ impl<A: Allocator> Plan<A> {
     }
 }
 
-/// Reads the components of a text, which stand between separators. A `**` right after a `**` is left out.
+/// Reads the components of a text, which are between its separators. A `**` right after a `**` is left out.
 fn read_components<A: Allocator + Copy>(
     alloc: A,
     text: &str,
@@ -120,7 +120,7 @@ fn read_components<A: Allocator + Copy>(
     Ok(components)
 }
 
-/// The text of the components: what follows the root, without one separator at its end.
+/// The text of the components: the pattern without a separator at its start and one at its end.
 pub fn past_root(pattern: &str) -> &str
     ensures { result.now ≡ without_end_separator (without_root pattern.now) }
 {

@@ -1,13 +1,13 @@
-//! A question that is open.
+//! An open question.
 use crate::task::Accepted;
 use std::alloc::Allocator;
 
-/// A question whose unit was charged, and whose answer is awaited.
+/// A question that was charged and waits for its answer.
 #[derive(Drop)]
 pub struct Query<A: Allocator> {
     /// The path that it is about, as the walk gives it.
     pub path: String<A>,
-    /// The number of the component that is met there.
+    /// The number of the component with which the walk goes on there.
     pub component: usize,
     /// What is asked of the path.
     pub kind: QueryKind,
@@ -16,13 +16,13 @@ pub struct Query<A: Allocator> {
 /// What is asked of a path.
 #[derive(Clone, Copy)]
 pub enum QueryKind {
-    /// What it leads to, and with which answers the walk goes on.
+    /// What it leads to, and which answers let the walk go on.
     Look(Accepted),
     /// The entries of the directory that it leads to.
     List {
-        /// For `**`, and not for a component with wildcards.
+        /// Whether it is for `**`, and not for a component with wildcards.
         recursive: bool,
-        /// With the kinds of its entries, and not for their names alone.
+        /// Whether it is with the kinds of the entries, and not only for their names.
         kinds: bool,
     },
 }

@@ -1,11 +1,11 @@
-//! What a walk has still to do.
+//! What a walk still has to do.
 //!
-//! The stack of `walkdir` holds a directory for each level, and so does this one, with two differences. What comes next
-//! is a task of its own, kept here before the directories. And a directory in which nothing is left is not on the
-//! stack: it goes, with its names, in its last step. In a directory that `**` is listed for, the last step enters the
-//! last entry. It comes after that entry was met, so the directory stays while the components after `**` go on in the
-//! entry. Down a chain of directories with one entry each, the stack holds at most one directory for each `**` and one
-//! more, and not the chain.
+//! The stack of `walkdir` holds one directory for each level, and so does this one, with two differences. The next task
+//! is kept apart, before the directories. And a directory with nothing left is not on the stack: its last step removes
+//! it, with its names. In a directory listed for `**`, the last step enters the last entry. That comes after the entry
+//! was met, so the directory stays while the components after `**` go on in the entry. Down a chain of directories with
+//! one entry each, the stack so holds at most one directory for each `**` and one more, and not the whole chain (no
+//! clause says this).
 ghost use Rattle.std.specs.Prelude.{◌≡◌, ◌+◌, ◌<◌, ◌≤◌, ◌++◌, true, false, [], None, Ok, IfOk, OnOk, vec_len};
 ghost use Rattle.glob_tree.specs.Content.{Content};
 ghost use Rattle.std.specs.List.{All};
@@ -16,15 +16,15 @@ use crate::plan::Plan;
 use crate::task::Task;
 use std::alloc::{AllocError, Allocator};
 
-/// What a walk looks for, and what it has still to do: a task, if there is one, and then what is left in the
-/// directories that it is in, the last first.
+/// What a walk looks for, and what it still has to do: a task, if there is one, and then what is left in the
+/// directories that it is in, from the last to the first.
 #[derive(Drop)]
 pub struct Stack<A: Allocator> {
     /// What it looks for.
     pub plan: Plan<A>,
-    /// What is done before the directories go on.
+    /// What to do before the directories go on.
     pub next: Option<Task<A>>,
-    /// The directories, each reached by way of the one before it. Something is left in each of them.
+    /// The directories, each reached through the one before it. Each has something left.
     pub frames: Vec<Frame<A>, A>,
     ghost components: { All (λ f. f.component < vec_len plan.components) frames.items },
     ghost going: { All (λ f. is_done f ≡ false) frames.items },
@@ -33,8 +33,8 @@ pub struct Stack<A: Allocator> {
 impl<A: Allocator + Copy> Stack<A> {
     ghost use Rattle.glob_walk.specs.Private.Stacks.{left, weight, ready, IsSound};
 
-    /// Takes one step in the last directory, which may leave a task, and lets the directory go if that was its last
-    /// step. The answer is `false` where there is no directory. The weight falls by the step, so steps come to an end.
+    /// Takes one step in the last directory, which may make a task, and removes the directory if this was its last
+    /// step. Returns `false` if there is no directory. Each step lowers the weight, so steps come to an end.
     pub fn step(&mut self) -> Result<bool, AllocError>
         requires none { self.old.next ≡ None }
         ensures plan { self.new.plan ≡ self.old.plan }
@@ -50,7 +50,7 @@ impl<A: Allocator + Copy> Stack<A> {
             return Ok(false);
         };
         let Ok(task) = frame.step(&self.plan) else {
-            // The step may have been its last.
+            // This may have been its last step.
             self.frames.pop();
             return Err(AllocError);
         };
@@ -61,7 +61,7 @@ impl<A: Allocator + Copy> Stack<A> {
         Ok(true)
     }
 
-    /// Lets go of the task and of all directories, and of their memory: nothing is left.
+    /// Drops the task and all directories, with their memory: nothing is left.
     pub fn clear(&mut self)
         ensures plan { self.new.plan ≡ self.old.plan }
         ensures next { self.new.next ≡ None }
@@ -71,7 +71,7 @@ impl<A: Allocator + Copy> Stack<A> {
         self.frames = Vec::new(self.plan.alloc);
     }
 
-    /// Puts a directory on top, unless nothing is left in it.
+    /// Puts a directory on top, unless it has nothing left.
     pub fn open(&mut self, frame: Frame<A>) -> Result<(), AllocError>
         requires none { self.old.next ≡ None }
         requires component { frame.component < vec_len self.old.plan.components }

@@ -1,9 +1,8 @@
-//! What a step of a walk says.
+//! What a step of a walk returns.
 ghost use Rattle.std.specs.Prelude.{◌≡◌, string_bytes};
 ghost use Rattle.std.specs.IoError.{error_kind};
-ghost use Rattle.glob_walk.specs.Machines.{Says, is_last_step, saying, step_outcome};
+ghost use Rattle.glob_walk.specs.Machines.{Says, is_last, item_number, saying};
 ghost use Rattle.glob_walk.specs.Marks.{Found, Unread};
-ghost use Rattle.glob_walk.specs.Iterating.{item_number};
 ghost use Rattle.glob_walk.specs.Walks.{Gives, LimitAt, NoMemory};
 ghost use Rattle.glob_walk.specs.Private.Turns.{asking};
 
@@ -16,7 +15,7 @@ use std::io;
 use std::path::PathBuf;
 
 impl<A: Allocator> Step<A> {
-    /// It asks for a look, or for a listing, with the kinds of the entries or for their names alone.
+    /// Asks for a look, or for a listing with the kinds of the entries or only their names.
     pub(crate) fn ask(kind: QueryKind) -> Self
         ensures { saying result ≡ asking kind }
     {
@@ -27,37 +26,37 @@ impl<A: Allocator> Step<A> {
         }
     }
 
-    /// It gives a path that the pattern leads to.
+    /// Gives a path that the pattern leads to.
     pub(crate) fn found(path: String<A>) -> Self
         ensures { saying result ≡ Says (Gives (Found (string_bytes path))) }
     {
         Step::Item(Ok(PathBuf::from(path)))
     }
 
-    /// It reports a directory that could not be listed. The walk goes on after it.
+    /// Reports a directory that could not be listed. The walk goes on.
     pub(crate) fn unread(path: String<A>, e: io::Error) -> Self
         ensures { saying result ≡ Says (Gives (Unread (string_bytes path) (error_kind e))) }
     {
         Step::Item(Err(GlobError::read(PathBuf::from(path), e)))
     }
 
-    /// The limit was reached at the path. The walk is over.
+    /// The walk reached its limit at the path, and is over.
     pub(crate) fn limit(path: String<A>) -> Self
         ensures { saying result ≡ Says (LimitAt (string_bytes path)) }
     {
         Step::Item(Err(GlobError::limit(PathBuf::from(path))))
     }
 
-    /// There was an allocation failure. The walk is over.
+    /// An allocation failed. The walk is over.
     pub(crate) fn memory(alloc: A) -> Self
         ensures { saying result ≡ Says NoMemory }
     {
         Step::Item(Err(GlobError::memory(alloc)))
     }
 
-    /// How many items it gives.
+    /// The number of items that it gives.
     pub(crate) fn item_count(&self) -> u128
-        ensures { result ≡ item_number (step_outcome (saying self.now)) }
+        ensures { result ≡ item_number (saying self.now) }
     {
         match self {
             Step::Item(_) => 1,
@@ -65,9 +64,9 @@ impl<A: Allocator> Step<A> {
         }
     }
 
-    /// Whether only `Done` follows it.
+    /// Whether only `Done` can follow.
     pub(crate) fn is_last(&self) -> bool
-        ensures { result ≡ is_last_step (saying self.now) }
+        ensures { result ≡ is_last (saying self.now) }
     {
         match self {
             Step::Look | Step::List | Step::ListNames => false,

@@ -1,13 +1,13 @@
 //! The turns of a walk.
 //!
-//! A walk has a [`Stack`]: one [`Task`] or none, and below it the directories that it is in, one [`Frame`] for each. A
-//! turn does the task: it asks for a look at one path, or for the listing of one directory, or gives one path. Where
-//! there is no task, a turn takes one step in the directory on top, and that step may make the next task. What a turn
-//! asks for, the [`Meter`] is charged for first. A task that asks makes way for a [`Query`], which is open until it is
-//! answered: a turn is taken only while none is.
+//! A walk has a [`Stack`]: at most one [`Task`], and below it the directories that it is in, one [`Frame`] each. A turn
+//! does the task: it asks for a look at one path or for the listing of one directory, or gives one path. Without a
+//! task, a turn takes one step in the directory on top, which may make the next task. The [`Meter`] is charged before a
+//! turn asks anything. A task that asks is replaced by a [`Query`], which is open until it is answered; turns are taken
+//! only while none is open.
 //!
-//! Nothing here reads a file: whoever drives the walk answers. And nothing calls itself: a walk is a loop of turns. It
-//! comes to a question or an item because a turn that does neither leaves less weight in the stack.
+//! Nothing here reads a file: the caller answers. And nothing is recursive: a walk is a loop of turns. It comes to a
+//! question or an item, because a turn that does neither lowers the weight of the stack.
 //!
 //! ```text
 //! proceed               takes an answer, goes on to the next question or item, and clears a walk that is over
@@ -20,11 +20,11 @@
 //! ```
 //!
 //! The written listing is what a walk does, mark by mark. Each method of [`Walker`] has the same contract, `TurnsTo`:
-//! what was left of the listing begins with what the turn charged and gave, and what the walk then stands for is the
-//! rest. A turn that returns no [`Step`] goes on.
-ghost use Rattle.std.specs.Prelude.{◌≡◌, ◌≢◌, ◌+◌, ◌<◌, ◌≤◌, ◌∷◌, true, false, [], None, string_bytes, vec_len, drop, not, ◌||◌, IfOk, IfErr, Some, if◌then◌else◌};
+//! what was left of the listing starts with what the turn charged and gave, and the rest is what is left of the walk
+//! then. After a turn without a [`Step`] the walk just goes on.
+ghost use Rattle.std.specs.Prelude.{◌≡◌, ◌≢◌, ◌+◌, ◌<◌, ◌≤◌, ◌∷◌, true, false, [], None, string_bytes, vec_len, drop, not, ◌||◌, IfOk, IfErr, IfSome, Some, if◌then◌else◌};
 ghost use Rattle.glob_tree.specs.Content.{Content};
-ghost use Rattle.glob_walk.specs.Machines.{Ends, Says, is_last_step, list_error_outcome, saying};
+ghost use Rattle.glob_walk.specs.Machines.{Ends, Says, is_last, list_error_outcome, saying};
 ghost use Rattle.glob_walk.specs.Walks.{NoMemory};
 ghost use Rattle.glob_walk.specs.Components.{is_literal};
 ghost use Rattle.glob_tree.specs.Answers.{entry_count};
@@ -46,11 +46,11 @@ use crate::task::{Accepted, Task, TaskState, task_after_look};
 use glob_tree::{Entry, ListError, Look, child};
 use std::alloc::{AllocError, Allocator};
 
-/// A limit, and what a walk has still to do.
+/// A limit, and what a walk still has to do.
 #[derive(Drop)]
 pub struct Walker<A: Allocator> {
     pub meter: Meter,
-    /// The question that is open. Until it is answered, the stack waits.
+    /// The open question. The stack waits until it is answered.
     pub query: Option<Query<A>>,
     pub stack: Stack<A>,
 }
@@ -72,8 +72,8 @@ impl<A: Allocator + Copy> Walker<A> {
         })
     }
 
-    /// Asks for the listing of a directory for a component, which is `**` or has wildcards, for one unit. Where no
-    /// entry's kind matters, names alone are asked for.
+    /// Asks for the listing of a directory, for one unit. The component is `**` or has wildcards. If the kinds of the
+    /// entries do not matter, only the names are asked for.
     fn list(&mut self, path: String<A>, component: usize, recursive: bool) -> Step<A>
         requires idle { IsIdle self.old }
         requires component { component < vec_len self.old.stack.plan.components }
@@ -92,8 +92,8 @@ impl<A: Allocator + Copy> Walker<A> {
         })
     }
 
-    /// Charges the entries of a directory that was listed, and puts it on the stack with its first cursor. Where names
-    /// alone were asked for, the entries' kinds are not used.
+    /// Charges the entries of a listed directory, and puts it on the stack with its first cursor. If only the names
+    /// were asked for, the kinds are not used.
     fn enter_listed(
         &mut self,
         path: String<A>,
@@ -111,7 +111,7 @@ impl<A: Allocator + Copy> Walker<A> {
             return Some(Step::limit(path));
         }
         sort_entries(&mut entries);
-        // Before `..` if the component begins with a dot, as `**` never does.
+        // Start before `..` if the component begins with a dot; `**` never does.
         let cursor = if self.stack.plan.is_dotted(component) {
             Cursor::Parent
         } else {
@@ -129,10 +129,10 @@ impl<A: Allocator + Copy> Walker<A> {
         }
     }
 
-    /// Meets the components from this number on at a path that is there. If none is left, the path is given: that of a
-    /// directory always, and of anything else unless the pattern ends in a separator. That takes no memory. A literal
-    /// one is joined to the path, and to look that up is the next task. For `**` and for a component with wildcards the
-    /// directory is listed; nothing comes of what is no directory.
+    /// Goes on at an existing path with the components from this number on. If none is left, the path is given: always
+    /// for a directory, and for anything else unless the pattern ends in a separator. That takes no memory. A literal
+    /// component is joined to the path, and the next task is to look that up. For `**` and for a component with
+    /// wildcards, a directory is listed; for anything else nothing follows.
     fn enter(&mut self, path: String<A>, number: usize, is_dir: bool) -> Option<Step<A>>
         requires idle { IsIdle self.old }
         ensures falls { result ≡ None → weight self.new.stack < weight self.old.stack + 2 }
@@ -163,8 +163,8 @@ impl<A: Allocator + Copy> Walker<A> {
         Some(self.list(path, number, recursive))
     }
 
-    /// One turn: does the task if there is one, and else takes one step in the directory on top. Where there is
-    /// neither, the walk is done. It calls nothing that calls it.
+    /// One turn: does the task, if there is one, and otherwise takes one step in the directory on top. If there is none
+    /// either, the walk is done. There is no recursion.
     fn turn(&mut self) -> Option<Step<A>>
         requires free { self.old.query ≡ None }
         ensures falls { result ≡ None → weight self.new.stack < weight self.old.stack }
@@ -191,7 +191,7 @@ impl<A: Allocator + Copy> Walker<A> {
         }
     }
 
-    /// Turns until there is a question or an item, or nothing is left.
+    /// Takes turns until there is a question or an item, or nothing is left.
     fn turns(&mut self) -> Step<A>
         requires free { self.old.query ≡ None }
         ensures { TurnsTo IsSomeContent 0 self.old (said (Some result)) self.new }
@@ -203,34 +203,34 @@ impl<A: Allocator + Copy> Walker<A> {
         }
     }
 
-    /// Takes the answer to the question that is open, if one is: what comes of it at once. After what is no answer to
-    /// the question it stays open, and is asked again, for no further unit.
+    /// Takes the answer to the open question, if there is one. An answer to another question leaves it open: it is
+    /// asked again, for no further unit.
     fn take_answer(&mut self, answer: Answer<A>) -> Option<Step<A>>
         requires opened { IsQueryOpened self.old.stack self.old.query }
-        requires answer { IsAnswer (question_of self.old.query) answer }
-        ensures failed { IfFailed answer (question_path (question_of self.old.query))
+        ensures failed { IsAnswer (question_of self.old.query) answer
+            → IfFailed answer (question_path (question_of self.old.query))
             (λ o. said result ≡ Some (Says o)) }
-        ensures turn { TurnsTo (IsAnswered (question_of self.old.query) answer)
+        ensures free { self.old.query ≡ None
+            → TurnsTo IsSomeContent 0 self.old (said result) self.new }
+        ensures waits { IfSome self.old.query (λ q. ¬ (IsAnswer (question_of (Some q)) answer)
+            → (said result ≡ Some (asking q.kind)) × (self.new ≡ self.old)) }
+        ensures turn { IsAnswer (question_of self.old.query) answer
+            → TurnsTo (IsAnswered (question_of self.old.query) answer)
             (answer_count answer) self.old (said result) self.new }
     {
         let query = self.query.take()?;
-        match query.kind {
-            QueryKind::Look(accepted) => {
-                let Answer::Look(seen) = answer else {
-                    return Some(self.ask(query));
-                };
+        match (query.kind, answer) {
+            (QueryKind::Look(accepted), Answer::Look(seen)) => {
                 self.take_look(query.path, query.component, accepted, seen)
             }
-            QueryKind::List { recursive, kinds } => {
-                let Answer::List(listed) = answer else {
-                    return Some(self.ask(query));
-                };
+            (QueryKind::List { recursive, kinds }, Answer::List(listed)) => {
                 self.take_listing(query.path, query.component, recursive, kinds, listed)
             }
+            _ => Some(self.ask(query)),
         }
     }
 
-    /// Asks a question whose unit was charged.
+    /// Asks a question that was already charged.
     fn ask(&mut self, query: Query<A>) -> Step<A>
         ensures says { saying result ≡ asking query.kind }
         ensures asks { self.new ≡ record self.old { query = Some query } }
@@ -240,7 +240,7 @@ impl<A: Allocator + Copy> Walker<A> {
         step
     }
 
-    /// Takes the answer to a look, and leaves the task that follows, if any.
+    /// Takes the answer to a look, and keeps the task that follows, if any.
     fn take_look(
         &mut self,
         path: String<A>,
@@ -285,14 +285,18 @@ impl<A: Allocator + Copy> Walker<A> {
         }
     }
 
-    /// Takes the answer to the question that is open, or `Nothing` where none is, and goes on to the next question or
-    /// item.
+    /// Takes the answer to the open question, if there is one, and goes on to the next question or item.
     fn take_turns(&mut self, answer: Answer<A>) -> Step<A>
         requires opened { IsQueryOpened self.old.stack self.old.query }
-        requires answer { IsAnswer (question_of self.old.query) answer }
-        ensures failed { IfFailed answer (question_path (question_of self.old.query))
+        ensures failed { IsAnswer (question_of self.old.query) answer
+            → IfFailed answer (question_path (question_of self.old.query))
             (λ o. saying result ≡ Says o) }
-        ensures turn { TurnsTo (IsAnswered (question_of self.old.query) answer)
+        ensures free { self.old.query ≡ None
+            → TurnsTo IsSomeContent 0 self.old (said (Some result)) self.new }
+        ensures waits { IfSome self.old.query (λ q. ¬ (IsAnswer (question_of (Some q)) answer)
+            → (saying result ≡ asking q.kind) × (self.new ≡ self.old)) }
+        ensures turn { IsAnswer (question_of self.old.query) answer
+            → TurnsTo (IsAnswered (question_of self.old.query) answer)
             (answer_count answer) self.old (said (Some result)) self.new }
     {
         match self.take_answer(answer) {
@@ -301,16 +305,21 @@ impl<A: Allocator + Copy> Walker<A> {
         }
     }
 
-    /// The step that [`take_turns`](Walker::take_turns) ends with. Where no item follows it, as after a refusal,
-    /// nothing stays on the stack, since a walk that is over may be kept for long.
+    /// The step of [`take_turns`](Walker::take_turns). If no item can follow it, for example after a refusal, the stack
+    /// is cleared, since a finished walk may be kept for long.
     pub fn proceed(&mut self, answer: Answer<A>) -> Step<A>
         requires opened { IsQueryOpened self.old.stack self.old.query }
-        requires answer { IsAnswer (question_of self.old.query) answer }
-        ensures failed { IfFailed answer (question_path (question_of self.old.query))
+        ensures failed { IsAnswer (question_of self.old.query) answer
+            → IfFailed answer (question_path (question_of self.old.query))
             (λ o. saying result ≡ Says o) }
-        ensures turn { TurnsTo (IsAnswered (question_of self.old.query) answer)
+        ensures free { self.old.query ≡ None
+            → TurnsTo IsSomeContent 0 self.old (said (Some result)) self.new }
+        ensures waits { IfSome self.old.query (λ q. ¬ (IsAnswer (question_of (Some q)) answer)
+            → (saying result ≡ asking q.kind) × (self.new ≡ self.old)) }
+        ensures turn { IsAnswer (question_of self.old.query) answer
+            → TurnsTo (IsAnswered (question_of self.old.query) answer)
             (answer_count answer) self.old (said (Some result)) self.new }
-        ensures cleared { is_last_step (saying result) ≡ true
+        ensures cleared { is_last (saying result) ≡ true
             → (self.new.stack.next ≡ None) × (self.new.stack.frames.items ≡ []) }
     {
         let step = self.take_turns(answer);
@@ -321,8 +330,8 @@ impl<A: Allocator + Copy> Walker<A> {
     }
 }
 
-/// The task of a literal component at a path: the look at the two joined. `.` and `..` are there in a directory alone,
-/// and any other name where something is there.
+/// The task of a literal component at a path: to look up the two joined. `.` and `..` are there only in a directory,
+/// any other name if something is there.
 #[tactic(auto, using(crate::proofs::WalkLemmas::Naming::literal_marks))]
 fn literal_task<A: Allocator + Copy>(
     plan: &Plan<A>,

@@ -1,5 +1,6 @@
--- The names of a directory have one ascending order, whatever the kinds.
-use Rattle.std.proofs.Common.{◌≡◌, ◌+◌, ◌<◌, Bool, true, false, cond, List, [], ◌∷◌, ⊎_elim, length, get_or, Result, Ok, Err, refl, ap, sym, ◌∙◌, arith}
+-- The names of a directory have one ascending order, whatever their kinds.
+use Rattle.std.proofs.Common.{◌≡◌, ◌+◌, ◌<◌, Bool, true, false, cond, List, [], ◌∷◌, ⊎_elim, length, get_or, Result, Ok}
+use Rattle.std.proofs.Common.{Err, refl, ap, sym, ◌∙◌, arith}
 use Rattle.std.specs.Prelude.{map, Contains, IfOk, Vec}
 use Rattle.std.specs.List.Sorted.{IsPermutation, IsSortedByKey}
 use Rattle.std.specs.Cmp.Lexicographic.{slice_cmp}
@@ -13,11 +14,11 @@ use Rattle.glob_tree.specs.declared.tree.Entry.{Entry}
 use Rattle.glob_tree.proofs.ContentLemmas.Membership.{Contains-head, Contains-tail, Contains-cases, Contains-nil}
 use Rattle.glob_tree.proofs.ContentLemmas.Sorting.{AreApart, sorted_is_ascending}
 
--- the entry of a name, of no kind that matters
+-- the entry of a name, with any kind
 entry : Text → DirEntry
 entry name = (name, false)
 
--- the entries with no kind that matters
+-- the entries with their kinds dropped
 plain : List DirEntry → List DirEntry
 plain es = map entry (names_of es)
 
@@ -26,14 +27,15 @@ unfolding plain entry
 names_plain [] = refl
 names_plain (e ∷ es) = ap (λ ns. e.0 ∷ ns) (names_plain es)
 
--- sorting looks at names alone
+-- sorting looks only at names
 plain-insert_entry : (e : DirEntry) (es : List DirEntry) → insert_entry (e.0, false) (plain es) ≡ plain (insert_entry e es)
 unfolding plain entry
 plain-insert_entry e [] = refl
 plain-insert_entry e (f ∷ es) = by_test (is_before e f) (plain-insert_entry e es)
   where
     by_test : (b : Bool) → insert_entry (e.0, false) (plain es) ≡ plain (insert_entry e es)
-        → cond b ((e.0, false) ∷ (f.0, false) ∷ plain es) ((f.0, false) ∷ insert_entry (e.0, false) (plain es)) ≡ plain (cond b (e ∷ f ∷ es) (f ∷ insert_entry e es))
+        → cond b ((e.0, false) ∷ (f.0, false) ∷ plain es) ((f.0, false) ∷ insert_entry (e.0, false) (plain es)) ≡ plain
+        (cond b (e ∷ f ∷ es) (f ∷ insert_entry e es))
     by_test true h = refl
     by_test false h = ap (λ fs. (f.0, false) ∷ fs) h
 
@@ -58,8 +60,9 @@ plain-apart (e ∷ es) apart = (
   plain-apart es apart.1,
 )
 
--- a list that a key sorts is sorted by what the key was made of
-sorted_map : {X Y : Type 0} (f : X → Y) (key : Y → Text) (xs : List X) → IsSortedByKey (λ x. key (f x)) (slice_cmp nat_cmp) xs → IsSortedByKey key (slice_cmp nat_cmp) (map f xs)
+-- a list sorted by a key of its images has sorted images
+sorted_map : {X Y : Type 0} (f : X → Y) (key : Y → Text) (xs : List X) → IsSortedByKey (λ x. key (f x))
+    (slice_cmp nat_cmp) xs → IsSortedByKey key (slice_cmp nat_cmp) (map f xs)
 sorted_map {X} f key [] up k d low high = absurd (omega (arith, high))
 sorted_map {X} f key (x ∷ xs) up k d low high =
     let within : k + 1 < length (x ∷ xs) = simp length-map at high in
@@ -69,8 +72,9 @@ sorted_map {X} f key (x ∷ xs) up k d low high =
     ∙ ap (λ y. is_lt (slice_cmp nat_cmp (key (f (get_or (x ∷ xs) (k + 1) x))) (key y))) first
     ∙ up k x low within
 
--- Names that differ have one order that a sort leaves: that of the entries in ascending order.
-pub names_in_order : (es fs : List DirEntry) → AreApart es → IsPermutation (names_of es) (names_of fs) → IsSortedByKey (λ e. e.0) (slice_cmp nat_cmp) fs
+-- Distinct names have one sorted order: that of the entries in ascending order.
+pub names_in_order : (es fs : List DirEntry) → AreApart es → IsPermutation (names_of es) (names_of fs) → IsSortedByKey
+    (λ e. e.0) (slice_cmp nat_cmp) fs
     → names_of fs ≡ names_of (sorted_entries es)
 unfolding plain entry
 names_in_order es fs apart moved up =
@@ -80,14 +84,18 @@ names_in_order es fs apart moved up =
     (sorted_map entry name (names_of fs) (sorted_map name (λ n. n) fs up)) in
     sym (names_plain fs) ∙ ap names_of (same ∙ plain-sorted_entries es) ∙ names_plain (sorted_entries es)
 
--- a whole listing is also one of names alone
+-- the answer of a full listing is also one of a listing of names
 pub names_answer : (said : ListAnswer) (answer : List DirEntry) → IsListAnswer said answer → IsNamesAnswer said answer
 names_answer (Entries entries) answer moved =
-    let name : DirEntry → Text = λ e. e.0 in
-    (IsPermutation-map name entries answer moved, λ e in' directory. Contains-permutation answer entries e (IsPermutation-sym entries answer moved) in')
+    let name : DirEntry → Text = λ e. e.0 in (
+      IsPermutation-map name entries answer moved,
+      λ e in' directory. Contains-permutation answer entries e
+          (IsPermutation-sym entries answer moved) in',
+    )
 names_answer (Fails kind) answer h = h
 names_answer NoDirectory answer h = h
 
-pub names_result : {A E : Type 0} (said : ListAnswer) (r : Result (Vec (Entry A) A) E) → IfOk r (λ v. IsListAnswer said (entries_of v.items)) → IfOk r (λ v. IsNamesAnswer said (entries_of v.items))
+pub names_result : {A E : Type 0} (said : ListAnswer) (r : Result (Vec (Entry A) A) E) → IfOk r (λ v. IsListAnswer said
+    (entries_of v.items)) → IfOk r (λ v. IsNamesAnswer said (entries_of v.items))
 names_result said (Ok v) h = names_answer said (entries_of v.items) h
 names_result said (Err e) h = h

@@ -1,5 +1,6 @@
 -- The entries of a directory have one ascending order.
-use Rattle.std.proofs.Common.{◌≡◌, ◌≢◌, suc, ◌+◌, Bool, true, false, cond, ◌⊎◌, inl, inr, ⊎_elim, List, [], ◌∷◌, refl, ap, sym, subst, ◌∙◌, arith}
+use Rattle.std.proofs.Common.{◌≡◌, ◌≢◌, suc, ◌+◌, Bool, true, false, cond, ◌⊎◌, inl, inr, ⊎_elim, List, [], ◌∷◌, refl}
+use Rattle.std.proofs.Common.{ap, sym, subst, ◌∙◌, arith}
 use Rattle.std.specs.Prelude.{Contains, bytes_eq, filter_map, not, ◌++◌, Option, Some, None, ⊤}
 use Rattle.std.specs.List.{IsDistinct, list_any, cons_option}
 use Rattle.std.specs.List.Sorted.{IsPermutation, IsSortedByKey}
@@ -16,21 +17,24 @@ use Rattle.std.proofs.lemmas.List.Elements.{All-contains, All-from_recursion, re
 use Rattle.std.proofs.lemmas.Map.Keys.{IsDistinct-IsPermutation}
 use Rattle.glob_tree.specs.declared.kind.Kind.{Kind}
 use Rattle.glob_tree.proofs.ContentLemmas.Contents.{IsContent, child_entry_is, same_key-Decides}
-use Rattle.glob_tree.specs.Content.{Content, Key, same_key, are_distinct, child_entry, children, DirEntry, is_before, insert_entry, sorted_entries}
-use Rattle.glob_tree.proofs.ContentLemmas.Membership.{Contains-filter_map, list_any-contains, All-from_contains, Contains-head, Contains-tail, Contains-cases, Contains-nil}
+use Rattle.glob_tree.specs.Content.{Content, Key, same_key, are_distinct, child_entry, children, DirEntry, is_before}
+use Rattle.glob_tree.specs.Content.{insert_entry, sorted_entries}
+use Rattle.glob_tree.proofs.ContentLemmas.Membership.{Contains-filter_map, list_any-contains, All-from_contains}
+use Rattle.glob_tree.proofs.ContentLemmas.Membership.{Contains-head, Contains-tail, Contains-cases, Contains-nil}
 
 pub Contains-insert_entry : (e : DirEntry) (es : List DirEntry) (x : DirEntry) → Contains (insert_entry e es) x → (e ≡ x) ⊎ Contains es x
 Contains-insert_entry e [] x h = Contains-cases e [] x h
 Contains-insert_entry e (f ∷ es) x h = by_test (is_before e f) h (λ later. Contains-insert_entry e es x later)
   where
-    by_test : (b : Bool) → Contains (cond b (e ∷ f ∷ es) (f ∷ insert_entry e es)) x → (Contains (insert_entry e es) x → (e ≡ x) ⊎ Contains es x) → (e ≡ x) ⊎ Contains (f ∷ es) x
+    by_test : (b : Bool) → Contains (cond b (e ∷ f ∷ es) (f ∷ insert_entry e es)) x → (Contains (insert_entry e es) x →
+        (e ≡ x) ⊎ Contains es x) → (e ≡ x) ⊎ Contains (f ∷ es) x
     by_test true h further = Contains-cases e (f ∷ es) x h
     by_test false h further = ⊎_elim
         (λ same. inr (0, omega arith, same))
         (λ later. ⊎_elim inl (λ in'. inr (Contains-tail f es x in')) (further later))
         (Contains-cases f (insert_entry e es) x h)
 
--- the order keeps what is listed
+-- sorting adds no entry
 pub Contains-sorted_entries : (es : List DirEntry) (x : DirEntry) → Contains (sorted_entries es) x → Contains es x
 Contains-sorted_entries [] x h = h
 Contains-sorted_entries (e ∷ es) x h = ⊎_elim
@@ -42,7 +46,8 @@ pub insert_entry-contains : (e : DirEntry) (es : List DirEntry) (x : DirEntry) �
 insert_entry-contains e [] x h = h
 insert_entry-contains e (f ∷ es) x h = by_test (is_before e f) h (λ later. insert_entry-contains e es x later)
   where
-    by_test : (b : Bool) → Contains (e ∷ f ∷ es) x → (Contains (e ∷ es) x → Contains (insert_entry e es) x) → Contains (cond b (e ∷ f ∷ es) (f ∷ insert_entry e es)) x
+    by_test : (b : Bool) → Contains (e ∷ f ∷ es) x → (Contains (e ∷ es) x → Contains (insert_entry e es) x) → Contains
+        (cond b (e ∷ f ∷ es) (f ∷ insert_entry e es)) x
     by_test true h further = h
     by_test false h further = ⊎_elim
         (λ same. Contains-tail f (insert_entry e es) x (further (0, omega arith, same)))
@@ -59,7 +64,7 @@ sorted_entries-contains (e ∷ es) x h = insert_entry-contains e (sorted_entries
     (λ later. Contains-tail e (sorted_entries es) x (sorted_entries-contains es x later))
     (Contains-cases e es x h))
 
--- by the bytes of names, e is before f
+-- e is before f, by the bytes of their names
 abbrev Before : DirEntry → DirEntry → Type 0
 Before e f = slice_cmp nat_cmp e.0 f.0 ≡ Less
 
@@ -68,7 +73,7 @@ abbrev pub IsRising : List DirEntry → Type 0
 IsRising [] = ⊤
 IsRising (e ∷ es) = ((f : DirEntry) → Contains es f → Before e f) × IsRising es
 
--- no name is twice
+-- no two entries have the same name
 abbrev pub AreApart : List DirEntry → Type 0
 AreApart [] = ⊤
 AreApart (e ∷ es) = ((f : DirEntry) → Contains es f → e.0 ≢ f.0) × AreApart es
@@ -87,8 +92,9 @@ not_itself e h = not_both e e h h
 Before-trans : (e f g : DirEntry) → Before e f → Before f g → Before e g
 Before-trans e f g h k = nat_list_cmp_total.trans e.0 f.0 g.0 h k
 
--- of two names that differ, one is before the other
-by_order : {P : Type 0} (e f : DirEntry) → e.0 ≢ f.0 → (is_before e f ≡ true → Before e f → P) → (is_before e f ≡ false → Before f e → P) → P
+-- of two different names, one is before the other
+by_order : {P : Type 0} (e f : DirEntry) → e.0 ≢ f.0 → (is_before e f ≡ true → Before e f → P) → (is_before e f ≡ false
+    → Before f e → P) → P
 by_order {P} e f n first then = by_answer (slice_cmp nat_cmp e.0 f.0) refl
   where
     by_answer : (o : Ordering) → slice_cmp nat_cmp e.0 f.0 ≡ o → P
@@ -96,8 +102,9 @@ by_order {P} e f n first then = by_answer (slice_cmp nat_cmp e.0 f.0) refl
     by_answer Equal h = absurd (n ((bytes_eq-Decides e.0 f.0).0 (sym (is_eq-slice_cmp e.0 f.0) ∙ ap is_eq h)))
     by_answer Greater h = then (ap is_le h) (nat_list_cmp_total.antisymm f.0 e.0 ∙ ap ordering_reverse h)
 
--- two rising lists of the same entries are one
-pub one_order : (es fs : List DirEntry) → IsRising es → IsRising fs → ((x : DirEntry) → Contains es x → Contains fs x) → ((x : DirEntry) → Contains fs x → Contains es x) → es ≡ fs
+-- two ascending lists of the same entries are equal
+pub one_order : (es fs : List DirEntry) → IsRising es → IsRising fs → ((x : DirEntry) → Contains es x → Contains fs x)
+    → ((x : DirEntry) → Contains fs x → Contains es x) → es ≡ fs
 one_order [] [] a b into back = refl
 one_order [] (f ∷ fs) a b into back = absurd (Contains-nil f (back f (Contains-head f fs)))
 one_order (e ∷ es) [] a b into back = absurd (Contains-nil e (into e (Contains-head e es)))
@@ -111,7 +118,8 @@ one_order (e ∷ es) (f ∷ fs) a b into back =
     (Contains-cases e es x (back x (Contains-tail f fs x in')))) in
     λ i. same i ∷ rest i
 
-IsRising-insert_entry : (e : DirEntry) (es : List DirEntry) → ((f : DirEntry) → Contains es f → e.0 ≢ f.0) → IsRising es → IsRising (insert_entry e es)
+IsRising-insert_entry : (e : DirEntry) (es : List DirEntry) → ((f : DirEntry) → Contains es f → e.0 ≢ f.0)
+    → IsRising es → IsRising (insert_entry e es)
 IsRising-insert_entry e [] n up = ((λ f in'. absurd (Contains-nil f in')), tt)
 IsRising-insert_entry e (f ∷ es) n up = by_order e f (n f (Contains-head f es))
     (λ t h. subst IsRising (sym (cond-true (is_before e f) (e ∷ f ∷ es) (f ∷ insert_entry e es) t))
@@ -121,10 +129,11 @@ IsRising-insert_entry e (f ∷ es) n up = by_order e f (n f (Contains-head f es)
       IsRising-insert_entry e es (λ g in'. n g (Contains-tail f es g in')) up.1,
     ))
 
--- names that differ rise in ascending order
+-- sorting entries with distinct names makes them ascend
 pub IsRising-sorted_entries : (es : List DirEntry) → AreApart es → IsRising (sorted_entries es)
 IsRising-sorted_entries [] apart = tt
-IsRising-sorted_entries (e ∷ es) apart = IsRising-insert_entry e (sorted_entries es) (λ f in'. apart.0 f (Contains-sorted_entries es f in')) (IsRising-sorted_entries es apart.1)
+IsRising-sorted_entries (e ∷ es) apart = IsRising-insert_entry e (sorted_entries es) (λ f in'. apart.0 f
+    (Contains-sorted_entries es f in')) (IsRising-sorted_entries es apart.1)
 
 same_name : DirEntry → DirEntry → Bool
 same_name e f = bytes_eq e.0 f.0
@@ -133,7 +142,8 @@ apart_from_distinct : (es : List DirEntry) → IsDistinct same_name es → AreAp
 unfolding IsDistinct same_name
 apart_from_distinct [] h = tt
 apart_from_distinct (e ∷ es) h = (
-  (λ f in' same. both_ways (bytes_eq e.0 f.0) (All-contains (λ y. bytes_eq e.0 y.0 ≡ false) es f (All-from_recursion (λ y. bytes_eq e.0 y.0 ≡ false) es h.0) in')
+  (λ f in' same. both_ways (bytes_eq e.0 f.0) (All-contains (λ y. bytes_eq e.0 y.0 ≡ false) es f (All-from_recursion
+      (λ y. bytes_eq e.0 y.0 ≡ false) es h.0) in')
       ((bytes_eq-Decides e.0 f.0).1 same)),
   apart_from_distinct es h.1,
 )
@@ -147,13 +157,14 @@ distinct_from_apart (e ∷ es) h = (
   distinct_from_apart es h.1,
 )
 
--- names that differ do so in each order
+-- distinct names stay distinct in any order
 pub AreApart-permutation : (es fs : List DirEntry) → IsPermutation es fs → AreApart es → AreApart fs
 unfolding same_name
 AreApart-permutation es fs moved apart =
-    apart_from_distinct fs (IsDistinct-IsPermutation same_name (λ e f. nat_list_eq_equiv.symm e.0 f.0) es fs moved (distinct_from_apart es apart))
+    apart_from_distinct fs (IsDistinct-IsPermutation same_name (λ e f. nat_list_eq_equiv.symm e.0 f.0) es fs moved
+    (distinct_from_apart es apart))
 
--- entries that a sort left in order, with names that differ, rise
+-- sorted entries with distinct names ascend
 pub IsRising-sorted : (es : List DirEntry) → AreApart es → IsSortedByKey (λ e. e.0) (slice_cmp nat_cmp) es → IsRising es
 IsRising-sorted [] apart up = tt
 IsRising-sorted (e ∷ es) apart up =
@@ -162,11 +173,13 @@ IsRising-sorted (e ∷ es) apart up =
     (λ t h. absurd (both_ways (is_lt (slice_cmp nat_cmp f.0 e.0))
     (ap (λ g. is_lt (slice_cmp nat_cmp g.0 e.0)) (sym in'.2) ∙ far 0 (suc in'.0) f (omega arith) (omega (arith, in'.1)))
     (ap is_lt h))) in
-    let rest : IsSortedByKey (λ x. x.0) (slice_cmp nat_cmp) es = λ k d low high. far (suc k) (suc (k + 1)) d (omega arith) (omega (arith, high)) in
+    let rest : IsSortedByKey (λ x. x.0) (slice_cmp nat_cmp) es = λ k d low high. far (suc k) (suc (k + 1)) d
+    (omega arith) (omega (arith, high)) in
     (first, IsRising-sorted es apart.1 rest)
 
--- Entries whose names differ have one order that a sort by names leaves: the ascending one.
-pub sorted_is_ascending : (es fs : List DirEntry) → AreApart es → IsPermutation es fs → IsSortedByKey (λ e. e.0) (slice_cmp nat_cmp) fs → fs ≡ sorted_entries es
+-- Entries with distinct names have one sorted order: the ascending one.
+pub sorted_is_ascending : (es fs : List DirEntry) → AreApart es → IsPermutation es fs → IsSortedByKey (λ e. e.0)
+    (slice_cmp nat_cmp) fs → fs ≡ sorted_entries es
 sorted_is_ascending es fs apart moved up = one_order fs (sorted_entries es)
     (IsRising-sorted fs (AreApart-permutation es fs moved apart) up)
     (IsRising-sorted_entries es apart)
@@ -179,18 +192,20 @@ children_apart_from k (e ∷ es) h =
     let apart = and_parts (not (list_any (λ f. same_key e.0 f.0) es)) (are_distinct es) h in
     by_first (child_entry k e) refl (not-true (list_any (λ f. same_key e.0 f.0) es) apart.0) (children_apart_from k es apart.1)
   where
-    by_first : (o : Option DirEntry) → child_entry k e ≡ o → list_any (λ f. same_key e.0 f.0) es ≡ false → AreApart (filter_map (child_entry k) es)
+    by_first : (o : Option DirEntry) → child_entry k e ≡ o → list_any (λ f. same_key e.0 f.0) es ≡ false → AreApart
+        (filter_map (child_entry k) es)
         → AreApart (cons_option o (filter_map (child_entry k) es))
     by_first None is none rest = rest
     by_first (Some l) is none rest = (
       (λ m in' same.
           let (f, entries_of_nodes, gives) = Contains-filter_map (child_entry k) es m in' in
           let one : e.0 ≡ f.0 = (child_entry_is k e l is).0 ∙ ap (λ n. k ++ n ∷ []) same ∙ sym (child_entry_is k f m gives).0 in
-          both_ways (list_any (λ g. same_key e.0 g.0) es) none (list_any-contains (λ g. same_key e.0 g.0) es f ((same_key-Decides e.0 f.0).1 one) entries_of_nodes)),
+          both_ways (list_any (λ g. same_key e.0 g.0) es) none (list_any-contains (λ g. same_key e.0 g.0) es f
+          ((same_key-Decides e.0 f.0).1 one) entries_of_nodes)),
       rest,
     )
 
--- no name is twice in a directory
+-- a directory has no name twice
 pub children_apart : (c : Content) → IsContent c → (k : Key) → AreApart (children c k)
 unfolding children
 children_apart c w k = children_apart_from k c.kinds w.distinct

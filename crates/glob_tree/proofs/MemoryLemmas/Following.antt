@@ -12,21 +12,24 @@ module _ (entries : List (Key × Kind)) (all : Option Key) where
   abbrev c : Content
   c = rooted_content entries
 
-  -- the pieces lead on from the number to which the first of them leads
-  pub follows_some : (n m : ℕ) (piece : Text) (r : Option ℕ) (rest ys : List Text) → all ≡ steps c (Some (key_numbered entries n)) rest → rest ≡ piece ∷ ys
-      → Leads entries r (step c piece (key_numbered entries n)) → r ≡ Some m → (m < length entries) × (all ≡ steps c (Some (key_numbered entries m)) ys)
+  -- the pieces lead on from the number that the first one leads to
+  pub follows_some : (n m : ℕ) (piece : Text) (r : Option ℕ) (rest ys : List Text) → all ≡ steps c
+      (Some (key_numbered entries n)) rest → rest ≡ piece ∷ ys
+      → Leads entries r (step c piece (key_numbered entries n)) → r ≡ Some m → (m < length entries) × (all ≡ steps c
+      (Some (key_numbered entries m)) ys)
   follows_some n m piece r rest ys on first leads is =
       let there = subst (λ o. Leads entries o (step c piece (key_numbered entries n))) is leads in
       (there.1, on ∙ ap (steps c (Some (key_numbered entries n))) first ∙ ap (λ o. steps c o ys) (sym there.0))
 
-  -- they lead nowhere where the first of them leads nowhere
-  pub follows_none : (n : ℕ) (piece : Text) (r : Option ℕ) (rest ys : List Text) → all ≡ steps c (Some (key_numbered entries n)) rest → rest ≡ piece ∷ ys
+  -- they lead nowhere if the first one does
+  pub follows_none : (n : ℕ) (piece : Text) (r : Option ℕ) (rest ys : List Text) → all ≡ steps c
+      (Some (key_numbered entries n)) rest → rest ≡ piece ∷ ys
       → Leads entries r (step c piece (key_numbered entries n)) → r ≡ None → all ≡ None
   follows_none n piece r rest ys on first leads is =
       let there = subst (λ o. Leads entries o (step c piece (key_numbered entries n))) is leads in
       on ∙ ap (steps c (Some (key_numbered entries n))) first ∙ ap (λ o. steps c o ys) (sym there.0) ∙ steps_none c ys
 
--- where pieces lead from a key does not depend on the current directory
+-- the current directory does not change where pieces lead from a key
 pub steps_any : (entries : List (Key × Kind)) (m n : Key) (o : Option Key) (ps : List Text)
     → steps (record { kinds = entries; current = m }) o ps ≡ steps (record { kinds = entries; current = n }) o ps
 unfolding kind_at

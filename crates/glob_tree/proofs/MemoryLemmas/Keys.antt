@@ -1,5 +1,6 @@
 -- Paths that name keys, and the directories of those keys.
-use Rattle.std.proofs.Common.{◌≡◌, ◌≢◌, ℕ, suc, ◌<◌, Bool, true, false, cond, not, ◌&&◌, List, [], ◌∷◌, ◌++◌, length, take, drop, Option, Some, None, refl, ap, sym, subst, ◌∙◌, arith, lit<}
+use Rattle.std.proofs.Common.{◌≡◌, ◌≢◌, ℕ, suc, ◌<◌, Bool, true, false, cond, not, ◌&&◌, List, [], ◌∷◌, ◌++◌, length}
+use Rattle.std.proofs.Common.{take, drop, Option, Some, None, refl, ap, sym, subst, ◌∙◌, arith, lit<}
 use Rattle.std.specs.Prelude.{slice_index, ◌==◌, is_some}
 use Rattle.std.specs.List.{list_all}
 use Rattle.std.specs.Str.{is_utf8, IsUtf8, IsCharBoundary, NoCharPasses}
@@ -24,7 +25,7 @@ use Rattle.glob_tree.proofs.ContentLemmas.Directories.{IsName-from_proper, step_
 use Rattle.glob_tree.proofs.ContentLemmas.Resolving.{steps_none, step_down, step_none, resolve_steps, pieces-append, pieces_one}
 use Rattle.glob_tree.proofs.MemoryLemmas.Following.{steps_any}
 
--- a text in which no character is a separator
+-- a text without a separator at any index
 pub no_slash_from_places : (text : Text) → ((i : ℕ) → i < length text → slice_index text i ≢ slash) → has_no_slash text ≡ true
 no_slash_from_places [] h = refl
 no_slash_from_places (x ∷ xs) h = and_from (not (x == slash)) (has_no_slash xs)
@@ -37,7 +38,7 @@ key_of_none (x ∷ xs) h =
     let other : (x == slash) ≡ false = ne_eqb x slash (λ same. h xs (ap (λ c. c ∷ xs) same)) in
     ap (λ b. cond (b && list_all is_proper (pieces xs)) (Some (pieces xs)) None) other
 
--- a name leads to the key that is longer by it, or nowhere
+-- a name leads to the key with that name added, or nowhere
 step_along : (c : Content) (k : Key) (name : Text) (m : Key) → is_proper name ≡ true → step c name k ≡ Some m → m ≡ k ++ name ∷ []
 step_along c k name m proper h = by_directory (is_dir_at c k) refl
   where
@@ -59,29 +60,34 @@ steps_to_directory c w k (name ∷ names) proper d =
     ∙ steps_to_directory c w (k ++ name ∷ []) names both.1 further
     ∙ ap Some (append_assoc k (name ∷ []) names)
 
--- names lead to the key that they make, or nowhere
+-- names lead to the key with those names added, or nowhere
 pub steps_along : (c : Content) (k names l : Key) → list_all is_proper names ≡ true → steps c (Some k) names ≡ Some l → l ≡ k ++ names
 steps_along c k [] l proper h = sym (same_Some k l h) ∙ sym (append-nil k)
 steps_along c k (name ∷ names) l proper h =
     let both = and_parts (is_proper name) (list_all is_proper names) proper in
-    along (step c name k) refl h (λ m is on. steps_along c m names l both.1 on ∙ ap (λ j. j ++ names) (step_along c k name m both.0 is) ∙ append_assoc k (name ∷ []) names)
+    along (step c name k) refl h (λ m is on. steps_along c m names l both.1 on ∙ ap (λ j. j ++ names)
+    (step_along c k name m both.0 is) ∙ append_assoc k (name ∷ []) names)
   where
-    along : (o : Option Key) → step c name k ≡ o → steps c o names ≡ Some l → ((m : Key) → step c name k ≡ Some m → steps c (Some m) names ≡ Some l → l ≡ k ++ name ∷ names) → l ≡ k ++ name ∷ names
+    along : (o : Option Key) → step c name k ≡ o → steps c o names ≡ Some l → ((m : Key) → step c name k ≡ Some m
+        → steps c (Some m) names ≡ Some l → l ≡ k ++ name ∷ names) → l ≡ k ++ name ∷ names
     along None is h then = absurd (none-some l (sym (steps_none c names) ∙ h))
     along (Some m) is h then = then m is h
 
--- a text of whose characters none is a separator
+-- a text without a separator among its characters
 pub no_slash_from_chars : (text rest : Text) → text ≡ rest → NoCharPasses (λ c. c == slash) rest → has_no_slash text ≡ true
-no_slash_from_chars text rest is none = ap has_no_slash is ∙ no_slash_from_places rest (λ i l. NoCharPasses-char slash rest i none (lit< tt) l)
+no_slash_from_chars text rest is none = ap has_no_slash is ∙ no_slash_from_places rest (λ i l. NoCharPasses-char slash
+    rest i none (lit< tt) l)
 
 -- a text of proper names is not empty
 proper_some : (names : Text) → list_all is_proper (pieces names) ≡ true → 0 < length names
 proper_some [] h = absurd (both_ways false refl h)
 proper_some (x ∷ xs) h = omega arith
 
-module _ (entries : List (Key × Kind)) (root : ℕ) (content : is_content (rooted_content entries) ≡ true) (is_root : entry_numbered entries root ≡ root_entry) where
+module _ (entries : List (Key × Kind)) (root : ℕ) (content : is_content (rooted_content entries) ≡ true)
+    (is_root : entry_numbered entries root ≡ root_entry) where
   -- where proper names lead from the root
-  resolve_names : (names : Text) → list_all is_proper (pieces names) ≡ true → resolve (content_at entries root) names ≡ steps (rooted_content entries) (Some []) (pieces names)
+  resolve_names : (names : Text) → list_all is_proper (pieces names) ≡ true → resolve (content_at entries root) names ≡
+      steps (rooted_content entries) (Some []) (pieces names)
   resolve_names names proper =
       resolve_steps (content_at entries root) names (proper_some names proper)
       ∙ ap (λ k. steps (content_at entries root) (Some k) (pieces names)) (from_root (begins_with slash names))
@@ -91,26 +97,34 @@ module _ (entries : List (Key × Kind)) (root : ℕ) (content : is_content (root
       from_root true = refl
       from_root false = ap (λ e. e.0) is_root
 
-  pub find_directory : (names : Text) → list_all is_proper (pieces names) ≡ true → (number : Option ℕ) → Leads entries number (resolve (content_at entries root) names)
+  pub find_directory : (names : Text) → list_all is_proper (pieces names) ≡ true → (number : Option ℕ) → Leads entries
+      number (resolve (content_at entries root) names)
       → IsFoundAt entries (pieces names) number
   find_directory names proper None leads = false_from_ne_true (is_dir_at (rooted_content entries) (pieces names)) (λ d.
-      let there = steps_to_directory (rooted_content entries) (IsContent-from_test (rooted_content entries) content) [] (pieces names) proper d in
+      let there = steps_to_directory (rooted_content entries) (IsContent-from_test (rooted_content entries) content) []
+      (pieces names) proper d in
       none-some (pieces names) (leads.0 ∙ resolve_names names proper ∙ there))
-  find_directory names proper (Some n) leads =
-      (leads.1, steps_along (rooted_content entries) [] (pieces names) (key_numbered entries n) proper (sym (leads.0 ∙ resolve_names names proper)))
+  find_directory names proper (Some n) leads = (
+    leads.1,
+    steps_along (rooted_content entries) [] (pieces names) (key_numbered entries n) proper
+        (sym (leads.0 ∙ resolve_names names proper)),
+  )
 
--- a text whose last name is after a separator
+-- a text cut before its last name
 pub pieces_last : (names directory name rest : Text) → names ≡ directory ++ slash ∷ name → name ≡ rest → NoCharPasses (λ c. c == slash) rest
     → pieces names ≡ pieces directory ++ name ∷ []
 pieces_last names directory name rest whole is none =
-    ap pieces whole ∙ pieces-append directory name ∙ ap (λ ps. pieces directory ++ ps) (pieces_one name (no_slash_from_chars name rest is none))
+    ap pieces whole ∙ pieces-append directory name ∙ ap (λ ps. pieces directory ++ ps) (pieces_one name
+    (no_slash_from_chars name rest is none))
 
--- a text cut at a place where a separator is
-pub cut_at_slash : (names directory name : Text) (i j : ℕ) → directory ≡ take i names → name ≡ drop j names → HasCharAt slash names i j → names ≡ directory ++ slash ∷ name
+-- a text cut at a separator
+pub cut_at_slash : (names directory name : Text) (i j : ℕ) → directory ≡ take i names → name ≡ drop j names
+    → HasCharAt slash names i j → names ≡ directory ++ slash ∷ name
 cut_at_slash names directory name i j before after at =
-    sym (take-append-drop i names) ∙ (λ k. sym before k ++ (drop_at_char slash names i j at (lit< tt) ∙ ap (λ rest. slash ∷ rest) (sym after)) k)
+    sym (take-append-drop i names) ∙ (λ k. sym before k ++ (drop_at_char slash names i j at (lit< tt) ∙ ap
+    (λ rest. slash ∷ rest) (sym after)) k)
 
--- what is after a separator of a text is one
+-- the rest after a separator is UTF-8
 pub utf8_after : (names name : Text) (i j : ℕ) → IsUtf8 names → name ≡ drop j names → HasCharAt slash names i j → is_utf8 name ≡ true
 utf8_after names name i j text after at =
     is_utf8-from_IsUtf8 name (subst IsUtf8 (sym after) (IsUtf8-drop names j text (subst (IsCharBoundary names) (sym at.ends) at.after)))

@@ -1,33 +1,45 @@
--- The answers of listings, whose path has a separator at its end.
-use Rattle.std.proofs.Common.{◌≡◌, ◌⊎◌, ℕ, true, [], List, Option, None, Result, Ok, Err, subst}
+-- The answers of listings that were made with a separator after the path.
+use Rattle.std.proofs.Common.{◌≡◌, ℕ, Bool, true, false, [], List, Option, None, Result, Ok, Err, subst}
 use Rattle.std.specs.Prelude.{option_and_then, IfErr, IfOk, IfSome, IsSome, OnOk, Vec}
 use Rattle.std.specs.Result.{IsErrAnd}
 use Rattle.std.specs.declared.io.Error.{Error}
 use Rattle.std.specs.declared.io.ErrorKind.{ErrorKind}
 use Rattle.glob_text.specs.Text.{Text}
-use Rattle.glob_tree.specs.Answers.{entries_of, names_of, IsEntriesAnswer, IsListAnswer, IsListError, IsListErrorOf, IsNameAnswer, IsTold}
-use Rattle.glob_tree.specs.Content.{Content, ListAnswer, is_content, list_result, look_result}
+use Rattle.glob_tree.specs.Answers.{entries_of, names_of, IsListAnswer, IsListError, IsListErrorOf, AreListedNames, IsTold}
+use Rattle.glob_tree.specs.Content.{Content, ListAnswer, Entries, Fails, NoDirectory, is_content, list_result, look_result}
 use Rattle.glob_tree.specs.Directories.{names_in}
 use Rattle.glob_tree.specs.FileSystems.{FileSystem, IsHeld, IsOpened, OpenMayFail, IsReceived, is_direct, strays_found}
-use Rattle.glob_tree.specs.Followed.{followed, list_followed, list_looked, look_followed}
+use Rattle.glob_tree.specs.Followed.{answer_followed, followed, list_followed, look_followed}
 use Rattle.glob_tree.specs.Paths.{join}
-use Rattle.glob_tree.specs.Private.Listing.{are_looked_up, is_said_dir, is_followed_dir, is_dir_in, said_entries, are_text_names, IsEntriesError}
+use Rattle.glob_tree.specs.Private.Listing.{IsEntriesError, are_names_taken, failing, is_dir_in, said_entries}
 use Rattle.glob_tree.specs.Private.Looking.{AreDirect}
 use Rattle.glob_tree.specs.Strays.{and_then, texts_of, strays_of}
-use Rattle.glob_tree.specs.declared.disk.Kinds.{Kinds}
 use Rattle.glob_tree.specs.declared.tree.Entry.{Entry}
 use Rattle.glob_tree.specs.declared.tree.ListError.{ListError}
+use Rattle.glob_tree.specs.declared.tree.ListError.TheVariants.{Read, Memory}
 use Rattle.glob_tree.specs.declared.tree.Look.{Look}
 use Rattle.glob_tree.proofs.SystemLemmas.Finding.{Follows-from_told, is_direct-from_links, look_followed-plain}
 use Rattle.glob_tree.proofs.SystemLemmas.Listing.{list_followed-plain}
-use Rattle.glob_tree.proofs.SystemLemmas.Opening.{followed_answer, followed_fault, followed_unopened, kept_answer, kept_fault, kept_names, kept_strays, looked_answer, kept_unopened}
+use Rattle.glob_tree.proofs.SystemLemmas.Opening.{followed_fault, followed_unopened, kept_answer, kept_fault}
+use Rattle.glob_tree.proofs.SystemLemmas.Opening.{kept_names, kept_strays, kept_unopened}
 
--- what was opened, by another text of its path
+-- what an equal path opens
 pub opened_at : (f : FileSystem) (text buffer : Text) → text ≡ buffer → (left : Option (List ℕ)) (fault : Option ErrorKind)
     → (is_direct f text ≡ true → IsOpened (list_result f.content text) (strays_found f text) left fault)
     → is_direct f buffer ≡ true → IsOpened (list_result f.content buffer) (strays_found f buffer) left fault
 opened_at f text buffer same left fault = subst
     (λ p. is_direct f p ≡ true → IsOpened (list_result f.content p) (strays_found f p) left fault) same
+
+-- the error of a listing that no name fails
+as_received : (f : FileSystem) (path : Text) (e : ListError) → IsListError (list_result f.content path) e
+    → IsListError (answer_followed f path (list_result f.content path) []) e
+as_received f path Memory is = tt
+as_received f path (Read e) is = by_answer (list_result f.content path) is
+  where
+    by_answer : (a : ListAnswer) → IsListError a (Read e) → IsListError (answer_followed f path a []) (Read e)
+    by_answer (Entries es) is = is
+    by_answer (Fails kind) is = is
+    by_answer NoDirectory is = is
 
 module _ (f : FileSystem) (w : is_content f.content ≡ true) (path buffer : Text) (same : buffer ≡ join path []) where
   module _ (left : Option (List ℕ)) (fault : Option ErrorKind)
@@ -36,26 +48,7 @@ module _ (f : FileSystem) (w : is_content f.content ≡ true) (path buffer : Tex
         → IsOpened (list_result f.content (join path [])) (strays_found f (join path [])) left fault
     opened_join = opened_at f buffer (join path []) same left fault opened
 
-    -- where links are followed
-    pub read_followed : {A E : Type 0} (kinds : Kinds) (r : Result (Vec (Entry A) A) E)
-        → OnOk r (IfSome left (λ bytes. are_text_names (names_in bytes) ≡ true))
-        → (AreDirect f buffer
-        → IfOk r (λ v. IfSome left (λ bytes. entries_of v.items ≡ said_entries (is_said_dir f kinds buffer) (names_in bytes))))
-        → (IsSome left → OnOk r (fault ≡ None))
-        → IfOk r (λ v. IsEntriesAnswer (are_looked_up kinds) (list_followed f path) (entries_of v.items))
-    read_followed kinds (Err e) texts is whole = tt
-    read_followed {A} kinds (Ok v) texts is whole =
-        followed_answer f w path left fault opened_join kinds v texts
-        (subst (λ b. AreDirect f b
-        → IfSome left (λ bytes. entries_of v.items ≡ said_entries (is_said_dir f kinds b) (names_in bytes))) same is) whole
-
-    pub fault_followed : {T : Type 0} (r : Result T ListError)
-        → IfErr r (λ e. IfSome left (λ bytes. IsEntriesError (are_text_names (names_in bytes)) fault e))
-        → IfErr r (λ e. IsListError (list_followed f path) e)
-    fault_followed (Ok x) is = tt
-    fault_followed (Err e) is = followed_fault f w path left fault opened_join e is
-
-    -- where the content has each link
+    -- if the content has every link
     pub read_kept : {A E : Type 0} (r : Result (Vec (Entry A) A) E)
         → (AreDirect f buffer
         → IfOk r (λ v. IfSome left
@@ -67,30 +60,21 @@ module _ (f : FileSystem) (w : is_content f.content ≡ true) (path buffer : Tex
         (subst (λ b. AreDirect f b
         → IfSome left (λ bytes. entries_of v.items ≡ said_entries (is_dir_in f.content b) (texts_of (names_in bytes)))) same is) whole
 
-    pub read_looked : {A E : Type 0} (R : Type 0) (r : Result (Vec (Entry A) A) E)
-        → (AreDirect f buffer
-        → IfOk r (λ v. IfSome left
-        (λ bytes. (entries_of v.items ≡ said_entries (is_followed_dir f buffer) (texts_of (names_in bytes))) ⊎ R)))
-        → (IsSome left → OnOk r (fault ≡ None)) → IfOk r (λ v. IsListAnswer (list_looked f path) (entries_of v.items) ⊎ R)
-    read_looked R (Err e) is whole = tt
-    read_looked {A} R (Ok v) is whole =
-        looked_answer f w path left fault opened_join v R
-        (subst (λ b. AreDirect f b
-        → IfSome left (λ bytes. (entries_of v.items ≡ said_entries (is_followed_dir f b) (texts_of (names_in bytes))) ⊎ R)) same is) whole
-
     pub named_kept : {A E : Type 0} (r : Result (Vec (Entry A) A) E)
         → IfOk r (λ v. IfSome left (λ bytes. names_of (entries_of v.items) ≡ texts_of (names_in bytes)))
-        → (IsSome left → OnOk r (fault ≡ None)) → IfOk r (λ v. IsNameAnswer (list_result f.content path) (names_of (entries_of v.items)))
+        → (IsSome left → OnOk r (fault ≡ None)) → IfOk r (λ v. AreListedNames (list_result f.content path) (names_of (entries_of v.items)))
     named_kept (Err e) is whole = tt
     named_kept (Ok v) is whole = kept_names f w path left fault opened_join (names_of (entries_of v.items)) is whole
 
-    pub fault_kept : {T : Type 0} (r : Result T ListError)
-        → IfErr r (λ e. IfSome left (λ bytes. IsEntriesError (are_text_names (texts_of (names_in bytes))) fault e))
-        → IfErr r (λ e. IsListError (list_result f.content path) e)
-    fault_kept (Ok x) is = tt
-    fault_kept (Err e) is = kept_fault f w path left fault opened_join e is
+    pub fault_taken : {T : Type 0} (receives : Bool) (r : Result T ListError)
+        → IfErr r (λ e. IfSome left (λ bytes. IsEntriesError (are_names_taken receives (names_in bytes)) fault e))
+        → IfErr r (λ e. IsListError (answer_followed f path (list_result f.content path) (failing receives (strays_found f path))) e)
+    unfolding list_followed
+    fault_taken receives (Ok x) is = tt
+    fault_taken true (Err e) is = as_received f path e (kept_fault f w path left fault opened_join e is)
+    fault_taken false (Err e) is = followed_fault f w path left fault opened_join e is
 
-    -- the strays
+    -- the strays that were received
     pub received : {T E : Type 0} (r : Result T E) (old new : Option (List Text))
         → OnOk r (IfSome left (λ bytes. new ≡ and_then old (strays_of (names_in bytes))))
         → OnOk r (IsReceived (list_result f.content path) (strays_found f path) old new)
@@ -101,17 +85,14 @@ module _ (f : FileSystem) (w : is_content f.content ≡ true) (path buffer : Tex
     fault_join : is_direct f (join path []) ≡ true → OpenMayFail (list_result f.content (join path [])) e
     fault_join = subst (λ b. is_direct f b ≡ true → OpenMayFail (list_result f.content b) e) same fault
 
-    pub unopened_followed : {T : Type 0} (r : Result T ListError) → IsErrAnd r (IsListErrorOf e)
-        → IfErr r (λ made. IsListError (list_followed f path) made)
-    unopened_followed (Ok x) is = tt
-    unopened_followed (Err made) is = followed_unopened f w path e made fault_join is
+    pub unopened_taken : {T : Type 0} (receives : Bool) (r : Result T ListError) → IsErrAnd r (IsListErrorOf e)
+        → IfErr r (λ made. IsListError (answer_followed f path (list_result f.content path) (failing receives (strays_found f path))) made)
+    unfolding list_followed
+    unopened_taken receives (Ok x) is = tt
+    unopened_taken true (Err made) is = as_received f path made (kept_unopened f w path e made fault_join is)
+    unopened_taken false (Err made) is = followed_unopened f w path e made fault_join is
 
-    pub unopened_kept : {T : Type 0} (r : Result T ListError) → IsErrAnd r (IsListErrorOf e)
-        → IfErr r (λ made. IsListError (list_result f.content path) made)
-    unopened_kept (Ok x) is = tt
-    unopened_kept (Err made) is = kept_unopened f w path e made fault_join is
-
--- what is so of an answer that follows links is so of the content, where that is known
+-- what holds of the answers with links followed holds of those of the content, if that is known
 pub of_content : (files : Option FileSystem) (c : Content) → IsTold (option_and_then followed files) c
     → (path : Text) (P : ListAnswer → Type 0)
     → ((f : FileSystem) → IsHeld files f → P (list_followed f path)) → P (list_result c path)

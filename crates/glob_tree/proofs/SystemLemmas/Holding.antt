@@ -1,5 +1,6 @@
 -- A system that holds the files of a tree in memory.
-use Rattle.std.proofs.Common.{◌≡◌, ℕ, true, false, not, cond, ◌&&◌, ◌+◌, ◌<◌, List, [], ◌∷◌, ◌++◌, length, take, Option, Some, None, Result, refl, ap, sym, subst, ◌∙◌}
+use Rattle.std.proofs.Common.{◌≡◌, ℕ, true, false, not, cond, ◌&&◌, ◌+◌, ◌<◌, List, [], ◌∷◌, ◌++◌, length, take, Option}
+use Rattle.std.proofs.Common.{Some, None, Result, refl, ap, sym, subst, ◌∙◌}
 use Rattle.std.specs.Prelude.{All, ◌==◌, IsPermutation, slice_index_or, bytes_eq, option_and_then}
 use Rattle.std.specs.List.{filter, list_any, list_all, slice_split}
 use Rattle.std.specs.Path.{parent_dir}
@@ -17,7 +18,8 @@ use Rattle.glob_text.specs.Text.{Text}
 use Rattle.glob_tree.specs.Answers.{entries_of, names_of}
 use Rattle.glob_tree.specs.Content.{Content, Key, is_content, kind_at, resolve, look_of, look_result, DirEntry, Entries, list_result}
 use Rattle.glob_tree.specs.Directories.{is_listed, names_in}
-use Rattle.glob_tree.specs.FileSystems.{FileSystem, IsHeld, IsOpened, IsStatAnswer, lstat_at, stat_at, lstat_found, stat_found, plain_files, strays_at, strays_found}
+use Rattle.glob_tree.specs.FileSystems.{FileSystem, IsHeld, IsOpened, IsStatAnswer, lstat_at, stat_at, lstat_found}
+use Rattle.glob_tree.specs.FileSystems.{stat_found, plain_files, strays_at, strays_found}
 use Rattle.glob_tree.specs.Paths.{is_barred, is_proper, nul, stays}
 use Rattle.glob_tree.specs.Private.Listing.{are_text_names, found_by, is_text_name, name_bytes}
 use Rattle.glob_tree.specs.Strays.{texts_of, strays_of}
@@ -26,7 +28,7 @@ use Rattle.glob_tree.specs.declared.kind.Kind.TheVariants.{Dir, Shut, Other}
 use Rattle.glob_tree.specs.declared.tree.Entry.{Entry}
 use Rattle.glob_tree.proofs.StraysLemmas.{names_more}
 use Rattle.glob_tree.proofs.SystemLemmas.Listing.{texts_read}
-use Rattle.glob_tree.proofs.SystemLemmas.Opening.{no_strays, texts_same}
+use Rattle.glob_tree.proofs.SystemLemmas.Naming.{no_strays, texts_same}
 
 -- without links, `lstat` and `stat` find the same
 pub plain_found : (c : Content) (path : Text)
@@ -53,7 +55,7 @@ no_nul (b ∷ bs) h =
     let parts = or_parts (is_barred b) (list_any is_barred bs) h in
     All-cons (λ b. (b == nul) ≡ false) b bs (or_parts (b == slash) (b == nul) parts.0).1 (no_nul bs parts.1)
 
--- the names in the bytes of names are these
+-- names written as bytes are read back
 pub names_in_bytes : (names : List Text) → are_text_names names ≡ true → names_in (name_bytes names) ≡ names
 unfolding are_text_names names_in
 names_in_bytes [] all = refl
@@ -67,7 +69,7 @@ names_in_bytes (n ∷ names) all =
     (filter is_listed (slice_split (λ b. b == nul) (name_bytes names)))) parts.0
     ∙ ap (λ ns. n ∷ ns) (names_in_bytes names both.1)
 
--- one name more
+-- the bytes of one more name
 pub name_bytes-more : (names : List Text) (n : Text) → name_bytes (names ++ n ∷ []) ≡ name_bytes names ++ (n ++ nul ∷ [])
 name_bytes-more [] n = refl
 name_bytes-more (m ∷ names) n = ap (λ bs. m ++ nul ∷ bs) (name_bytes-more names n)
@@ -77,7 +79,7 @@ no_strays_at : (c : Content) (o : Option Key) → strays_at (plain_files c) o �
 no_strays_at c None = refl
 no_strays_at c (Some k) = refl
 
--- the directory that is opened
+-- opening a directory gives its names
 pub opened_plain : (c : Content) → is_content c ≡ true → (path : Text) (es : List DirEntry) → list_result c path ≡ Entries es
     → IsOpened (list_result c path) (strays_found (plain_files c) path) (Some (name_bytes (names_of es))) None
 unfolding strays_found
@@ -95,7 +97,7 @@ opened_plain c w path es from =
       ),
     )
 
--- in the files that are held
+-- what is found in the files of the tree
 pub found_held : (c : Content) (f : FileSystem) → Some (plain_files c) ≡ Some f → (path : Text) (r : Result Metadata Error)
     → IsStatAnswer (found_by (look_result c path)) r
     → IsStatAnswer (lstat_found f path) r × IsStatAnswer (stat_found f path) r
@@ -112,7 +114,7 @@ opened_held c f held path es from bytes is =
     (subst (λ bs. IsOpened (list_result c path) (strays_found (plain_files c) path) (Some bs) None) (sym is)
     (opened_plain c (ap (λ g. is_content g.content) same ∙ held.1) path es from))
 
--- the bytes of one entry more
+-- the bytes of one more entry
 pub bytes_more : {A : Type 0} (entries : List (Entry A)) (i : ℕ) (e : Entry A) → i < length entries → e ≡ slice_index_or entries i e
     → (bytes : List ℕ)
     → bytes ≡ name_bytes (names_of (entries_of (take i entries)))

@@ -1,4 +1,4 @@
--- What a listing returns, by what an opened directory has to read.
+-- What a listing returns, by the bytes of the opened directory.
 use Rattle.std.proofs.Common.{◌≡◌, Bool, true, false, map, ⊎_elim, List, [], ◌∷◌, ◌++◌, Option, Some, None, refl, ap, sym, subst, ◌∙◌}
 use Rattle.std.specs.Prelude.{Contains, IsPermutation, option_and_then}
 use Rattle.std.specs.List.{list_all, filter}
@@ -8,15 +8,15 @@ use Rattle.std.proofs.lemmas.Bool.{and_from, both_ways}
 use Rattle.std.proofs.lemmas.List.{append-nil}
 use Rattle.std.proofs.lemmas.List.Sorted.{IsPermutation-map, IsPermutation-sym, Contains-permutation}
 use Rattle.glob_text.specs.Text.{Text}
-use Rattle.glob_tree.specs.Answers.{names_of, IsEntriesAnswer}
-use Rattle.glob_tree.specs.Content.{Content, Key, same_key, is_content, kind_at, is_dir, is_dir_at, step, resolve, look_of, look_result, DirEntry, children, ListAnswer, Entries, Fails, NoDirectory, list_of, list_found, list_result}
-use Rattle.glob_tree.specs.FileSystems.{FileSystem, stat_found, has_directory_links, strays_at, strays_found}
-use Rattle.glob_tree.specs.Followed.{is_found_directory, entry_followed, answer_followed, list_followed, has_strays}
+use Rattle.glob_tree.specs.Answers.{names_of}
+use Rattle.glob_tree.specs.Content.{Content, Key, same_key, is_content, kind_at, is_dir, is_dir_at, step, resolve}
+use Rattle.glob_tree.specs.Content.{look_of, look_result, DirEntry, children, ListAnswer, Entries, Fails, NoDirectory}
+use Rattle.glob_tree.specs.Content.{list_of, list_found, list_result}
+use Rattle.glob_tree.specs.FileSystems.{FileSystem, has_directory_links, strays_at, strays_found}
+use Rattle.glob_tree.specs.Followed.{entry_followed, answer_followed, list_followed, has_strays}
 use Rattle.glob_tree.specs.Looks.{is_directory}
 use Rattle.glob_tree.specs.Paths.{join, is_proper}
-use Rattle.glob_tree.specs.Private.Listing.{are_looked_up, is_said_dir, is_dir_in, said_entry, said_entries, is_text_name, are_text_names}
-use Rattle.glob_tree.specs.declared.disk.Kinds.{Kinds}
-use Rattle.glob_tree.specs.declared.disk.Kinds.TheVariants.{LookedUp, LeftOut}
+use Rattle.glob_tree.specs.Private.Listing.{is_dir_in, said_entry, said_entries, is_text_name, are_text_names}
 use Rattle.glob_tree.specs.declared.kind.Kind.{Kind}
 use Rattle.glob_tree.specs.declared.kind.Kind.TheVariants.{Dir, Shut, Other}
 use Rattle.glob_tree.proofs.ContentLemmas.Contents.{IsContent, IsContent-from_test, IsChild-list_result}
@@ -25,7 +25,7 @@ use Rattle.glob_tree.proofs.ContentLemmas.Membership.{Contains-head, Contains-ta
 use Rattle.glob_tree.proofs.ContentLemmas.Resolving.{resolve_join, resolve_join_none, step_here, step_none}
 use Rattle.glob_tree.proofs.SystemLemmas.Finding.{stat_looked}
 
--- a separator at the end of a path changes no listing
+-- a separator at the end of a path does not change its listing
 pub list_result-join : (c : Content) (path : Text) → list_result c (join path []) ≡ list_result c path
 unfolding list_result
 list_result-join c path = from_key (resolve c path) refl
@@ -54,19 +54,27 @@ entries_in (Entries es) = es
 entries_in (Fails kind) = []
 entries_in NoDirectory = []
 
--- the directory whose entries are listed
-record Lists (c : Content) (path : Text) (es : List DirEntry) : Type 0 where
+-- a path to a directory that can be listed
+pub record Lists (c : Content) (path : Text) (es : List DirEntry) : Type 0 where
   pub k : Key
   pub leads : LeadsTo c path k
   pub all : children c k ≡ es
 
-Lists-from_result : (c : Content) (path : Text) (es : List DirEntry) → list_result c path ≡ Entries es → Lists c path es
+pub Lists-from_result : (c : Content) (path : Text) (es : List DirEntry) → list_result c path ≡ Entries es → Lists c path es
 unfolding list_result is_entries entries_in
 Lists-from_result c path es h = from_key (resolve c path) refl h
   where
     from_kind : (k : Key) (o : Option Kind) → resolve c path ≡ Some k → kind_at c k ≡ o → list_of c k o ≡ Entries es → Lists c path es
     from_kind k None r is h = absurd (both_ways false refl (ap is_entries h))
-    from_kind k (Some Dir) r is h = record { k = k; leads = record { resolved = r; directory = is_dir_at-kind c k Dir is }; all = ap entries_in h }
+    from_kind k (Some Dir) r is h = record {
+      k = k;
+      leads = record {
+        resolved = r;
+        directory = is_dir_at-kind c k Dir
+            is;
+      };
+      all = ap entries_in h;
+    }
     from_kind k (Some (Shut kind)) r is h = absurd (both_ways false refl (ap is_entries h))
     from_kind k (Some Other) r is h = absurd (both_ways false refl (ap is_entries h))
 
@@ -79,14 +87,15 @@ looked Dir = refl
 looked (Shut kind) = refl
 looked Other = refl
 
--- a look at an entry finds what the entry says
+-- a look at an entry agrees with the entry
 entry_looked : (c : Content) → IsContent c → (path : Text) (k : Key) → LeadsTo c path k → (l : DirEntry) → Contains (children c k) l
     → is_directory (look_result c (join path l.0)) ≡ l.1
 unfolding look_result
 entry_looked c w path k at l in' =
     let is = IsChild-list_result c w k l in' in
     let name = IsName-from_proper l.0 is.proper in
-    ap (λ o. is_directory (look_of (option_and_then (kind_at c) o))) (resolve_join c path l.0 k at.resolved name.plain ∙ step_name c k l.0 name at.directory is.kind is.held)
+    ap (λ o. is_directory (look_of (option_and_then (kind_at c) o))) (resolve_join c path l.0 k at.resolved name.plain
+    ∙ step_name c k l.0 name at.directory is.kind is.held)
     ∙ ap (λ o. is_directory (look_of o)) is.held
     ∙ looked is.kind
     ∙ is.is_same
@@ -95,69 +104,32 @@ pub joined : (path name : Text) → join path [] ++ name ≡ join path name
 unfolding join
 joined path name = ap (λ p. p ++ name) (append-nil (with_separator path))
 
--- each entry is what is said of its name
-all_said : (c : Content) (path : Text) (es : List DirEntry) → ((l : DirEntry) → Contains es l → is_directory (look_result c (path ++ l.0)) ≡ l.1)
+-- the entries made from names are those of the directory
+all_said : (c : Content) (path : Text) (es : List DirEntry) → ((l : DirEntry) → Contains es l → is_directory
+    (look_result c (path ++ l.0)) ≡ l.1)
     → said_entries (is_dir_in c path) (names_of es) ≡ es
 unfolding said_entries
 all_said c path [] h = refl
 all_said c path (e ∷ es) h = λ i. (e.0, h e (Contains-head e es) i) ∷ all_said c path es (λ l in'. h l (Contains-tail e es l in')) i
-
-names_said : (said : Text → Bool) (names : List Text) → names_of (said_entries said names) ≡ names
-unfolding said_entries
-names_said said [] = refl
-names_said said (n ∷ names) = ap (λ ns. n ∷ ns) (names_said said names)
-
--- no entry that was not looked up is said to be a directory
-none_said : (f : FileSystem) (path : Text) (names : List Text) (e : DirEntry)
-    → Contains (said_entries (is_said_dir f LeftOut path) names) e → e.1 ≡ false
-unfolding said_entries
-none_said f path [] e in' = absurd (Contains-nil e in')
-none_said f path (n ∷ names) e in' = ⊎_elim
-    (λ same. sym (ap (λ x. x.1) same))
-    (λ later. none_said f path names e later)
-    (Contains-cases (n, false) (said_entries (is_said_dir f LeftOut path) names) e in')
 
 said_moved : (said : Text → Bool) (names more : List Text) → IsPermutation names more
     → IsPermutation (said_entries said names) (said_entries said more)
 unfolding said_entries
 said_moved said names more moved = IsPermutation-map (said_entry said) names more moved
 
-said_followed : (f : FileSystem) (path : Text) (es : List DirEntry)
-    → said_entries (is_said_dir f LookedUp (join path [])) (names_of es) ≡ map (entry_followed f path) es
-unfolding said_entries
-said_followed f path [] = refl
-said_followed f path (e ∷ es) = λ i. (e.0, is_found_directory (stat_found f (joined path e.0 i))) ∷ said_followed f path es i
-
-names_followed : (f : FileSystem) (path : Text) (es : List DirEntry) → names_of (map (entry_followed f path) es) ≡ names_of es
-names_followed f path [] = refl
-names_followed f path (e ∷ es) = ap (λ ns. e.0 ∷ ns) (names_followed f path es)
-
--- entries where links are followed
-pub entries_followed : (f : FileSystem) (path : Text) (kinds : Kinds) (es : List DirEntry) (names : List Text)
-    → IsPermutation (names_of es) names
-    → IsEntriesAnswer (are_looked_up kinds) (Entries (map (entry_followed f path) es))
-    (said_entries (is_said_dir f kinds (join path [])) names)
-entries_followed f path LookedUp es names moved =
-    subst (λ ls. IsPermutation ls (said_entries (is_said_dir f LookedUp (join path [])) names)) (said_followed f path es)
-    (said_moved (is_said_dir f LookedUp (join path [])) (names_of es) names moved)
-entries_followed f path LeftOut es names moved = (
-  subst (IsPermutation (names_of (map (entry_followed f path) es))) (sym (names_said (is_said_dir f LeftOut (join path [])) names))
-      (subst (λ ns. IsPermutation ns names) (sym (names_followed f path es)) moved),
-  λ e in' d. absurd (both_ways e.1 (none_said f (join path []) names e in') d),
-)
-
--- entries where the content has each link
+-- the entries, if the content has every link
 pub entries_kept : (c : Content) → is_content c ≡ true → (path : Text) (es : List DirEntry) → list_result c path ≡ Entries es
     → (names : List Text)
     → IsPermutation (names_of es) names → IsPermutation es (said_entries (is_dir_in c (join path [])) names)
 entries_kept c w path es at names moved =
     let of = Lists-from_result c path es at in
     let each : (l : DirEntry) → Contains es l → is_directory (look_result c (join path [] ++ l.0)) ≡ l.1 = λ l in'.
-    ap (λ p. is_directory (look_result c p)) (joined path l.0) ∙ entry_looked c (IsContent-from_test c w) path of.k of.leads l (subst (λ ls. Contains ls l) (sym of.all) in') in
+    ap (λ p. is_directory (look_result c p)) (joined path l.0) ∙ entry_looked c (IsContent-from_test c w) path of.k
+    of.leads l (subst (λ ls. Contains ls l) (sym of.all) in') in
     subst (λ ls. IsPermutation ls (said_entries (is_dir_in c (join path [])) names)) (all_said c (join path []) es each)
     (said_moved (is_dir_in c (join path [])) (names_of es) names moved)
 
--- a tree that follows links lists the content, where no link points to a directory and each name is a text
+-- a tree that follows links lists the content, if no link points to a directory and each name is UTF-8
 pub list_followed-plain : (f : FileSystem) → is_content f.content ≡ true → has_directory_links f ≡ false → has_strays f.strays ≡ false
     → (path : Text)
     → list_followed f path ≡ list_result f.content path
@@ -195,9 +167,10 @@ list_followed-plain f w non texts path = by_strays f.strays refl texts ∙ by_an
 all_texts : (names : List Text) → ((n : Text) → Contains names n → is_text_name n ≡ true) → are_text_names names ≡ true
 unfolding are_text_names
 all_texts [] h = refl
-all_texts (n ∷ names) h = and_from (is_text_name n) (list_all is_text_name names) (h n (Contains-head n names)) (all_texts names (λ m in'. h m (Contains-tail n names m in')))
+all_texts (n ∷ names) h = and_from (is_text_name n) (list_all is_text_name names) (h n (Contains-head n names))
+    (all_texts names (λ m in'. h m (Contains-tail n names m in')))
 
--- a name is that of an entry
+-- each name is that of an entry
 entry_named : (es : List DirEntry) (n : Text) → Contains (names_of es) n → (l : DirEntry) × Contains es l × (l.0 ≡ n)
 entry_named [] n in' = absurd (Contains-nil n in')
 entry_named (e ∷ es) n in' = ⊎_elim
@@ -205,11 +178,13 @@ entry_named (e ∷ es) n in' = ⊎_elim
     (λ later. let (l, there, is) = entry_named es n later in (l, Contains-tail e es l there, is))
     (Contains-cases e.0 (names_of es) n in')
 
--- the names that are read of a directory are texts, and proper
-pub texts_read : (c : Content) → is_content c ≡ true → (path : Text) (es : List DirEntry) → list_result c path ≡ Entries es → (names : List Text)
+-- the names read from a directory are UTF-8 and proper
+pub texts_read : (c : Content) → is_content c ≡ true → (path : Text) (es : List DirEntry) → list_result c path ≡
+    Entries es → (names : List Text)
     → IsPermutation (names_of es) names → are_text_names names ≡ true
 texts_read c w path es at names moved = all_texts names (λ n in'.
     let of = Lists-from_result c path es at in
-    let (l, there, same) = entry_named es n (Contains-permutation names (names_of es) n (IsPermutation-sym (names_of es) names moved) in') in
+    let (l, there, same) = entry_named es n (Contains-permutation names (names_of es) n (IsPermutation-sym
+    (names_of es) names moved) in') in
     let is = IsChild-list_result c (IsContent-from_test c w) of.k l (subst (λ ls. Contains ls l) (sym of.all) there) in
     ap is_text_name (sym same) ∙ and_from (is_utf8 l.0) (is_proper l.0) is.utf8 is.proper)

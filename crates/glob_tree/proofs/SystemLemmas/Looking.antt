@@ -1,39 +1,43 @@
--- What lookups that keep or follow links say of a path.
-use Rattle.std.proofs.Common.{◌≡◌, ◌≢◌, ℕ, Bool, true, false, cond, inl, inr, ⊎_elim, List, [], ◌∷◌, ◌++◌, Option, Some, None, Ok, refl, ap, sym, subst, ◌∙◌}
+-- What lookups that keep or follow links say about a path.
+use Rattle.std.proofs.Common.{◌≡◌, ◌≢◌, ℕ, Bool, true, false, cond, inl, inr, List, [], ◌∷◌, ◌++◌, Option, Some, None}
+use Rattle.std.proofs.Common.{Ok, refl, ap, sym, subst, ◌∙◌}
 use Rattle.std.specs.Prelude.{is_some, option_map, option_and_then}
 use Rattle.std.specs.Fs.{file_type, IsDir, IsSymlink}
-use Rattle.std.specs.List.{list_any}
 use Rattle.std.specs.Path.{has_no_slash}
 use Rattle.std.specs.declared.fs.attrs.Metadata.{Metadata}
 use Rattle.std.proofs.lemmas.Bool.{both_ways}
-use Rattle.std.proofs.lemmas.List.{append_assoc}
 use Rattle.std.proofs.lemmas.Option.{none-some, same_Some}
 use Rattle.glob_text.specs.Characters.{slash}
 use Rattle.glob_text.specs.Text.{Text}
 use Rattle.glob_tree.specs.Answers.{IsTold}
 use Rattle.glob_tree.specs.Content.{Content, Key, is_content, kind_at, resolve, look_result}
 use Rattle.glob_tree.specs.Disks.{content_with_links}
-use Rattle.glob_tree.specs.FileSystems.{FileSystem, Target, Nowhere, AFile, ADirectory, is_a_directory, target_at, Found, Directory, Symlink, File, lstat_type, stat_type, lstat_at, stat_at, lstat_found, stat_found, IsStatAnswer, is_direct, has_directory_links}
-use Rattle.glob_tree.specs.Followed.{look_found, look_through, look_followed, is_found_directory, IsLinkReceived}
+use Rattle.glob_tree.specs.FileSystems.{FileSystem, Target, Nowhere, AFile, ADirectory, target_at, Found, Directory}
+use Rattle.glob_tree.specs.FileSystems.{Symlink, File, lstat_reports, stat_reports, lstat_at, stat_at, lstat_found}
+use Rattle.glob_tree.specs.FileSystems.{stat_found, IsStatAnswer, is_direct, has_directory_links}
+use Rattle.glob_tree.specs.Followed.{look_found, look_through, look_followed, is_found_directory, IsLookSaid}
 use Rattle.glob_tree.specs.Looks.{is_directory}
-use Rattle.glob_tree.specs.Private.Looking.{has_places, IsSeen, IsFoundAs, IsReasoned, IsWay, HasWay, LeadsOn, IsOnWay}
-use Rattle.glob_tree.specs.Strays.{and_then, Grows}
+use Rattle.glob_tree.specs.Private.Looking.{has_places, IsSeen, IsFoundAs, IsWay, HasWay, LeadsOn, IsOnWay}
+use Rattle.glob_tree.specs.Private.Listing.{IsSaid}
+use Rattle.glob_tree.specs.Strays.{Grows}
 use Rattle.glob_tree.specs.declared.kind.Kind.{Kind}
 use Rattle.glob_tree.specs.declared.kind.Kind.TheVariants.{Dir, Shut, Other}
 use Rattle.glob_tree.specs.declared.physical.Links.{Links}
 use Rattle.glob_tree.specs.declared.physical.Links.TheVariants.{Kept, Followed}
+use Rattle.glob_tree.specs.declared.tree.Look.{Look}
 use Rattle.glob_tree.specs.declared.tree.Look.TheVariants as look
-use Rattle.glob_tree.proofs.StraysLemmas.{and_then-append, grows_same}
+use Rattle.glob_tree.proofs.ContentLemmas.Membership.{Contains-head}
 use Rattle.glob_tree.proofs.SystemLemmas.Finding.{missing_other, no_target, lstat_look, answer_directory, answer_other, answer_symlink}
 use Rattle.glob_tree.proofs.SystemLemmas.Ways.{direct_one, direct_below, nothing_below, said_no, way_above}
 
--- a told content is that of files that are seen
+-- the known content is that of a known file system
 pub record Sees (links : Links) (files : Option FileSystem) (c : Content) : Type 0 where
   pub f : FileSystem
   pub seen : IsSeen links files f
   pub same : f.content ≡ c
 
-pub Sees-from_told : (links : Links) (files : Option FileSystem) (c : Content) → IsTold (option_and_then (content_with_links links) files) c → Sees links files c
+pub Sees-from_told : (links : Links) (files : Option FileSystem) (c : Content) → IsTold (option_and_then
+    (content_with_links links) files) c → Sees links files c
 Sees-from_told links None c told = absurd (none-some c told.0)
 Sees-from_told Kept (Some f) c told =
     let same = same_Some f.content c told.0 in
@@ -46,7 +50,7 @@ Sees-from_told Followed (Some f) c told = by_test (has_directory_links f) refl t
         let same = same_Some f.content c h in
         record { f = f; seen = ((refl, ap is_content same ∙ told.1), ap (λ b. is_some (cond b None (Some f.content))) e); same = same }
 
--- the metadata of what is found
+-- metadata of what was found is an answer
 as_answer : (found : Option Found) (m : Metadata) → IsFoundAs found (Some m) → IsStatAnswer found (Ok m)
 as_answer None m h = absurd h
 as_answer (Some t) m h = h
@@ -59,31 +63,37 @@ none_found (Some t) h = absurd h
 pub look_nothing : (f : FileSystem) (path : Text) → IsFoundAs (lstat_found f path) None → look.Missing ≡ look_result f.content path
 look_nothing f path h = none_found (lstat_found f path) h ∙ lstat_look f path
 
--- what was found is no link that is followed
-pub look_something : (f : FileSystem) (path : Text) (m : Metadata) (d : Bool) → IsFoundAs (lstat_found f path) (Some m) → (d ≡ true → IsDir (file_type m)) → (IsDir (file_type m) → d ≡ true)
+-- something was found that is not a followed link
+pub look_something : (f : FileSystem) (path : Text) (m : Metadata) (d : Bool) → IsFoundAs (lstat_found f path) (Some m)
+    → (d ≡ true → IsDir (file_type m)) → (IsDir (file_type m) → d ≡ true)
     → cond d look.Dir look.Other ≡ look_result f.content path
-look_something f path m true h is back = answer_directory look.Missing (lstat_found f path) m (as_answer (lstat_found f path) m h) (is refl) ∙ lstat_look f path
-look_something f path m false h is back = answer_other look.Missing (lstat_found f path) m (as_answer (lstat_found f path) m h) (λ d. both_ways false refl (back d)) ∙ lstat_look f path
+look_something f path m true h is back = answer_directory look.Missing (lstat_found f path) m
+    (as_answer (lstat_found f path) m h) (is refl) ∙ lstat_look f path
+look_something f path m false h is back = answer_other look.Missing (lstat_found f path) m
+    (as_answer (lstat_found f path) m h) (λ d. both_ways false refl (back d)) ∙ lstat_look f path
 
--- a link that is followed points to no directory
-pub no_directory_there : (f : FileSystem) (path : Text) → has_places Followed f ≡ true → lstat_found f path ≡ Some Symlink → stat_found f path ≢ Some Directory
+-- if the content has every followed link, none points to a directory
+pub no_directory_links : (f : FileSystem) → has_places Followed f ≡ true → has_directory_links f ≡ false
+no_directory_links f places = by_test (has_directory_links f) places
+  where
+    by_test : (b : Bool) → is_some (cond b None (Some f.content)) ≡ true → b ≡ false
+    by_test true h = absurd (both_ways false refl h)
+    by_test false h = refl
+
+-- such a link points to no directory
+pub no_directory_there : (f : FileSystem) (path : Text) → has_places Followed f ≡ true → lstat_found f path ≡ Some
+    Symlink → stat_found f path ≢ Some Directory
 unfolding lstat_found stat_found
 no_directory_there f path places h is = at_key (resolve f.content path) h is
   where
-    no_links : list_any (λ e. is_a_directory e.1) f.links ≡ false
-    no_links = by_test (has_directory_links f) places
-      where
-        by_test : (b : Bool) → is_some (cond b None (Some f.content)) ≡ true → b ≡ false
-        by_test true h = absurd (both_ways false refl h)
-        by_test false h = refl
-
-    at_target : (k : Key) (t : Option Target) → target_at f k ≡ t → stat_type Other t ≡ Some Directory → ⊥
+    at_target : (k : Key) (t : Option Target) → target_at f k ≡ t → stat_reports Other t ≡ Some Directory → ⊥
     at_target k None e is = both_ways false refl (ap is_found_directory is)
     at_target k (Some Nowhere) e is = both_ways false refl (ap is_found_directory is)
     at_target k (Some AFile) e is = both_ways false refl (ap is_found_directory is)
-    at_target k (Some ADirectory) e is = no_target k f.links no_links e
+    at_target k (Some ADirectory) e is = no_target k f.links (no_directory_links f places) e
 
-    at_kind : (k : Key) (o : Option Kind) → option_map (λ kind. lstat_type kind (target_at f k)) o ≡ Some Symlink → option_and_then (λ kind. stat_type kind (target_at f k)) o ≡ Some Directory → ⊥
+    at_kind : (k : Key) (o : Option Kind) → option_map (λ kind. lstat_reports kind (target_at f k)) o ≡ Some Symlink
+        → option_and_then (λ kind. stat_reports kind (target_at f k)) o ≡ Some Directory → ⊥
     at_kind k None h is = none-some Symlink h
     at_kind k (Some Dir) h is = both_ways true (ap is_found_directory h) refl
     at_kind k (Some (Shut kind)) h is = both_ways true (ap is_found_directory h) refl
@@ -93,37 +103,13 @@ no_directory_there f path places h is = at_key (resolve f.content path) h is
     at_key None h is = none-some Symlink h
     at_key (Some k) h is = at_kind k (kind_at f.content k) h is
 
-pub link_found : (f : FileSystem) (path : Text) (m : Metadata) → IsFoundAs (lstat_found f path) (Some m) → IsSymlink (file_type m) → lstat_found f path ≡ Some Symlink
+pub link_found : (f : FileSystem) (path : Text) (m : Metadata) → IsFoundAs (lstat_found f path) (Some m) → IsSymlink
+    (file_type m) → lstat_found f path ≡ Some Symlink
 link_found f path m h s = answer_symlink (lstat_found f path) m (as_answer (lstat_found f path) m h) s
 
--- a link that is followed is looked at as no directory
+-- the content has a link as a non-directory
 pub look_link : (f : FileSystem) (path : Text) → lstat_found f path ≡ Some Symlink → look.Other ≡ look_result f.content path
 look_link f path is = ap (look_found look.Missing) (sym is) ∙ lstat_look f path
-
--- a link was received, and other paths before or after it
-pub received_after : (f : FileSystem) (old mid new : Option (List Text)) → Grows old mid → IsLinkReceived f mid new
-    → IsLinkReceived f old new
-received_after f old mid new (xs, first) (before, after, link, here, there, is) = (
-  xs ++ before,
-  after,
-  link,
-  here,
-  there,
-  is ∙ ap (λ o. and_then o (before ++ link ∷ after)) first ∙ and_then-append old xs (before ++ link ∷ after)
-      ∙ ap (and_then old) (sym (append_assoc xs before (link ∷ after))),
-)
-
-pub received_before : (f : FileSystem) (old mid new : Option (List Text)) → IsLinkReceived f old mid → Grows mid new
-    → IsLinkReceived f old new
-received_before f old mid new (before, after, link, here, there, is) (ys, then) = (
-  before,
-  after ++ ys,
-  link,
-  here,
-  there,
-  then ∙ ap (λ o. and_then o ys) is ∙ and_then-append old (before ++ link ∷ after) ys
-      ∙ ap (and_then old) (append_assoc before (link ∷ after) ys),
-)
 
 pub no_found : (o : Option Found) → o ≢ Some Directory → is_found_directory o ≡ false
 no_found None non = refl
@@ -131,7 +117,7 @@ no_found (Some Directory) non = absurd (non refl)
 no_found (Some Symlink) non = refl
 no_found (Some File) non = refl
 
--- a directory is found where the metadata is of one
+-- metadata of a directory means that a directory was found
 pub found_directory : (o : Option Found) (m : Metadata) (d : Bool) → IsFoundAs o (Some m) → (d ≡ true → IsDir (file_type m))
     → (IsDir (file_type m) → d ≡ true) → d ≡ is_found_directory o
 found_directory None m d h is back = absurd h
@@ -144,7 +130,7 @@ found_directory (Some Symlink) m false h is back = refl
 found_directory (Some File) m true h is back = absurd (h.0 (is refl))
 found_directory (Some File) m false h is back = refl
 
--- looks that follow links: at nothing, at a link, and at anything else
+-- looks with links followed: at nothing, at a link, and at anything else
 pub followed_nothing : (f : FileSystem) (path : Text) → IsFoundAs (lstat_found f path) None → look.Missing ≡ look_followed f path
 unfolding look_followed
 followed_nothing f path h = by_found (lstat_found f path) h
@@ -180,22 +166,22 @@ followed_something f path m d h non is back =
     by_found (Some Symlink) h = absurd (non h)
     by_found (Some File) h = refl
 
--- a look that follows links finds a directory where `stat` does
+-- a look with links followed reports exactly the directories that `stat` finds
 pub directory_followed : (f : FileSystem) (path : Text) → is_directory (look_followed f path) ≡ is_found_directory (stat_found f path)
 unfolding look_followed lstat_found stat_found
 directory_followed f path = at_key (resolve f.content path)
   where
     at_target : (t : Option Target)
-        → is_directory (look_through (Some (lstat_type Other t)) (stat_type Other t)) ≡ is_found_directory (stat_type Other t)
+        → is_directory (look_through (Some (lstat_reports Other t)) (stat_reports Other t)) ≡ is_found_directory (stat_reports Other t)
     at_target None = refl
     at_target (Some Nowhere) = refl
     at_target (Some AFile) = refl
     at_target (Some ADirectory) = refl
 
     at_kind : (k : Key) (o : Option Kind)
-        → is_directory (look_through (option_map (λ kind. lstat_type kind (target_at f k)) o)
-        (option_and_then (λ kind. stat_type kind (target_at f k)) o))
-        ≡ is_found_directory (option_and_then (λ kind. stat_type kind (target_at f k)) o)
+        → is_directory (look_through (option_map (λ kind. lstat_reports kind (target_at f k)) o)
+        (option_and_then (λ kind. stat_reports kind (target_at f k)) o))
+        ≡ is_found_directory (option_and_then (λ kind. stat_reports kind (target_at f k)) o)
     at_kind k None = refl
     at_kind k (Some Dir) = refl
     at_kind k (Some (Shut kind)) = refl
@@ -207,7 +193,7 @@ directory_followed f path = at_key (resolve f.content path)
     at_key None = refl
     at_key (Some k) = at_kind k (kind_at f.content k)
 
--- what is no directory where links are followed is none
+-- if it reports no directory, the content has none
 pub no_directory_followed : (f : FileSystem) (path : Text) → is_directory (look_followed f path) ≡ false
     → is_directory (look_result f.content path) ≡ false
 unfolding look_followed
@@ -220,7 +206,7 @@ no_directory_followed f path h = ap is_directory (sym (lstat_look f path)) ∙ b
     by_found (Some Symlink) h = refl
     by_found (Some File) h = refl
 
--- and nothing is where nothing is
+-- if the content has nothing, it reports nothing
 pub missing_followed : (f : FileSystem) (path : Text) → look_result f.content path ≡ look.Missing → look.Missing ≡ look_followed f path
 unfolding look_followed
 missing_followed f path h = by_found (lstat_found f path) (lstat_look f path ∙ h)
@@ -231,18 +217,33 @@ missing_followed f path h = by_found (lstat_found f path) (lstat_look f path ∙
     by_found (Some Symlink) h = absurd (missing_other (look_found look.Missing (Some Symlink)) h refl)
     by_found (Some File) h = sym h
 
--- a no has its reason
-pub reasoned : (f : FileSystem) (old mid new : Option (List Text)) → mid ≡ old → (P Q : Type 0) → (P → Q) → (yes : Bool) → yes ≡ false
-    → IsReasoned f mid new P yes → IsReasoned f old new Q false
-reasoned f old mid new same P Q of true non is = absurd (both_ways true non refl)
-reasoned f old mid new same P Q of false non is =
-    ⊎_elim (λ p. inl (of p)) (λ r. inr (received_after f old mid new (grows_same old mid same) r)) is
+pub directory_found : (o : Option Found) → is_found_directory o ≡ true → o ≡ Some Directory
+directory_found None is = absurd (both_ways false refl is)
+directory_found (Some Directory) is = refl
+directory_found (Some Symlink) is = absurd (both_ways false refl is)
+directory_found (Some File) is = absurd (both_ways false refl is)
 
--- the ways of a path
+-- what a look says about a directory
+pub kind_of_look : (f : FileSystem) (path : Text) (seen : Look) (told : Bool) → told ≡ is_directory seen
+    → (old new : Option (List Text)) → Grows old new → IsLookSaid f path seen old new → IsSaid f path told old new
+kind_of_look f path seen told is old new (more, grown) (inl same) =
+    (more, grown, inl (is ∙ ap is_directory same ∙ directory_followed f path))
+kind_of_look f path seen told is old new grows (inr (other, link, received)) =
+    (path ∷ [], received, inr (is ∙ ap is_directory other, link, Contains-head path []))
+
+-- if no directory is reported, the content has none
+pub none_said : (f : FileSystem) (path : Text) (told : Bool) → told ≡ false → (old new : Option (List Text))
+    → IsSaid f path told old new → is_directory (look_result f.content path) ≡ false
+none_said f path told none old new (xs, grown, inl same) =
+    no_directory_followed f path (directory_followed f path ∙ sym same ∙ none)
+none_said f path told none old new (xs, grown, inr (not_one, link, in')) = ap is_directory (sym (look_link f path link.0))
+
+-- a path without a separator has a way
 pub way_of_one : (f : FileSystem) → is_content f.content ≡ true → (path : Text) → has_no_slash path ≡ true → HasWay f path true
 way_of_one f w path plain = direct_one f w path plain
 
-pub way_below : (f : FileSystem) → is_content f.content ≡ true → (path above name : Text) → path ≡ above ++ slash ∷ name → has_no_slash name ≡ true → (yes : Bool) → LeadsOn f above yes
+pub way_below : (f : FileSystem) → is_content f.content ≡ true → (path above name : Text) → path ≡ above ++ slash ∷
+    name → has_no_slash name ≡ true → (yes : Bool) → LeadsOn f above yes
     → HasWay f path yes
 way_below f w path above name is plain true way = direct_below f w above name path way plain is
 way_below f w path above name is plain false non = ap (look_result f.content) is ∙ nothing_below f.content above name non.0 non.1
@@ -255,7 +256,7 @@ cons_some : (x : ℕ) (xs : Text) → x ∷ xs ≡ [] → ⊥
 unfolding is_nil
 cons_some x xs h = both_ways false refl (ap is_nil h)
 
--- what is on a way is one
+-- every directory on a way is a way
 pub on_way : (c : Content) (directory way : Text) → IsOnWay directory way true → IsWay c way → IsWay c directory
 on_way c directory way (inl none) is = inl none
 on_way c directory way (inr (inl same)) is = subst (IsWay c) same is
@@ -265,21 +266,27 @@ on_way c directory way (inr (inr (more, cut))) is = by_empty directory refl
     by_empty [] e = inl e
     by_empty (x ∷ xs) e = way_above c directory more (λ none. cons_some x xs (sym e ∙ none)) (subst (IsWay c) cut is)
 
--- a directory below a way is one
-pub step_way : (f : FileSystem) → is_content f.content ≡ true → (directory further name : Text) → directory ≡ further ++ slash ∷ name → has_no_slash name ≡ true → (told : Bool) → told ≡ true
-    → (is_direct f directory ≡ true → told ≡ is_directory (look_result f.content directory)) → IsWay f.content further → IsWay f.content directory
+-- a directory below a way is a way
+pub step_way : (f : FileSystem) → is_content f.content ≡ true → (directory further name : Text) → directory ≡ further
+    ++ slash ∷ name → has_no_slash name ≡ true → (told : Bool) → told ≡ true
+    → (is_direct f directory ≡ true → told ≡ is_directory (look_result f.content directory)) → IsWay f.content further
+    → IsWay f.content directory
 step_way f w directory further name is plain told t said way = inr (sym (said (direct_below f w further name directory way plain is)) ∙ t)
 
-pub last_way : (f : FileSystem) → is_content f.content ≡ true → (directory : Text) → has_no_slash directory ≡ true → (told : Bool) → told ≡ true
+pub last_way : (f : FileSystem) → is_content f.content ≡ true → (directory : Text) → has_no_slash directory ≡ true →
+    (told : Bool) → told ≡ true
     → (is_direct f directory ≡ true → told ≡ is_directory (look_result f.content directory)) → IsWay f.content directory
 last_way f w directory plain told t said = inr (sym (said (direct_one f w directory plain)) ∙ t)
 
--- nothing is below what is no directory
-pub step_none : (c : Content) (directory further name : Text) → directory ≡ further ++ slash ∷ name → further ≢ [] → is_directory (look_result c further) ≡ false
+-- nothing is below a non-directory
+pub step_none : (c : Content) (directory further name : Text) → directory ≡ further ++ slash ∷ name → further ≢ []
+    → is_directory (look_result c further) ≡ false
     → is_directory (look_result c directory) ≡ false
-step_none c directory further name is some none = ap (λ d. is_directory (look_result c d)) is ∙ ap is_directory (nothing_below c further name some none)
+step_none c directory further name is some none = ap (λ d. is_directory (look_result c d)) is ∙ ap is_directory
+    (nothing_below c further name some none)
 
--- what is not said to be a directory is none
-pub no_way : (f : FileSystem) (directory : Text) (told : Bool) → told ≡ false → (is_direct f directory ≡ true → told ≡ is_directory (look_result f.content directory))
+-- if no directory is found, the content has none
+pub no_way : (f : FileSystem) (directory : Text) (told : Bool) → told ≡ false → (is_direct f directory ≡ true
+    → told ≡ is_directory (look_result f.content directory))
     → is_directory (look_result f.content directory) ≡ false
 no_way f directory told n said = said_no f directory (λ direct. sym (said direct) ∙ n)

@@ -1,30 +1,29 @@
--- A listing, by what an opened directory has to read: of a path that leads to a directory, all that is asked is direct.
-use Rattle.std.proofs.Common.{◌≡◌, ◌⊎◌, ℕ, ◌-◌, Bool, true, false, not, cond, inl, inr, ⊎_elim, List, [], ◌∷◌, ◌++◌, length, map, take, Option, Some, None, refl, ap, sym, subst, ◌∙◌, arith}
+-- Listings, by the bytes of the opened directory. If the path leads to a directory, each lookup is of a direct path.
+use Rattle.std.proofs.Common.{◌≡◌, ℕ, ◌-◌, Bool, true, false, not, cond, inl, inr, ⊎_elim, List, [], ◌∷◌, ◌++◌, length}
+use Rattle.std.proofs.Common.{take, Option, Some, None, refl, ap, sym, subst, ◌∙◌, arith}
 use Rattle.std.specs.Prelude.{IfSome, IsSome, IsPermutation, Vec}
 use Rattle.std.specs.IoError.{error_kind}
-use Rattle.std.specs.List.{list_all}
 use Rattle.std.specs.Path.{has_no_slash}
 use Rattle.std.specs.Str.{is_utf8}
 use Rattle.std.specs.declared.io.Error.{Error}
 use Rattle.std.specs.declared.io.ErrorKind.{ErrorKind}
-use Rattle.std.proofs.lemmas.Bool.{and_parts, both_ways}
+use Rattle.std.proofs.lemmas.Bool.{both_ways}
 use Rattle.std.proofs.lemmas.List.{append_assoc}
 use Rattle.std.proofs.lemmas.List.Sorted.{length_permutation}
 use Rattle.std.proofs.lemmas.Option.{none-some, same_Some}
 use Rattle.glob_text.specs.Characters.{slash}
 use Rattle.glob_text.specs.Pieces.{ends_with}
 use Rattle.glob_text.specs.Text.{Text}
-use Rattle.glob_tree.specs.Answers.{entries_of, names_of, IsEntriesAnswer, IsListAnswer, IsListError, IsListErrorOf, IsListFault, IsNameAnswer}
-use Rattle.glob_tree.specs.Content.{Content, Key, is_content, kind_at, resolve, DirEntry, ListAnswer, Entries, Fails, NoDirectory, list_of, list_found, list_result}
+use Rattle.glob_tree.specs.Answers.{entries_of, names_of, IsListAnswer, IsListError, IsListErrorOf, IsListFault, AreListedNames}
+use Rattle.glob_tree.specs.Content.{Content, Key, is_content, kind_at, resolve, DirEntry, ListAnswer, Entries, Fails}
+use Rattle.glob_tree.specs.Content.{NoDirectory, list_of, list_found, list_result}
 use Rattle.glob_tree.specs.Directories.{names_in}
 use Rattle.glob_tree.specs.FileSystems.{FileSystem, IsOpened, OpenMayFail, IsReceived, is_direct, strays_at, strays_found}
-use Rattle.glob_tree.specs.Followed.{answer_followed, entry_followed, list_followed, list_looked}
-use Rattle.glob_tree.specs.Paths.{join, is_proper}
-use Rattle.glob_tree.specs.Private.Listing.{are_looked_up, is_said_dir, is_followed_dir, is_dir_in, said_entries, is_text_name, are_text_names, IsEntriesError}
+use Rattle.glob_tree.specs.Followed.{answer_followed, list_followed}
+use Rattle.glob_tree.specs.Paths.{join}
+use Rattle.glob_tree.specs.Private.Listing.{is_dir_in, said_entries, are_text_names, IsEntriesError}
 use Rattle.glob_tree.specs.Private.Looking.{AreDirect, IsWay}
 use Rattle.glob_tree.specs.Strays.{and_then, texts_of, strays_of}
-use Rattle.glob_tree.specs.declared.disk.Kinds.{Kinds}
-use Rattle.glob_tree.specs.declared.disk.Kinds.TheVariants.{LookedUp, LeftOut}
 use Rattle.glob_tree.specs.declared.kind.Kind.{Kind}
 use Rattle.glob_tree.specs.declared.kind.Kind.TheVariants.{Dir, Shut, Other}
 use Rattle.glob_tree.specs.declared.tree.Entry.{Entry}
@@ -32,7 +31,7 @@ use Rattle.glob_tree.specs.declared.tree.ListError.{ListError}
 use Rattle.glob_tree.specs.declared.tree.ListError.TheVariants.{Read, Memory}
 use Rattle.glob_tree.proofs.ContentLemmas.Directories.{LeadsTo, is_directory-look_result, is_dir_at-kind}
 use Rattle.glob_tree.proofs.ContentLemmas.Resolving.{front_and_end, join_ended, join_open, resolve_join, resolve_some, step_here}
-use Rattle.glob_tree.proofs.SystemLemmas.Listing.{joined, list_result-join, entries_followed, entries_kept, texts_read}
+use Rattle.glob_tree.proofs.SystemLemmas.Listing.{joined, list_result-join, entries_kept, texts_read}
 use Rattle.glob_tree.proofs.SystemLemmas.Reading.{made_of}
 use Rattle.glob_tree.proofs.SystemLemmas.Ways.{direct_below, way_above}
 
@@ -44,8 +43,9 @@ cons_some : (x : ℕ) (xs : Text) → x ∷ xs ≡ [] → ⊥
 unfolding is_nil
 cons_some x xs h = both_ways false refl (ap is_nil h)
 
--- a path of a directory, with a name after it, is direct
-direct_joined : (f : FileSystem) → is_content f.content ≡ true → (path : Text) (k : Key) → LeadsTo f.content path k → (name : Text) → has_no_slash name ≡ true
+-- the path of a name in a directory is direct
+direct_joined : (f : FileSystem) → is_content f.content ≡ true → (path : Text) (k : Key) → LeadsTo f.content path k →
+    (name : Text) → has_no_slash name ≡ true
     → is_direct f (join path name) ≡ true
 direct_joined f w path k at name plain = by_end (ends_with slash path) refl
   where
@@ -54,7 +54,8 @@ direct_joined f w path k at name plain = by_end (ends_with slash path) refl
 
     by_front : (front d : Text) → front ≡ d → path ≡ front ++ slash ∷ [] → IsWay f.content front
     by_front front [] none whole = inl none
-    by_front front (x ∷ xs) some whole = way_above f.content front [] (λ none. cons_some x xs (sym some ∙ none)) (subst (IsWay f.content) whole way)
+    by_front front (x ∷ xs) some whole = way_above f.content front [] (λ none. cons_some x xs (sym some ∙ none))
+        (subst (IsWay f.content) whole way)
 
     by_end : (b : Bool) → ends_with slash path ≡ b → is_direct f (join path name) ≡ true
     by_end true e =
@@ -63,15 +64,18 @@ direct_joined f w path k at name plain = by_end (ends_with slash path) refl
         direct_below f w front name (join path name) (by_front front front refl whole) plain
         (join_ended path name e ∙ ap (λ p. p ++ name) whole ∙ append_assoc front (slash ∷ []) name)
     by_end false e =
-        direct_below f w path name (join path name) way plain (join_open path name (resolve_some f.content path k at.resolved) e ∙ append_assoc path (slash ∷ []) name)
+        direct_below f w path name (join path name) way plain (join_open path name (resolve_some f.content path k
+        at.resolved) e ∙ append_assoc path (slash ∷ []) name)
 
-direct_names : (f : FileSystem) → is_content f.content ≡ true → (path : Text) (k : Key) → LeadsTo f.content path k → AreDirect f (join path [])
+pub direct_names : (f : FileSystem) → is_content f.content ≡ true → (path : Text) (k : Key) → LeadsTo f.content path k
+    → AreDirect f (join path [])
 direct_names f w path k at name plain = ap (is_direct f) (joined path name) ∙ direct_joined f w path k at name plain
 
-direct_itself : (f : FileSystem) → is_content f.content ≡ true → (path : Text) (k : Key) → LeadsTo f.content path k → is_direct f (join path []) ≡ true
+direct_itself : (f : FileSystem) → is_content f.content ≡ true → (path : Text) (k : Key) → LeadsTo f.content path k
+    → is_direct f (join path []) ≡ true
 direct_itself f w path k at = direct_joined f w path k at [] refl
 
--- a path leads to a directory, or nothing is said of its listing
+-- the path leads to a directory, or nothing is promised for its listing
 data LeadsOrNot (c : Content) (path : Text) : Type 0 where
   Leads : (k : Key) → LeadsTo c path k → LeadsOrNot c path
   Not : list_result c path ≡ NoDirectory → LeadsOrNot c path
@@ -90,23 +94,7 @@ leads_or_not c path = from_key (resolve c path) refl
     from_key None r = Not (ap (list_found c) r)
     from_key (Some k) r = from_kind k (kind_at c k) r refl
 
-pub texts_same : (names : List Text) → are_text_names names ≡ true → texts_of names ≡ names
-unfolding are_text_names
-texts_same [] all = refl
-texts_same (n ∷ names) all =
-    let both = and_parts (is_text_name n) (list_all is_text_name names) all in
-    let text = (and_parts (is_utf8 n) (is_proper n) both.0).0 in
-    ap (λ b. cond b (n ∷ texts_of names) (texts_of names)) text ∙ ap (λ ns. n ∷ ns) (texts_same names both.1)
-
-pub no_strays : (names : List Text) → are_text_names names ≡ true → strays_of names ≡ []
-unfolding are_text_names
-no_strays [] all = refl
-no_strays (n ∷ names) all =
-    let both = and_parts (is_text_name n) (list_all is_text_name names) all in
-    let text = (and_parts (is_utf8 n) (is_proper n) both.0).0 in
-    ap (λ b. cond (not b) (n ∷ strays_of names) (strays_of names)) text ∙ no_strays names both.1
-
--- names without strays are texts
+-- if none of the names is a stray, all are UTF-8
 all_texts : (names : List Text) → strays_of names ≡ [] → texts_of names ≡ names
 all_texts [] none = refl
 all_texts (n ∷ names) none = by_test (is_utf8 n) refl none (λ none. all_texts names none)
@@ -120,13 +108,13 @@ moved_nil : (xs : List Text) → IsPermutation [] xs → xs ≡ []
 moved_nil [] moved = refl
 moved_nil (x ∷ xs) moved = absurd (omega (arith, length_permutation [] (x ∷ xs) moved))
 
-no_moved_nil : (x : Text) (xs : List Text) → IsPermutation (x ∷ xs) [] → ⊥
+pub no_moved_nil : (x : Text) (xs : List Text) → IsPermutation (x ∷ xs) [] → ⊥
 no_moved_nil x xs moved = omega (arith, length_permutation (x ∷ xs) [] moved)
 
 module _ (f : FileSystem) (w : is_content f.content ≡ true) (path : Text) (left : Option (List ℕ)) (fault : Option ErrorKind)
     (opened : is_direct f (join path []) ≡ true
     → IsOpened (list_result f.content (join path [])) (strays_found f (join path [])) left fault) where
-  -- what was opened, where the path leads to a directory
+  -- what was opened, if the path leads to a directory
   opened_there : (k : Key) → LeadsTo f.content path k → IsOpened (list_result f.content path) (strays_found f path) left fault
   unfolding strays_found
   opened_there k at =
@@ -135,50 +123,13 @@ module _ (f : FileSystem) (w : is_content f.content ≡ true) (path : Text) (lef
       subst (λ a. IsOpened a (strays_found f path) left fault) (list_result-join f.content path)
       (subst (λ o. IsOpened (list_result f.content (join path [])) (strays_at f o) left fault) same (opened (direct_itself f w path k at)))
 
-  -- the texts among the names that were read are those of entries
+  -- the UTF-8 names that were read are those of the entries
   texts_there : (es : List DirEntry) → list_result f.content path ≡ Entries es → (names : List Text)
       → IsPermutation (names_of es) (texts_of names)
       → are_text_names (texts_of names) ≡ true
   texts_there es from names moved = texts_read f.content w path es from (texts_of names) moved
 
-  -- the entries of a listing where links are followed
-  pub followed_answer : {A : Type 0} (kinds : Kinds) (v : Vec (Entry A) A) → IfSome left (λ bytes. are_text_names (names_in bytes) ≡ true)
-      → (AreDirect f (join path [])
-      → IfSome left (λ bytes. entries_of v.items ≡ said_entries (is_said_dir f kinds (join path [])) (names_in bytes)))
-      → (IsSome left → fault ≡ None)
-      → IsEntriesAnswer (are_looked_up kinds) (list_followed f path) (entries_of v.items)
-  unfolding list_followed
-  followed_answer {A} kinds v texts is whole = by_leads (leads_or_not f.content path)
-    where
-      nothing : (kinds : Kinds) → IsEntriesAnswer (are_looked_up kinds) NoDirectory (entries_of v.items)
-      nothing LookedUp = tt
-      nothing LeftOut = tt
-
-      by_answer : (k : Key) → LeadsTo f.content path k → (a : ListAnswer) (ss : List Text) → list_result f.content path ≡ a
-          → IsOpened a ss left fault
-          → IsEntriesAnswer (are_looked_up kinds) (answer_followed f path a ss) (entries_of v.items)
-      by_answer k at (Entries es) [] from (bytes, known, end, (moved, strays)) =
-          let all = subst (λ o. IfSome o (λ bs. are_text_names (names_in bs) ≡ true)) known texts in
-          let said = subst (λ o. IfSome o
-          (λ bs. entries_of v.items ≡ said_entries (is_said_dir f kinds (join path [])) (names_in bs))) known
-          (is (direct_names f w path k at)) in
-          subst (IsEntriesAnswer (are_looked_up kinds) (Entries (map (entry_followed f path) es))) (sym said)
-          (entries_followed f path kinds es (names_in bytes) (subst (IsPermutation (names_of es)) (texts_same (names_in bytes) all) moved))
-      by_answer k at (Entries es) (s ∷ ss) from (bytes, known, end, (moved, strays)) =
-          let all = subst (λ o. IfSome o (λ bs. are_text_names (names_in bs) ≡ true)) known texts in
-          absurd (no_moved_nil s ss (subst (IsPermutation (s ∷ ss)) (no_strays (names_in bytes) all) strays))
-      by_answer k at (Fails kind) ss from (known, ends) = absurd (none-some kind (sym (whole known) ∙ ends))
-      by_answer k at NoDirectory ss from opened = nothing kinds
-
-      by_leads : LeadsOrNot f.content path
-          → IsEntriesAnswer (are_looked_up kinds) (answer_followed f path (list_result f.content path) (strays_found f path))
-          (entries_of v.items)
-      by_leads (Not none) = subst
-          (λ a. IsEntriesAnswer (are_looked_up kinds) (answer_followed f path a (strays_found f path)) (entries_of v.items)) (sym none)
-          (nothing kinds)
-      by_leads (Leads k at) = by_answer k at (list_result f.content path) (strays_found f path) refl (opened_there k at)
-
-  -- and its error where the names were read
+  -- the error of a listing with links followed, after the names were read
   pub followed_fault : (e : ListError) → IfSome left (λ bytes. IsEntriesError (are_text_names (names_in bytes)) fault e)
       → IsListError (list_followed f path) e
   unfolding list_followed
@@ -210,7 +161,7 @@ module _ (f : FileSystem) (w : is_content f.content ≡ true) (path : Text) (lef
       by_leads (Not none) = subst (λ a. IsListError (answer_followed f path a (strays_found f path)) (Read x)) (sym none) tt
       by_leads (Leads k at) = by_answer (list_result f.content path) (strays_found f path) refl (opened_there k at)
 
-  -- the entries where the content has each link
+  -- the entries, if the content has every link
   pub kept_answer : {A : Type 0} (v : Vec (Entry A) A)
       → (AreDirect f (join path [])
       → IfSome left (λ bytes. entries_of v.items ≡ said_entries (is_dir_in f.content (join path [])) (texts_of (names_in bytes))))
@@ -231,7 +182,7 @@ module _ (f : FileSystem) (w : is_content f.content ≡ true) (path : Text) (lef
       by_leads (Not none) = subst (λ a. IsListAnswer a (entries_of v.items)) (sym none) tt
       by_leads (Leads k at) = by_answer k at (list_result f.content path) refl (opened_there k at)
 
-  -- and the error
+  -- the error then
   pub kept_fault : (e : ListError) → IfSome left (λ bytes. IsEntriesError (are_text_names (texts_of (names_in bytes))) fault e)
       → IsListError (list_result f.content path) e
   kept_fault Memory of = tt
@@ -256,45 +207,22 @@ module _ (f : FileSystem) (w : is_content f.content ≡ true) (path : Text) (lef
       by_leads (Not none) = subst (λ a. IsListError a (Read x)) (sym none) tt
       by_leads (Leads k at) = by_answer (list_result f.content path) refl (opened_there k at)
 
-  -- and where they are followed
-  pub looked_answer : {A : Type 0} (v : Vec (Entry A) A) (R : Type 0)
-      → (AreDirect f (join path [])
-      → IfSome left (λ bytes. (entries_of v.items ≡ said_entries (is_followed_dir f (join path [])) (texts_of (names_in bytes))) ⊎ R))
-      → (IsSome left → fault ≡ None) → IsListAnswer (list_looked f path) (entries_of v.items) ⊎ R
-  looked_answer {A} v R is whole = by_leads (leads_or_not f.content path)
-    where
-      by_answer : (k : Key) → LeadsTo f.content path k → (a : ListAnswer) → list_result f.content path ≡ a
-          → IsOpened a (strays_found f path) left fault → IsListAnswer (answer_followed f path a []) (entries_of v.items) ⊎ R
-      by_answer k at (Entries es) from (bytes, known, end, (moved, strays)) =
-          ⊎_elim
-          (λ said. inl (subst (IsPermutation (map (entry_followed f path) es)) (sym said)
-          (entries_followed f path LookedUp es (texts_of (names_in bytes)) moved)))
-          (λ r. inr r)
-          (subst (λ o. IfSome o (λ bs. (entries_of v.items ≡ said_entries (is_followed_dir f (join path [])) (texts_of (names_in bs))) ⊎ R)) known
-          (is (direct_names f w path k at)))
-      by_answer k at (Fails kind) from (known, ends) = absurd (none-some kind (sym (whole known) ∙ ends))
-      by_answer k at NoDirectory from opened = inl tt
-
-      by_leads : LeadsOrNot f.content path → IsListAnswer (list_looked f path) (entries_of v.items) ⊎ R
-      by_leads (Not none) = inl (subst (λ a. IsListAnswer (answer_followed f path a []) (entries_of v.items)) (sym none) tt)
-      by_leads (Leads k at) = by_answer k at (list_result f.content path) refl (opened_there k at)
-
   -- the names, wherever links point
   pub kept_names : (names : List Text) → IfSome left (λ bytes. names ≡ texts_of (names_in bytes))
-      → (IsSome left → fault ≡ None) → IsNameAnswer (list_result f.content path) names
+      → (IsSome left → fault ≡ None) → AreListedNames (list_result f.content path) names
   kept_names names is whole = by_leads (leads_or_not f.content path)
     where
-      by_answer : (a : ListAnswer) → list_result f.content path ≡ a → IsOpened a (strays_found f path) left fault → IsNameAnswer a names
+      by_answer : (a : ListAnswer) → list_result f.content path ≡ a → IsOpened a (strays_found f path) left fault → AreListedNames a names
       by_answer (Entries es) from (bytes, known, end, (moved, strays)) =
           subst (IsPermutation (names_of es)) (sym (subst (λ o. IfSome o (λ bs. names ≡ texts_of (names_in bs))) known is)) moved
       by_answer (Fails kind) from (known, ends) = absurd (none-some kind (sym (whole known) ∙ ends))
       by_answer NoDirectory from opened = tt
 
-      by_leads : LeadsOrNot f.content path → IsNameAnswer (list_result f.content path) names
-      by_leads (Not none) = subst (λ a. IsNameAnswer a names) (sym none) tt
+      by_leads : LeadsOrNot f.content path → AreListedNames (list_result f.content path) names
+      by_leads (Not none) = subst (λ a. AreListedNames a names) (sym none) tt
       by_leads (Leads k at) = by_answer (list_result f.content path) refl (opened_there k at)
 
-  -- each name that is no text is received, once
+  -- each stray is received once
   pub kept_strays : (old new : Option (List Text)) → IfSome left (λ bytes. new ≡ and_then old (strays_of (names_in bytes)))
       → IsReceived (list_result f.content path) (strays_found f path) old new
   kept_strays old new is = by_leads (leads_or_not f.content path)
@@ -310,7 +238,7 @@ module _ (f : FileSystem) (w : is_content f.content ≡ true) (path : Text) (lef
       by_leads (Not none) = subst (λ a. IsReceived a (strays_found f path) old new) (sym none) tt
       by_leads (Leads k at) = by_answer (list_result f.content path) refl (opened_there k at)
 
--- the error where the directory was not opened
+-- the error if the directory could not be opened
 module _ (f : FileSystem) (w : is_content f.content ≡ true) (path : Text) (e : Error) (made : ListError)
     (fault : is_direct f (join path []) ≡ true → OpenMayFail (list_result f.content (join path [])) e) (of : IsListErrorOf e made) where
   unopened : (a : ListAnswer) (b : ListAnswer) → ((kind : ErrorKind) → IsListFault a kind → IsListFault b kind) → OpenMayFail a e

@@ -1,5 +1,5 @@
--- How a disk makes entries of names.
-use Rattle.std.specs.Prelude.{◌≡◌, Bool, true, false, ◌&&◌, ◌++◌, ◌⊎◌, ℕ, List, [], ◌∷◌, map, Option, None, Some, ⊤}
+-- How a disk turns names into entries.
+use Rattle.std.specs.Prelude.{◌≡◌, All, Bool, true, false, ◌&&◌, ◌++◌, ◌⊎◌, ℕ, List, [], ◌∷◌, map, Option, None, Some, ⊤}
 use Rattle.std.specs.IoError.{error_kind}
 use Rattle.std.specs.List.{list_all}
 use Rattle.std.specs.Str.{is_utf8}
@@ -7,12 +7,13 @@ use Rattle.std.specs.declared.io.ErrorKind.{ErrorKind}
 use Rattle.std.specs.declared.io.ErrorKind.TheVariants.{InvalidFilename}
 use Rattle.glob_text.specs.Text.{Text}
 use Rattle.glob_tree.specs.Content.{Content, DirEntry, look_result}
-use Rattle.glob_tree.specs.FileSystems.{FileSystem, Found, Directory, File, stat_found}
-use Rattle.glob_tree.specs.Followed.{is_found_directory}
+use Rattle.glob_tree.specs.FileSystems.{FileSystem, Found, Directory, File}
+use Rattle.glob_tree.specs.Followed.{IsKindSaid}
 use Rattle.glob_tree.specs.Looks.{is_directory}
 use Rattle.glob_tree.specs.Paths.{is_proper, nul}
-use Rattle.glob_tree.specs.declared.disk.Kinds.{Kinds}
-use Rattle.glob_tree.specs.declared.disk.Kinds.TheVariants.{LookedUp, LeftOut}
+use Rattle.glob_tree.specs.Strays.{and_then, texts_of}
+use Rattle.glob_tree.specs.declared.reading.Kinds.{Kinds}
+use Rattle.glob_tree.specs.declared.reading.Kinds.TheVariants.{LookedUp, LeftOut}
 use Rattle.glob_tree.specs.declared.tree.ListError.{ListError}
 use Rattle.glob_tree.specs.declared.tree.ListError.TheVariants.{Read, Memory}
 use Rattle.glob_tree.specs.declared.tree.Look.{Look}
@@ -22,50 +23,69 @@ abbrev pub are_looked_up : Kinds → Bool
 are_looked_up LookedUp = true
 are_looked_up LeftOut = false
 
--- Whether a name in a directory is one, where links are followed. The path ends in a separator.
-abbrev pub is_followed_dir : FileSystem → (path name : Text) → Bool
-is_followed_dir f path name = is_found_directory (stat_found f (path ++ name))
-
--- and whether it is said to be one
-abbrev pub is_said_dir : FileSystem → Kinds → (path name : Text) → Bool
-is_said_dir f LookedUp path name = is_followed_dir f path name
-is_said_dir f LeftOut path name = false
-
--- and where the content has each link
+-- Whether a name in a directory is a directory, in a content that has every link. The path ends in a separator.
 abbrev pub is_dir_in : Content → (path name : Text) → Bool
 is_dir_in c path name = is_directory (look_result c (path ++ name))
 
 abbrev pub said_entry : (Text → Bool) → Text → DirEntry
 said_entry said name = (name, said name)
 
--- the entries of names, of which this is said
+-- the entries of names, with what is said of each
 unfoldable pub said_entries : (Text → Bool) → List Text → List DirEntry
 said_entries said names = map (said_entry said) names
 
--- the bytes are a text, and a proper name
+-- the bytes are UTF-8, and a proper name
 abbrev pub is_text_name : Text → Bool
 is_text_name name = is_utf8 name && is_proper name
 
 unfoldable pub are_text_names : List Text → Bool
 are_text_names names = list_all is_text_name names
 
--- the error of entries that are made of names, if all are names of entries or not
+-- the error of making entries; `all` says whether all names can be those of entries
 abbrev pub IsNameError : (all : Bool) → ListError → Type 0
 IsNameError all (Read e) = (all ≡ false) × (error_kind e ≡ InvalidFilename)
 IsNameError all Memory = ⊤
 
--- that of entries whose names are read, too
+-- the error of reading names and making their entries
 abbrev pub IsEntriesError : (all : Bool) → (fault : Option ErrorKind) → ListError → Type 0
 IsEntriesError all fault (Read e) =
     (fault ≡ Some (error_kind e)) ⊎ ((fault ≡ None) × (all ≡ false) × (error_kind e ≡ InvalidFilename))
 IsEntriesError all fault Memory = ⊤
 
--- names, each with a NUL after it
+-- the names that become entries: the UTF-8 ones if the others are received, and otherwise all
+abbrev pub names_taken : (receives : Bool) → List Text → List Text
+names_taken true names = texts_of names
+names_taken false names = names
+
+-- all of those are UTF-8 and proper
+abbrev pub are_names_taken : (receives : Bool) → List Text → Bool
+are_names_taken receives names = are_text_names (names_taken receives names)
+
+-- the names of a directory that fail its listing
+abbrev pub failing : (receives : Bool) → (strays : List Text) → List Text
+failing true strays = []
+failing false strays = strays
+
+-- the error for a non-UTF-8 name that is not received
+abbrev pub IsStrayError : (receives : Bool) → ListError → Type 0
+IsStrayError receives (Read e) = (receives ≡ false) × (error_kind e ≡ InvalidFilename)
+IsStrayError receives Memory = ⊤
+
+-- this was said of the path, and what was received meanwhile justifies it
+abbrev pub IsSaid : FileSystem → (path : Text) → (is_dir : Bool) → (old new : Option (List Text)) → Type 0
+IsSaid f path is_dir old new = (received : List Text) × (new ≡ and_then old received) × IsKindSaid f path is_dir received
+
+-- the same for the entries of a directory, whose path ends in a separator
+abbrev pub AreSaid : FileSystem → (path : Text) → List DirEntry → (old new : Option (List Text)) → Type 0
+AreSaid f path entries old new =
+    (received : List Text) × (new ≡ and_then old received) × All (λ e. IsKindSaid f (path ++ e.0) e.1 received) entries
+
+-- names, each followed by a NUL
 abbrev pub name_bytes : List Text → List ℕ
 name_bytes [] = []
 name_bytes (n ∷ ns) = n ++ nul ∷ name_bytes ns
 
--- what a look reports, without symbolic links
+-- what was found, by what a look reports, without symbolic links
 abbrev pub found_by : Look → Option Found
 found_by look.Dir = Some Directory
 found_by look.Other = Some File

@@ -1,4 +1,4 @@
--- What is asked of nodes by their numbers.
+-- Nodes and their entries, by number.
 use Rattle.std.specs.Prelude.{◌≡◌, true, false, [], ◌∷◌, ◌++◌, ℕ, ◌<◌, Bool, ◌&&◌, ◌==◌, bytes_eq, List, length, Option, Some, None, if◌then◌else◌, option_map, IfSome, MatchOption}
 use Rattle.std.specs.Borrow.{Bor}
 use Rattle.glob_text.specs.Text.{Text}
@@ -8,7 +8,7 @@ use Rattle.glob_tree.specs.Private.Nodes.{root_entry, entry_numbered, key_number
 use Rattle.glob_tree.specs.declared.kind.Kind.{Kind}
 use Rattle.glob_tree.specs.declared.nodes.Node.{Node}
 
--- the number is the root's, or that of a node
+-- this is the node of the number; the root has none
 abbrev pub IsNode : {A : Type 0} → List (Key × Kind) → ℕ → Option (Bor (Node A)) → Type 0
 IsNode entries number node = MatchOption node
     ((number ≡ 0) × (entry_numbered entries number ≡ root_entry))
@@ -18,15 +18,15 @@ IsNode entries number node = MatchOption node
 abbrev pub IsKindAt : List (Key × Kind) → ℕ → Kind → Type 0
 IsKindAt entries number kind = kind_at (rooted_content entries) (key_numbered entries number) ≡ Some kind
 
--- nothing is under this name in the directory of the number
+-- the directory of this number has no entry of this name
 abbrev pub IsFree : List (Key × Kind) → (directory : ℕ) → (name : Text) → Type 0
 IsFree entries directory name = kind_at (rooted_content entries) (key_within entries directory name) ≡ None
 
--- the entries, and a further one under this name in the directory of the number
+-- the entries, and one more of this name in the directory of this number
 abbrev pub entries_with : List (Key × Kind) → (directory : ℕ) → (name : Text) → Kind → List (Key × Kind)
 entries_with entries directory name kind = entries ++ (key_within entries directory name, kind) ∷ []
 
--- the number leads to the key, where there is one
+-- the number is that of the key, or there is neither
 abbrev pub Leads : List (Key × Kind) → Option ℕ → Option Key → Type 0
 Leads entries number key = (option_map (key_numbered entries) number ≡ key) × IfSome number (λ n. n < length entries)
 
@@ -34,22 +34,22 @@ Leads entries number key = (option_map (key_numbered entries) number ≡ key) ×
 abbrev pub is_named : {A : Type 0} → (directory : ℕ) → (name : Text) → Node A → Bool
 is_named directory name node = node.parent == directory && bytes_eq node.name name
 
--- what a listing of the directory of this number says of the node
+-- the node's entry in a listing of the directory of this number
 abbrev pub listing_entry : {A : Type 0} → (directory : ℕ) → Node A → Option DirEntry
 listing_entry directory node = if node.parent == directory then Some (node.name, is_dir node.kind) else None
 
--- the names of a directory: those of a text, or none for the root
+-- the names of a directory: the pieces of a text, or none for the root
 abbrev pub directory_names : Option (Bor Text) → Key
 directory_names None = []
 directory_names (Some names) = pieces names.now
 
--- the number is that of this key, or nothing is found and no directory is there
+-- the number is that of this key, or there is none, and no directory is at the key
 abbrev pub IsFoundAt : List (Key × Kind) → Key → Option ℕ → Type 0
 IsFoundAt entries key number = MatchOption number
     (is_dir_at (rooted_content entries) key ≡ false)
     (λ n. (n < length entries) × (key_numbered entries n ≡ key))
 
--- the number is that of the directory at this key, where there is one
+-- the number is that of the directory at this key, or there is neither
 abbrev pub IsDirectoryAt : List (Key × Kind) → Key → Option ℕ → Type 0
 IsDirectoryAt entries key number = MatchOption number
     (is_dir_at (rooted_content entries) key ≡ false)

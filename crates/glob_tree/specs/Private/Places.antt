@@ -1,4 +1,4 @@
--- Where a path puts a further key, by the number of its directory.
+-- Where a path adds a key, by the number of its directory.
 use Rattle.std.specs.Prelude.{◌≡◌, ℕ, ◌<◌, true, length, Some, None}
 use Rattle.std.specs.List.{list_all}
 use Rattle.std.specs.Str.{is_utf8}
@@ -9,11 +9,11 @@ use Rattle.glob_tree.specs.Memory.{key_of, directory_key, add_refusal}
 use Rattle.glob_tree.specs.Paths.{is_proper}
 use Rattle.glob_tree.specs.Private.Nodes.{key_numbered, kind_numbered, key_within}
 
--- the path is a separator and these names, each of them proper
+-- the path is a separator and these names, all of them proper
 abbrev pub AreNames : (path names : Text) → Type 0
 AreNames path names = (key_of path ≡ Some (pieces names)) × (list_all is_proper (pieces names) ≡ true)
 
--- A further key may be in the directory of this number, under this name: the path names it, and it is free.
+-- A key can be added under this name in the directory of this number: the path names it, and nothing is there.
 pub record IsPlace (c : Content) (path : Text) (number : ℕ) (name : Text) : Type 0 where
   pub key : key_of path ≡ Some (key_within c.kinds number name)
   pub inside : number < length c.kinds
@@ -23,7 +23,7 @@ pub record IsPlace (c : Content) (path : Text) (number : ℕ) (name : Text) : Ty
   pub allowed : add_refusal c path ≡ None
   pub free : kind_at c (key_within c.kinds number name) ≡ None
 
--- the directory that a path names has this number
+-- the path names the directory of this number
 pub record IsDirectoryOf (c : Content) (path : Text) (number : ℕ) : Type 0 where
   pub key : directory_key path ≡ Some (key_numbered c.kinds number)
   pub inside : number < length c.kinds

@@ -1,4 +1,4 @@
-//! Links that are followed, and which of them lead back to a directory on the way down to them.
+//! Followed links, and which of them point back to one of their ancestors.
 ghost use Rattle.std.specs.Prelude.{◌≡◌, ◌⊎◌, ◌∷◌, [], true, false, IfOk, IsSome, OnOk};
 ghost use Rattle.std.specs.Fs.{file_type, IsSymlink};
 ghost use Rattle.glob_tree.specs.FileSystems.{FileSystem, IsHeld, is_direct, stat_found};
@@ -18,7 +18,8 @@ use std::os::unix::fs::MetadataExt;
 use std::path::Path;
 
 impl<R: System, S: Strays, A: Allocator + Copy> Lookups<R, S, A> {
-    /// Whether a link points to a directory that is not on the way down to it: one that is would be entered for ever.
+    /// Whether a link points to a directory that is not one of its ancestors. A walk would enter an ancestor forever,
+    /// so the strays receive such a link.
     pub(super) fn leads_on(&mut self, link: &str) -> Result<bool, AllocError>
         ensures files { self.new.files ≡ self.old.files }
         ensures links { self.new.links ≡ self.old.links }
@@ -45,7 +46,8 @@ impl<R: System, S: Strays, A: Allocator + Copy> Lookups<R, S, A> {
         Ok(!is_loop)
     }
 
-    /// Whether a directory is on the way down to a path: from the root or the current directory, or from the last `..`.
+    /// Whether the directory is an ancestor of the path, up to the root or the current directory, or up to the last
+    /// `..`.
     fn is_above(&self, directory: &Metadata, path: &str) -> Result<bool, AllocError> {
         for above in Path::new(path).ancestors().skip(1) {
             if self.is_at(directory, above.as_str())? {
@@ -58,8 +60,8 @@ impl<R: System, S: Strays, A: Allocator + Copy> Lookups<R, S, A> {
         Ok(false)
     }
 
-    /// Whether a directory is the one at a path; the empty path is the current directory. Where the system numbers no
-    /// files, all of them have the number 0, and none is known to be another.
+    /// Whether the directory is the one at a path; the empty path is the current directory. If the system numbers no
+    /// files, all their numbers are 0, and the answer is false.
     fn is_at(&self, directory: &Metadata, path: &str) -> Result<bool, AllocError> {
         let path = if path.is_empty() { "." } else { path };
         match self.rt.stat(path) {
@@ -73,7 +75,7 @@ impl<R: System, S: Strays, A: Allocator + Copy> Lookups<R, S, A> {
         }
     }
 
-    /// Whether what has this metadata is a link that is followed.
+    /// Whether this is the metadata of a link that has to be followed.
     pub(super) fn is_followed(&self, found: &Metadata) -> bool
         ensures yes { result ≡ true
             → (self.now.links ≡ Followed) × IsSymlink (file_type found.now) }

@@ -1,4 +1,4 @@
--- The tokens of a whole pattern match names joined by separators exactly where its components take the names.
+-- The tokens of a whole pattern match joined names exactly if its components take the names.
 use Rattle.std.proofs.Common.{◌≡◌, Bool, true, false, ◌&&◌, ◌||◌, List, [], ◌∷◌, ◌++◌, refl, sym, ap, ap₂, subst, ◌∙◌}
 use mathlib.Core.Bool.{and-true, and-false}
 use Rattle.std.specs.List.{list_all, join_with_byte}
@@ -15,7 +15,7 @@ use Rattle.glob_walk.proofs.ComponentLemmas.Parts.{is_inner, Part, Levels, Level
 use Rattle.glob_walk.proofs.ComponentLemmas.FirstSeparator.{cut, fall, stop}
 use Rattle.glob_walk.proofs.ComponentLemmas.WholeNames.{closed-cut, closed-fall, last-name, last-cut}
 
--- components have tokens
+-- components have at least one token
 tokens_some : (p : Part) (ps : List Part) → is_level p ≡ true → (t : Token) × (ts : List Token) × (joined_tokens (p ∷ ps) ≡ t ∷ ts)
 tokens_some Levels ps h = (Recursive, joined_tokens ps, refl)
 tokens_some (Level []) ps h = absurd (false≢true h)
@@ -24,11 +24,13 @@ tokens_some (Level (t ∷ ts)) (p ∷ ps) h = (t, ts ++ Literal slash ∷ joined
 
 fits-deep : (o : MatchOptions) (us : List Token) (t : Token) (ts : List Token) → us ≡ t ∷ ts → (b : Bool) (cs : Text)
     → fits o (Recursive ∷ us) b cs ≡ (fits o us b cs || closed_then o Recursive (fits o us) b cs)
-fits-deep o us t ts e b cs = subst (λ vs. fits o (Recursive ∷ vs) b cs ≡ (fits o vs b cs || closed_then o Recursive (fits o vs) b cs)) (sym e) refl
+fits-deep o us t ts e b cs = subst (λ vs. fits o (Recursive ∷ vs) b cs ≡ (fits o vs b cs || closed_then o Recursive
+    (fits o vs) b cs)) (sym e) refl
 
--- what the tokens of some components say of names, at least one
+-- what the tokens of components match, for at least one name
 abbrev Reach : MatchOptions → List Part → Type 0
-Reach o ps = (n : Text) (ns : List Text) → list_all has_no_slash (n ∷ ns) ≡ true → fits (with_separator_rule o) (joined_tokens ps) true (join_with_byte slash (n ∷ ns)) ≡ reaches o ps (n ∷ ns)
+Reach o ps = (n : Text) (ns : List Text) → list_all has_no_slash (n ∷ ns) ≡ true → fits (with_separator_rule o)
+    (joined_tokens ps) true (join_with_byte slash (n ∷ ns)) ≡ reaches o ps (n ∷ ns)
 
 Reach-end : (o : MatchOptions) → Reach o (Levels ∷ [])
 Reach-end o n [] h = last-name o true n (and_parts (has_no_slash n) true h).0
@@ -41,7 +43,8 @@ Reach-run o p ps is next n [] h =
     let some = tokens_some p ps is in
     let plain = (and_parts (has_no_slash n) true h).0 in
     fits-deep (with_separator_rule o) (joined_tokens (p ∷ ps)) some.0 some.1 some.2 true n
-    ∙ ap₂ (λ x y. x || y) (next n [] h) (closed-fall o (fits (with_separator_rule o) (joined_tokens (p ∷ ps))) true n plain ∙ sym (and-false (is_open o n)))
+    ∙ ap₂ (λ x y. x || y) (next n [] h) (closed-fall o (fits (with_separator_rule o) (joined_tokens (p ∷ ps))) true n
+    plain ∙ sym (and-false (is_open o n)))
 Reach-run o p ps is next n (m ∷ ns) h =
     let some = tokens_some p ps is in
     let both = and_parts (has_no_slash n) (list_all has_no_slash (m ∷ ns)) h in
@@ -49,11 +52,15 @@ Reach-run o p ps is next n (m ∷ ns) h =
     fits-deep (with_separator_rule o) (joined_tokens (p ∷ ps)) some.0 some.1 some.2 true (n ++ slash ∷ r)
     ∙ ap₂ (λ x y. x || y) (next n (m ∷ ns) h)
     (closed-cut o (fits (with_separator_rule o) (joined_tokens (p ∷ ps))) true n r both.0
-    ∙ ap₂ (λ x y. x && y) refl (sym (fits-deep (with_separator_rule o) (joined_tokens (p ∷ ps)) some.0 some.1 some.2 true r) ∙ Reach-run o p ps is next m ns both.1))
+    ∙ ap₂ (λ x y. x && y) refl (sym (fits-deep (with_separator_rule o) (joined_tokens (p ∷ ps)) some.0 some.1 some.2
+    true r) ∙ Reach-run o p ps is next m ns both.1))
 
-Reach-level : (o : MatchOptions) (ts : List Token) (p : Part) (ps : List Part) → list_all is_inner ts ≡ true → Reach o (p ∷ ps) → Reach o (Level ts ∷ p ∷ ps)
+Reach-level : (o : MatchOptions) (ts : List Token) (p : Part) (ps : List Part) → list_all is_inner ts ≡ true → Reach o
+    (p ∷ ps) → Reach o (Level ts ∷ p ∷ ps)
 Reach-level o ts p ps inner next n [] h =
-    fall o ts (joined_tokens (p ∷ ps)) inner true n (and_parts (has_no_slash n) true h).0 ∙ sym (and-false (fits (with_separator_rule o) ts true n)) ∙ ap (λ x. fits (with_separator_rule o) ts true n && x) (sym (none p ps))
+    fall o ts (joined_tokens (p ∷ ps)) inner true n (and_parts (has_no_slash n) true h).0 ∙ sym
+    (and-false (fits (with_separator_rule o) ts true n)) ∙ ap (λ x. fits (with_separator_rule o) ts true n && x)
+    (sym (none p ps))
   where
     none : (p : Part) (ps : List Part) → reaches o (p ∷ ps) [] ≡ false
     none Levels [] = refl
@@ -66,16 +73,18 @@ Reach-level o ts p ps inner next n (m ∷ ns) h =
 
 Reach-last : (o : MatchOptions) (ts : List Token) → list_all is_inner ts ≡ true → Reach o (Level ts ∷ [])
 Reach-last o ts inner n [] h = sym (and-true (fits (with_separator_rule o) ts true n))
-Reach-last o ts inner n (m ∷ ns) h = stop o ts inner (join_with_byte slash (m ∷ ns)) true n ∙ sym (and-false (fits (with_separator_rule o) ts true n))
+Reach-last o ts inner n (m ∷ ns) h = stop o ts inner (join_with_byte slash (m ∷ ns)) true n ∙ sym
+    (and-false (fits (with_separator_rule o) ts true n))
 
 inner-from_level : (ts : List Token) → is_level (Level ts) ≡ true → list_all is_inner ts ≡ true
 inner-from_level [] h = refl
 inner-from_level (t ∷ ts) h = h
 
--- The tokens of a pattern match a text of names exactly where its components take the names.
+-- The tokens of a pattern match a text of names exactly if its components take the names.
 pub level_by_level : (o : MatchOptions) (p : Part) (ps : List Part) → list_all is_level (p ∷ ps) ≡ true → Reach o (p ∷ ps)
 level_by_level o Levels [] h = Reach-end o
-level_by_level o Levels (p ∷ ps) h = let both = and_parts (is_level p) (list_all is_level ps) h in Reach-run o p ps both.0 (level_by_level o p ps h)
+level_by_level o Levels (p ∷ ps) h = let both = and_parts (is_level p) (list_all is_level ps) h in Reach-run o p ps
+    both.0 (level_by_level o p ps h)
 level_by_level o (Level ts) [] h = Reach-last o ts (inner-from_level ts (and_parts (is_level (Level ts)) true h).0)
 level_by_level o (Level ts) (p ∷ ps) h =
     let both = and_parts (is_level (Level ts)) (list_all is_level (p ∷ ps)) h in

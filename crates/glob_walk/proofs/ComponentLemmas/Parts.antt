@@ -1,4 +1,4 @@
--- The components of a pattern by their tokens, the tokens of the whole, and which names they take.
+-- The components of a pattern as tokens, the tokens of the whole pattern, and which names the components take.
 use Rattle.std.specs.Prelude.{◌≡◌, Bool, true, false, ◌&&◌, not, ◌==◌, List, [], ◌∷◌, ◌++◌}
 use Rattle.std.specs.List.{list_all}
 use Rattle.std.specs.Path.{has_no_slash}
@@ -12,7 +12,7 @@ use Rattle.glob_pattern.specs.declared.options.MatchOptions.{MatchOptions}
 use Rattle.glob_pattern.specs.declared.token.Token.TheVariants.{Literal, AnyChar, AnySequence, Recursive, OneOf, NoneOf}
 use Rattle.glob_walk.proofs.ComponentLemmas.Fits.{fits}
 
--- the token may be in a component: it is not `**` and not `/`
+-- the token can be in a component: it is not `**` and not `/`
 abbrev pub is_inner : Token → Bool
 is_inner (Literal c) = not (c == slash)
 is_inner AnyChar = true
@@ -21,7 +21,7 @@ is_inner Recursive = false
 is_inner (OneOf entries) = true
 is_inner (NoneOf entries) = true
 
--- a component: `**`, or the tokens of another
+-- a component: `**`, or other tokens
 pub data Part : Type 0 where
   Levels : Part
   Level : List Token → Part
@@ -34,7 +34,7 @@ is_level (Level ts) = not (is_nil ts) && list_all is_inner ts
     is_nil [] = true
     is_nil (u ∷ us) = false
 
--- the units of the pattern of which these are the components
+-- the units of the pattern with these components
 abbrev pub joined_tokens : List Part → List Token
 joined_tokens [] = []
 joined_tokens (Levels ∷ ps) = Recursive ∷ joined_tokens ps
@@ -52,7 +52,7 @@ reaches o (Levels ∷ []) names = run_to_end o names
 reaches o (Levels ∷ p ∷ ps) names = run_before o (reaches o (p ∷ ps)) names
 reaches o (Level ts ∷ ps) names = name_before (fits (with_separator_rule o) ts true) (reaches o ps) names
 
--- these are the parts of these components
+-- these are the parts of the components
 abbrev pub AreParts : List Text → List Part → Type 0
 AreParts [] [] = Unit {0}
 AreParts [] (p ∷ ps) = ⊥

@@ -1,4 +1,4 @@
--- `**` under the separator rule: its piece is a number of whole names.
+-- `**` under the separator rule takes whole names.
 use Rattle.std.proofs.Common.{◌≡◌, Bool, true, false, not, ◌&&◌, ◌||◌, ◌==◌, [], ◌∷◌, ◌++◌, refl, ap, ap₂, ◌∙◌}
 use mathlib.Core.Bool.{and-true, and-false}
 use Rattle.std.specs.Path.{has_no_slash}
@@ -12,7 +12,7 @@ use Rattle.glob_pattern.specs.declared.token.Token.TheVariants.{Recursive}
 use Rattle.glob_walk.proofs.ComponentLemmas.Fits.{After, closed_then, fits}
 use Rattle.glob_walk.proofs.ComponentLemmas.FirstSeparator.{no_slash_parts}
 
--- what does not begin with a dot is free of the dot rule
+-- the dot rule allows a name that does not begin with a dot
 no_dot : (d b : Bool) → not (d && b && false) ≡ true
 no_dot true true = refl
 no_dot true false = refl
@@ -29,7 +29,7 @@ admits-closed o (c ∷ cs) = by_rule o.require_literal_leading_dot
 admits-slash : (o : MatchOptions) (b : Bool) → takes (with_separator_rule o) b slash Recursive ≡ true
 admits-slash o b = no_dot o.require_literal_leading_dot b
 
--- an open name, by its first byte
+-- whether a name is open, by its first byte
 pub is_open-begins : (o : MatchOptions) (n : Text) → is_open o n ≡ not (o.require_literal_leading_dot && begins_with dot n)
 is_open-begins o [] = by_rule o.require_literal_leading_dot
   where
@@ -44,32 +44,42 @@ is_open-begins o (c ∷ cs) = by_rule o.require_literal_leading_dot
 
 -- up to a separator, a closed piece is a name and the separator, or that and more
 pub closed-cut : (o : MatchOptions) (next : After) (b : Bool) (n r : Text) → has_no_slash n ≡ true
-    → closed_then (with_separator_rule o) Recursive next b (n ++ slash ∷ r) ≡ (admits o b n && (next true r || closed_then (with_separator_rule o) Recursive next true r))
+    → closed_then (with_separator_rule o) Recursive next b (n ++ slash ∷ r) ≡ (admits o b n &&
+    (next true r || closed_then (with_separator_rule o) Recursive next true r))
 closed-cut o next b [] r h = ap₂ (λ x y. x && y) (admits-slash o b) refl
 closed-cut o next b (c ∷ n) r h =
     let (other, rest) = no_slash_parts c n h in
-    ap (λ x. takes (with_separator_rule o) b c Recursive && ((x && next x (n ++ slash ∷ r)) || closed_then (with_separator_rule o) Recursive next x (n ++ slash ∷ r))) other
-    ∙ ap (λ x. takes (with_separator_rule o) b c Recursive && x) (closed-cut o next false n r rest ∙ ap (λ x. x && (next true r || closed_then (with_separator_rule o) Recursive next true r)) (admits-closed o n))
+    ap (λ x. takes (with_separator_rule o) b c Recursive && ((x && next x (n ++ slash ∷ r)) || closed_then
+    (with_separator_rule o) Recursive next x (n ++ slash ∷ r))) other
+    ∙ ap (λ x. takes (with_separator_rule o) b c Recursive && x) (closed-cut o next false n r rest ∙ ap
+    (λ x. x && (next true r || closed_then (with_separator_rule o) Recursive next true r)) (admits-closed o n))
 
--- a text without separators is no closed piece
-pub closed-fall : (o : MatchOptions) (next : After) (b : Bool) (n : Text) → has_no_slash n ≡ true → closed_then (with_separator_rule o) Recursive next b n ≡ false
+-- a text without separators is not a closed piece
+pub closed-fall : (o : MatchOptions) (next : After) (b : Bool) (n : Text) → has_no_slash n ≡ true → closed_then
+    (with_separator_rule o) Recursive next b n ≡ false
 closed-fall o next b [] h = refl
 closed-fall o next b (c ∷ n) h =
     let (other, rest) = no_slash_parts c n h in
-    ap (λ x. takes (with_separator_rule o) b c Recursive && ((x && next x n) || closed_then (with_separator_rule o) Recursive next x n)) other
-    ∙ ap (λ x. takes (with_separator_rule o) b c Recursive && x) (closed-fall o next false n rest) ∙ and-false (takes (with_separator_rule o) b c Recursive)
+    ap (λ x. takes (with_separator_rule o) b c Recursive && ((x && next x n) || closed_then (with_separator_rule o)
+    Recursive next x n)) other
+    ∙ ap (λ x. takes (with_separator_rule o) b c Recursive && x) (closed-fall o next false n rest) ∙ and-false
+    (takes (with_separator_rule o) b c Recursive)
 
--- a last `**` takes names
-pub last-name : (o : MatchOptions) (b : Bool) (n : Text) → has_no_slash n ≡ true → fits (with_separator_rule o) (Recursive ∷ []) b n ≡ admits o b n
+-- a last `**` takes one name
+pub last-name : (o : MatchOptions) (b : Bool) (n : Text) → has_no_slash n ≡ true → fits (with_separator_rule o)
+    (Recursive ∷ []) b n ≡ admits o b n
 last-name o b [] h = refl
 last-name o b (c ∷ n) h =
     let (other, rest) = no_slash_parts c n h in
     ap (λ x. takes (with_separator_rule o) b c Recursive && fits (with_separator_rule o) (Recursive ∷ []) x n) other
-    ∙ ap (λ x. takes (with_separator_rule o) b c Recursive && x) (last-name o false n rest ∙ admits-closed o n) ∙ and-true (takes (with_separator_rule o) b c Recursive)
+    ∙ ap (λ x. takes (with_separator_rule o) b c Recursive && x) (last-name o false n rest ∙ admits-closed o n)
+    ∙ and-true (takes (with_separator_rule o) b c Recursive)
 
-pub last-cut : (o : MatchOptions) (b : Bool) (n r : Text) → has_no_slash n ≡ true → fits (with_separator_rule o) (Recursive ∷ []) b (n ++ slash ∷ r) ≡ (admits o b n && fits (with_separator_rule o) (Recursive ∷ []) true r)
+pub last-cut : (o : MatchOptions) (b : Bool) (n r : Text) → has_no_slash n ≡ true → fits (with_separator_rule o)
+    (Recursive ∷ []) b (n ++ slash ∷ r) ≡ (admits o b n && fits (with_separator_rule o) (Recursive ∷ []) true r)
 last-cut o b [] r h = ap₂ (λ x y. x && y) (admits-slash o b) refl
 last-cut o b (c ∷ n) r h =
     let (other, rest) = no_slash_parts c n h in
     ap (λ x. takes (with_separator_rule o) b c Recursive && fits (with_separator_rule o) (Recursive ∷ []) x (n ++ slash ∷ r)) other
-    ∙ ap (λ x. takes (with_separator_rule o) b c Recursive && x) (last-cut o false n r rest ∙ ap (λ x. x && fits (with_separator_rule o) (Recursive ∷ []) true r) (admits-closed o n))
+    ∙ ap (λ x. takes (with_separator_rule o) b c Recursive && x) (last-cut o false n r rest ∙ ap (λ x. x && fits
+    (with_separator_rule o) (Recursive ∷ []) true r) (admits-closed o n))

@@ -1,5 +1,7 @@
 -- The cost of a walk, component by component.
-use Rattle.std.proofs.Common.{◌≡◌, ℕ, zero, suc, ◌+◌, ◌*◌, ◌≤◌, Bool, true, false, cond, not, ◌||◌, List, [], ◌∷◌, ◌++◌, length, flat_map, replicate, Option, Some, None, refl, sym, ap, subst, ◌∙◌, arith, mul-add, add-mul, one-mul, mul-one, mul-le-mul_left, mul_comm}
+use Rattle.std.proofs.Common.{◌≡◌, ℕ, zero, suc, ◌+◌, ◌*◌, ◌≤◌, Bool, true, false, cond, not, ◌||◌, List, [], ◌∷◌, ◌++◌}
+use Rattle.std.proofs.Common.{length, flat_map, replicate, Option, Some, None, refl, sym, ap, subst, ◌∙◌, arith}
+use Rattle.std.proofs.Common.{mul-add, add-mul, one-mul, mul-one, mul-le-mul_left, mul_comm}
 use Rattle.std.specs.Prelude.{Contains}
 use Rattle.std.specs.List.{list_all}
 use Rattle.std.specs.Path.{has_no_slash}
@@ -12,20 +14,26 @@ use Rattle.glob_tree.specs.Content.{Content, Key, DirEntry, kind_at, is_dir, chi
 use Rattle.glob_tree.specs.declared.kind.Kind.{Kind}
 use Rattle.glob_tree.proofs.ContentLemmas.Membership.{Contains-head, Contains-tail}
 use Rattle.glob_tree.proofs.ContentLemmas.Contents.{IsContent, IsContent-from_test, IsChild-list_result}
-use Rattle.glob_tree.proofs.ContentLemmas.Directories.{LeadsTo, ListsAs, Read, Unreadable, ListsAs-from_leads, is_dir_at-kind, is_directory-look_result, directory_kind}
+use Rattle.glob_tree.proofs.ContentLemmas.Directories.{LeadsTo, ListsAs, Read, Unreadable, ListsAs-from_leads}
+use Rattle.glob_tree.proofs.ContentLemmas.Directories.{is_dir_at-kind, is_directory-look_result, directory_kind}
 use Rattle.glob_tree.proofs.ContentLemmas.Sorting.{Contains-sorted_entries}
-use Rattle.glob_walk.specs.Components.{Literal, Recursive, Wild, component_kind, ComponentKind, begins_recursive, is_recursive, components, matches_name, start, wants_directories}
+use Rattle.glob_walk.specs.Components.{Literal, Recursive, Wild, component_kind, ComponentKind, begins_recursive}
+use Rattle.glob_walk.specs.Components.{is_recursive, components, matches_name, start, wants_directories}
 use Rattle.glob_walk.specs.Goal.{are_plain, is_plain, is_plain_component, start_key, IsPlainWalk}
 use Rattle.glob_walk.specs.Laws.{cost_per_key}
-use Rattle.glob_walk.specs.Listing.{Next, after_listing, by_name, descent, enter, is_entered, levels, list_directory, listing, match_at, meet}
+use Rattle.glob_walk.specs.Listing.{Next, after_listing, by_name, descent, enter, is_entered, levels, list_directory}
+use Rattle.glob_walk.specs.Listing.{listing, match_at, meet}
 use Rattle.glob_walk.specs.Marks.{Mark, Work, Give, Found, Unread, cost}
 use Rattle.glob_walk.proofs.CostLemmas.Sizes.{size, size-all, size-child, size-deeper, size-some, sizes_of_children}
 use Rattle.glob_walk.proofs.CostLemmas.Totals.{total, total-mul, total-sorted_entries}
-use Rattle.glob_walk.proofs.GoalLemmas.ListingFinds.{Leads, Leads-entry, IsOwnName, own_name, resolve-own, look_result-own, look_of-there, look_of-directory, no_specials, plain-after}
+use Rattle.glob_walk.proofs.GoalLemmas.ListingFinds.{Leads, Leads-entry, IsOwnName, own_name, resolve-own}
+use Rattle.glob_walk.proofs.GoalLemmas.ListingFinds.{look_result-own, look_of-there, look_of-directory, no_specials}
+use Rattle.glob_walk.proofs.GoalLemmas.ListingFinds.{plain-after}
 use Rattle.glob_walk.proofs.GoalLemmas.NamedPaths.{LeadsTo-start}
 use Rattle.glob_walk.proofs.GoalLemmas.PatternParts.{components-flat}
 use Rattle.glob_walk.proofs.ListingLemmas.ComponentKinds.{kind-Literal, kind-Recursive, kind-Wild, literal_not_recursive}
-use Rattle.glob_walk.proofs.ListingLemmas.Descending.{enter-literal, enter-wild, enter_none, enter-run, enter-recursive_none, enter-levels, is_entered-directory}
+use Rattle.glob_walk.proofs.ListingLemmas.Descending.{enter-literal, enter-wild, enter_none, enter-run}
+use Rattle.glob_walk.proofs.ListingLemmas.Descending.{enter-recursive_none, enter-levels, is_entered-directory}
 use Rattle.glob_walk.proofs.ListingLemmas.Marks.{cost-append}
 
 cost-replicate : (n : ℕ) (path : Text) → cost (replicate n (Work path)) ≡ n
@@ -36,7 +44,7 @@ cost-cond : (b : Bool) (ms : List Mark) (n : ℕ) → (b ≡ true → cost ms �
 cost-cond true ms n less = less refl
 cost-cond false ms n less = omega arith
 
--- what comes of entries, and a unit for each, costs at most as much as each of them
+-- entries cost at most the sum of their bounds, each with one unit
 cost-entries : (each : Next) (f : DirEntry → ℕ) (es : List DirEntry) → ((e : DirEntry) → Contains es e → 1 + cost (each e.0 e.1) ≤ f e)
     → length es + cost (flat_map (λ e. each e.0 e.1) es) ≤ total f es
 cost-entries each f [] less = omega arith
@@ -55,7 +63,7 @@ total-ones (e ∷ es) = omega (arith, total-ones es)
 length-sorted_entries : (es : List DirEntry) → length (sorted_entries es) ≡ length es
 length-sorted_entries es = sym (total-ones (sorted_entries es)) ∙ total-sorted_entries (λ e. 1) es ∙ total-ones es
 
--- the bound grows with what is below
+-- the bound grows with the keys below
 step_up : (a s t : ℕ) → 1 + t ≤ s → 1 ≤ a → 1 + a * t ≤ a * s
 step_up a s t more some = omega (arith, mul-le-mul_left a more, mul-add a 1 t, mul-one a)
 
@@ -63,7 +71,7 @@ module _ (c : Content) (w : IsContent c) (o : MatchOptions) (directories : Bool)
   abbrev keys : ℕ
   keys = length c.kinds
 
-  -- for each key: what a component with wildcards costs, and `**`
+  -- the cost for each key of a component with wildcards, and of `**`
   abbrev wild_rate : List Text → ℕ
   wild_rate ts = 1 + cost_per_key keys ts
 
@@ -74,17 +82,19 @@ module _ (c : Content) (w : IsContent c) (o : MatchOptions) (directories : Bool)
   abbrev under : Key → ℕ
   under k = total (λ e. size c (k ++ e.0 ∷ [])) (children c k)
 
-  -- a listing costs a unit, and a unit and what comes of it for each entry
+  -- a listing costs one unit, and for each entry one unit and what follows at it
   cost-listed : (path : Text) (k : Key) → LeadsTo c path k → (each : Next) (f : DirEntry → ℕ)
       → ((e : DirEntry) → Contains (children c k) e → 1 + cost (each e.0 e.1) ≤ f e)
       → cost (list_directory c path [] each) ≤ 1 + total f (children c k)
   cost-listed path k at each f less = by_answer (ListsAs-from_leads c path k at)
     where
-      read : 1 + cost (replicate (length (children c k)) (Work path) ++ [] ++ flat_map (λ e. each e.0 e.1) (sorted_entries (children c k))) ≤ 1 + total f (children c k)
+      read : 1 + cost (replicate (length (children c k)) (Work path) ++ [] ++ flat_map (λ e. each e.0 e.1)
+          (sorted_entries (children c k))) ≤ 1 + total f (children c k)
       read =
           omega (
             arith,
-            cost-append (replicate (length (children c k)) (Work path) ++ []) (flat_map (λ e. each e.0 e.1) (sorted_entries (children c k))),
+            cost-append (replicate (length (children c k)) (Work path) ++ []) (flat_map (λ e. each e.0 e.1)
+                (sorted_entries (children c k))),
             cost-append (replicate (length (children c k)) (Work path)) [],
             cost-replicate (length (children c k)) path,
             length-sorted_entries (children c k),
@@ -99,19 +109,24 @@ module _ (c : Content) (w : IsContent c) (o : MatchOptions) (directories : Bool)
       by_answer (Read held answer) = rw answer (omega (arith, read))
       by_answer (Unreadable kind held answer) = rw answer (omega (arith, unread kind))
 
-  -- where each entry costs, with its unit, at most a for each key at or below it, the listing does for those at or below it
+  -- if each entry costs, with its unit, at most a for each key at or below it, so does the listing
   cost-below : (path : Text) (k : Key) (kind : Kind) → kind_at c k ≡ Some kind → LeadsTo c path k → (each : Next) (a : ℕ) → 1 ≤ a
       → ((e : DirEntry) → Contains (children c k) e → 1 + cost (each e.0 e.1) ≤ a * size c (k ++ e.0 ∷ []))
       → 1 + cost (list_directory c path [] each) ≤ 1 + (1 + a * under k)
   cost-below path k kind held at each a some less =
-      omega (arith, cost-listed path k at each (λ e. a * size c (k ++ e.0 ∷ [])) less, total-mul a (λ e. size c (k ++ e.0 ∷ [])) (children c k))
+      omega (
+        arith,
+        cost-listed path k at each (λ e. a * size c (k ++ e.0 ∷ [])) less,
+        total-mul a
+            (λ e. size c (k ++ e.0 ∷ [])) (children c k),
+      )
 
-  -- what comes of a path costs at most so much for each key at or below it
+  -- what follows at a path costs at most its rate for each key at or below it
   abbrev Costs : List Text → Type 0
   Costs ts = (path : Text) (k : Key) (d : Bool) → Leads c path k d → (kind : Kind) → kind_at c k ≡ Some kind
       → cost (enter c o directories ts path d) ≤ cost_per_key keys ts * size c k
 
-  -- and what comes of an entry under `**`, for each key
+  -- the same for what follows at an entry under `**`
   abbrev CostsMet : List Text → Type 0
   CostsMet ts = (path : Text) (k : Key) (name : Text) (d : Bool) → Leads c path k d → (kind : Kind) → kind_at c k ≡ Some kind
       → cost (meet c o directories ts path name d) ≤ keys * cost_per_key keys ts
@@ -135,16 +150,25 @@ module _ (c : Content) (w : IsContent c) (o : MatchOptions) (directories : Bool)
   per-plain : (t : Text) (ts : List Text) → is_recursive t ≡ false → cost_per_key keys (t ∷ ts) ≡ 1 + cost_per_key keys ts
   per-plain t ts e = rw e refl
 
-  per-recursive : (t : Text) (ts : List Text) → is_recursive t ≡ true → begins_recursive ts ≡ false → cost_per_key keys (t ∷ ts) ≡ run_rate ts
+  per-recursive : (t : Text) (ts : List Text) → is_recursive t ≡ true → begins_recursive ts ≡ false → cost_per_key keys
+      (t ∷ ts) ≡ run_rate ts
   per-recursive t ts e last = rw (e, last) refl
 
-  per-run : (t : Text) (ts : List Text) → is_recursive t ≡ true → begins_recursive ts ≡ true → cost_per_key keys (t ∷ ts) ≡ cost_per_key keys ts
+  per-run : (t : Text) (ts : List Text) → is_recursive t ≡ true → begins_recursive ts ≡ true → cost_per_key keys
+      (t ∷ ts) ≡ cost_per_key keys ts
   per-run t ts e more = rw (e, more) refl
 
   costs-literal : (t : Text) (ts : List Text) → component_kind t ≡ Literal → IsOwnName t → Costs ts → Costs (t ∷ ts)
   costs-literal t ts kind is next path k d at here held =
       rw (enter-literal c o directories t ts path d kind, per-plain t ts (literal_not_recursive t (kind-Literal t kind)))
-      (omega (arith, by_kind (kind_at c (k ++ t ∷ [])) refl, add-mul 1 (cost_per_key keys ts) (size c k), one-mul (size c k), size-some c w k here held))
+      (omega (
+        arith,
+        by_kind (kind_at c (k ++ t ∷ [])) refl,
+        add-mul 1 (cost_per_key keys ts) (size c k),
+        one-mul
+            (size c k),
+        size-some c w k here held,
+      ))
     where
       by_kind : (found : Option Kind) → kind_at c (k ++ t ∷ []) ≡ found
           → cost (by_name c (enter c o directories ts) t path d) ≤ 1 + cost_per_key keys ts * size c k
@@ -152,7 +176,11 @@ module _ (c : Content) (w : IsContent c) (o : MatchOptions) (directories : Bool)
       by_kind (Some found) e = rw (is.special, look_result-own c path k t w is at.resolved, e, look_of-there found, look_of-directory found)
           (omega (
             arith,
-            next (child path t) (k ++ t ∷ []) (is_dir found) (record { resolved = resolve-own c path k t found w is at.resolved e; is = is_dir_at-kind c (k ++ t ∷ []) found e }) found e,
+            next (child path t) (k ++ t ∷ []) (is_dir found) (record {
+              resolved = resolve-own c path k t found w is
+                  at.resolved e;
+              is = is_dir_at-kind c (k ++ t ∷ []) found e;
+            }) found e,
             mul-le-mul_left (cost_per_key keys ts) (size-deeper c k t),
           ))
 
@@ -161,53 +189,66 @@ module _ (c : Content) (w : IsContent c) (o : MatchOptions) (directories : Bool)
   costs-wild t ts kind plain next path k true at here held =
       rw (
         enter-wild c o directories t ts path kind
-            ∙ ap (λ before. list_directory c path before (λ name d. match_at o (enter c o directories ts) t (child path name) name d)) (no_specials c o (enter c o directories ts) t path plain (kind-Wild t kind).0),
+            ∙ ap (λ before. list_directory c path before (λ name d. match_at o (enter c o directories ts) t
+            (child path name) name d)) (no_specials c o (enter c o directories ts) t path plain
+            (kind-Wild t kind).0),
         per-plain t ts (kind-Wild t kind).1,
       )
       (omega (
         arith,
-        cost-below path k here held (record { resolved = at.resolved; directory = at.is }) (λ name d. match_at o (enter c o directories ts) t (child path name) name d) (wild_rate ts) (omega arith) each,
+        cost-below path k here held (record { resolved = at.resolved; directory = at.is }) (λ name d. match_at o
+            (enter c o directories ts) t (child path name) name d) (wild_rate ts) (omega arith) each,
         step_up (wild_rate ts) (size c k) (under k) (sizes_of_children c w k here held) (omega arith),
       ))
     where
-      each : (e : DirEntry) → Contains (children c k) e → 1 + cost (match_at o (enter c o directories ts) t (child path e.0) e.0 e.1) ≤ wild_rate ts * size c (k ++ e.0 ∷ [])
+      each : (e : DirEntry) → Contains (children c k) e → 1 + cost (match_at o (enter c o directories ts) t
+          (child path e.0) e.0 e.1) ≤ wild_rate ts * size c (k ++ e.0 ∷ [])
       each e in' =
           let found = IsChild-list_result c w k e in' in
           omega (
             arith,
             cost-cond (matches_name o t e.0) (enter c o directories ts (child path e.0) e.1) (cost_per_key keys ts * size c (k ++ e.0 ∷ []))
-                (λ m. next (child path e.0) (k ++ e.0 ∷ []) e.1 (Leads-entry c w path k (record { resolved = at.resolved; directory = at.is }) e in') found.kind found.held),
+                (λ m. next (child path e.0) (k ++ e.0 ∷ []) e.1 (Leads-entry c w path k
+                (record { resolved = at.resolved; directory = at.is }) e in') found.kind found.held),
             add-mul 1 (cost_per_key keys ts) (size c (k ++ e.0 ∷ [])),
             one-mul (size c (k ++ e.0 ∷ [])),
             size-child c w k e in',
           )
 
-  -- what a descent makes of an entry: it is met, and then entered n levels down
+  -- what follows at an entry in a descent: it is met, and then entered n levels down
   abbrev run_at : List Text → ℕ → (path name : Text) → Bool → List Mark
-  run_at ts n path name d = meet c o directories ts (child path name) name d ++ (cond (is_entered o name d) (descent c o (meet c o directories ts) n (child path name)) [])
+  run_at ts n path name d = meet c o directories ts (child path name) name d ++ (cond (is_entered o name d)
+      (descent c o (meet c o directories ts) n (child path name)) [])
 
-  -- a descent, with its rate less one added
+  -- the cost of a descent, for its rate less one
   abbrev Descends : List Text → ℕ → Type 0
   Descends ts n = (path : Text) (k : Key) (kind : Kind) → kind_at c k ≡ Some kind → LeadsTo c path k
       → cost (descent c o (meet c o directories ts) n path) + run_rate ts ≤ run_rate ts * size c k + 1
 
-  costs-entered : (ts : List Text) (n : ℕ) → Descends ts n → (path : Text) (k : Key) → LeadsTo c path k → (e : DirEntry) → Contains (children c k) e → (b : Bool) → is_entered o e.0 e.1 ≡ b
+  costs-entered : (ts : List Text) (n : ℕ) → Descends ts n → (path : Text) (k : Key) → LeadsTo c path k →
+      (e : DirEntry) → Contains (children c k) e → (b : Bool) → is_entered o e.0 e.1 ≡ b
       → cost (cond b (descent c o (meet c o directories ts) n (child path e.0)) []) + run_rate ts ≤ run_rate ts * size c (k ++ e.0 ∷ []) + 1
   costs-entered ts n below path k at e in' false entered =
       omega (arith, mul-le-mul_left (run_rate ts) (size-child c w k e in'), mul-one (run_rate ts))
   costs-entered ts n below path k at e in' true entered =
       let found = IsChild-list_result c w k e in' in
       let leads = Leads-entry c w path k at e in' in
-      below (child path e.0) (k ++ e.0 ∷ []) found.kind found.held (record { resolved = leads.resolved; directory = leads.is ∙ is_entered-directory o e.0 e.1 entered })
+      below (child path e.0) (k ++ e.0 ∷ []) found.kind found.held (record {
+        resolved = leads.resolved;
+        directory =
+            leads.is ∙ is_entered-directory o e.0 e.1 entered;
+      })
 
-  costs-run_at : (ts : List Text) → CostsMet ts → (n : ℕ) → Descends ts n → (path : Text) (k : Key) → LeadsTo c path k → (e : DirEntry) → Contains (children c k) e
+  costs-run_at : (ts : List Text) → CostsMet ts → (n : ℕ) → Descends ts n → (path : Text) (k : Key) → LeadsTo c path k
+      → (e : DirEntry) → Contains (children c k) e
       → 1 + cost (run_at ts n path e.0 e.1) ≤ run_rate ts * size c (k ++ e.0 ∷ [])
   costs-run_at ts next n below path k at e in' =
       let found = IsChild-list_result c w k e in' in
       omega (
         arith,
         next (child path e.0) (k ++ e.0 ∷ []) e.0 e.1 (Leads-entry c w path k at e in') found.kind found.held,
-        cost-append (meet c o directories ts (child path e.0) e.0 e.1) (cond (is_entered o e.0 e.1) (descent c o (meet c o directories ts) n (child path e.0)) []),
+        cost-append (meet c o directories ts (child path e.0) e.0 e.1) (cond (is_entered o e.0 e.1)
+            (descent c o (meet c o directories ts) n (child path e.0)) []),
         costs-entered ts n below path k at e in' (is_entered o e.0 e.1) refl,
       )
 
@@ -218,14 +259,16 @@ module _ (c : Content) (w : IsContent c) (o : MatchOptions) (directories : Bool)
   costs-descent ts next (suc n) path k kind held at =
       omega (
         arith,
-        cost-below path k kind held at (run_at ts n path) (run_rate ts) (omega arith) (costs-run_at ts next n (costs-descent ts next n) path k at),
+        cost-below path k kind held at (run_at ts n path) (run_rate ts) (omega arith) (costs-run_at ts next n
+            (costs-descent ts next n) path k at),
         mul-le-mul_left (run_rate ts) (sizes_of_children c w k kind held),
         mul-add (run_rate ts) 1 (under k),
         mul-one (run_rate ts),
       )
 
   costs-recursive : (t : Text) (ts : List Text) → component_kind t ≡ Recursive → begins_recursive ts ≡ false → CostsMet ts → Costs (t ∷ ts)
-  costs-recursive t ts kind last next path k false at here held = rw (enter-recursive_none c o directories t ts path kind last) (omega arith)
+  costs-recursive t ts kind last next path k false at here held = rw (enter-recursive_none c o directories t ts path
+      kind last) (omega arith)
   costs-recursive t ts kind last next path k true at here held =
       rw (enter-levels c o directories t ts path kind last, per-recursive t ts (kind-Recursive t kind) last)
       (omega (arith, costs-descent ts next (levels c) path k here held (record { resolved = at.resolved; directory = at.is })))
@@ -240,7 +283,8 @@ module _ (c : Content) (w : IsContent c) (o : MatchOptions) (directories : Bool)
       rw (per-plain t ts plain)
       (omega (
         arith,
-        cost-cond (matches_name o t name) (enter c o directories ts path d) (cost_per_key keys ts * size c k) (λ m. next path k d at here held),
+        cost-cond (matches_name o t name) (enter c o directories ts path d) (cost_per_key keys ts * size c k)
+            (λ m. next path k d at here held),
         mul-le-mul_left (cost_per_key keys ts) (size-all c k),
         mul-add keys 1 (cost_per_key keys ts),
         mul_comm keys (cost_per_key keys ts),
@@ -268,11 +312,15 @@ module _ (c : Content) (w : IsContent c) (o : MatchOptions) (directories : Bool)
       by_run kind plain true more = costs-run t ts kind more (after_run ts more plain next)
       by_run kind plain false last = costs-recursive t ts kind last (next.met last plain)
 
-      by_kind : is_plain_component false t ≡ true → are_plain (is_recursive t) ts ≡ true → (kind : ComponentKind) → component_kind t ≡ kind → Costs (t ∷ ts)
+      by_kind : is_plain_component false t ≡ true → are_plain (is_recursive t) ts ≡ true → (kind : ComponentKind)
+          → component_kind t ≡ kind → Costs (t ∷ ts)
       by_kind here further Literal kind =
-          costs-literal t ts kind (own_name false t here flat) (next.entered (subst (λ b. are_plain b ts ≡ true) (literal_not_recursive t (kind-Literal t kind)) further))
-      by_kind here further Recursive kind = by_run kind (subst (λ b. are_plain b ts ≡ true) (kind-Recursive t kind) further) (begins_recursive ts) refl
-      by_kind here further Wild kind = costs-wild t ts kind here (next.entered (subst (λ b. are_plain b ts ≡ true) (kind-Wild t kind).1 further))
+          costs-literal t ts kind (own_name false t here flat) (next.entered (subst (λ b. are_plain b ts ≡ true)
+          (literal_not_recursive t (kind-Literal t kind)) further))
+      by_kind here further Recursive kind = by_run kind (subst (λ b. are_plain b ts ≡ true) (kind-Recursive t kind)
+          further) (begins_recursive ts) refl
+      by_kind here further Wild kind = costs-wild t ts kind here (next.entered (subst (λ b. are_plain b ts ≡ true)
+          (kind-Wild t kind).1 further))
 
   each_costs : (ts : List Text) → list_all has_no_slash ts ≡ true → EachCosts ts
   each_costs [] slashless = record { entered = λ plain. costs-nothing; met = λ last plain. met-nothing }
@@ -293,7 +341,8 @@ plain_walk_costs c o pattern p =
     rw (is_directory-look_result c (start pattern) (start_key c pattern) at)
     (omega (
       arith,
-      (each_costs c w o (wants_directories pattern) (components pattern) (components-flat pattern)).entered plain (start pattern) (start_key c pattern) true
+      (each_costs c w o (wants_directories pattern) (components pattern) (components-flat pattern)).entered plain
+          (start pattern) (start_key c pattern) true
           (record { resolved = at.resolved; is = at.directory }) found.0 found.1,
       mul-le-mul_left (cost_per_key n (components pattern)) (size-all c (start_key c pattern)),
     ))

@@ -1,5 +1,6 @@
--- How many keys are at a key or below it: more than at and below all of its children.
-use Rattle.std.proofs.Common.{◌≡◌, ℕ, ◌+◌, ◌≤◌, ⊎_elim, Bool, true, false, cond, List, [], ◌∷◌, ◌++◌, length, Option, Some, None, refl, sym, ap, ◌∙◌, arith}
+-- How many keys are at or below a key: more than at or below all its children.
+use Rattle.std.proofs.Common.{◌≡◌, ℕ, ◌+◌, ◌≤◌, ⊎_elim, Bool, true, false, cond, List, [], ◌∷◌, ◌++◌, length, Option}
+use Rattle.std.proofs.Common.{Some, None, refl, sym, ap, ◌∙◌, arith}
 use Rattle.std.specs.Prelude.{Contains, bytes_eq}
 use Rattle.std.proofs.lemmas.Bool.{false_from_ne_true}
 use Rattle.std.proofs.lemmas.Slice.Eq.{bytes_eq-Decides}
@@ -12,7 +13,7 @@ use Rattle.glob_tree.proofs.ContentLemmas.Sorting.{AreApart, children_apart}
 use Rattle.glob_walk.proofs.CostLemmas.Totals.{total, total-le, total-add, total-zero, total-length}
 use Rattle.std.proofs.lemmas.List.{append-nil}
 
--- whether a key goes on past k, and whether it is k
+-- whether a key is k or below it, and whether it is k
 abbrev goes_on : Option Key → ℕ
 goes_on None = 0
 goes_on (Some ns) = 1
@@ -22,7 +23,7 @@ ends None = 0
 ends (Some []) = 1
 ends (Some (n ∷ ns)) = 0
 
--- what follows one name more
+-- the rest of a key after one more name
 abbrev past_name : Text → Option Key → Option Key
 past_name n None = None
 past_name n (Some []) = None
@@ -39,7 +40,7 @@ names_past-deeper (l ∷ ls) n (m ∷ ms) = by_test (names_past-deeper ls n ms) 
     by_test deeper true = deeper
     by_test deeper false = refl
 
--- how many of these keys are at k or below it
+-- how many of these keys are at or below k
 abbrev pub size_in : List (Key × Kind) → Key → ℕ
 size_in es k = total (λ e. goes_on (names_past k e.0)) es
 
@@ -49,7 +50,7 @@ size c k = size_in c.kinds k
 abbrev times_at : List (Key × Kind) → Key → ℕ
 times_at es k = total (λ e. ends (names_past k e.0)) es
 
--- of children whose names differ, at most one is on the way to a key
+-- of children with distinct names, at most one is on the way to a key
 one_way : (m : Text) (ms : Key) (es : List DirEntry) → AreApart es → total (λ e. goes_on (cond (bytes_eq e.0 m) (Some ms) None)) es ≤ 1
 one_way m ms [] apart = omega arith
 one_way m ms (e ∷ es) apart = by_test (one_way m ms es apart.1) (bytes_eq e.0 m) refl
@@ -64,7 +65,8 @@ one_way m ms (e ∷ es) apart = by_test (one_way m ms es apart.1) (bytes_eq e.0 
     by_test rest true is = omega (arith, total-zero (λ f. goes_on (cond (bytes_eq f.0 m) (Some ms) None)) es (other is))
     by_test rest false is = omega (arith, rest)
 
-at_most_one : (past : Option Key) (es : List DirEntry) → AreApart es → total (λ e. goes_on (past_name e.0 past)) es + ends past ≤ goes_on past
+at_most_one : (past : Option Key) (es : List DirEntry) → AreApart es → total (λ e. goes_on (past_name e.0 past)) es +
+    ends past ≤ goes_on past
 at_most_one None es apart = omega (arith, total-zero (λ e. goes_on (past_name e.0 None)) es (λ e in'. refl))
 at_most_one (Some []) es apart = omega (arith, total-zero (λ e. goes_on (past_name e.0 (Some []))) es (λ e in'. refl))
 at_most_one (Some (m ∷ ms)) es apart = omega (arith, one_way m ms es apart)
@@ -73,8 +75,9 @@ total-same : {X : Type 0} (f g : X → ℕ) (xs : List X) → ((x : X) → f x �
 total-same f g [] same = refl
 total-same f g (x ∷ xs) same = omega (arith, same x, total-same f g xs same)
 
--- the sizes of children, in some of the keys
-sizes_in : (k : Key) (cs : List DirEntry) → AreApart cs → (es : List (Key × Kind)) → total (λ e. size_in es (k ++ e.0 ∷ [])) cs + times_at es k ≤ size_in es k
+-- the sizes of children, for some of the keys
+sizes_in : (k : Key) (cs : List DirEntry) → AreApart cs → (es : List (Key × Kind)) → total (λ e. size_in es
+    (k ++ e.0 ∷ [])) cs + times_at es k ≤ size_in es k
 sizes_in k cs apart [] = omega (arith, total-zero (λ e. 0) cs (λ e in'. refl))
 sizes_in k cs apart (x ∷ es) =
     omega (
@@ -86,17 +89,23 @@ sizes_in k cs apart (x ∷ es) =
           (λ e. ap goes_on (names_past-deeper k e.0 x.0)),
     )
 
--- a key that is there counts
+-- a key of the content counts
 counts : (k : Key) (es : List (Key × Kind)) (kind : Kind) → Contains es (k, kind) → 1 ≤ times_at es k
 counts k [] kind in' = absurd (Contains-nil (k, kind) in')
 counts k (e ∷ es) kind in' = ⊎_elim
-    (λ same. omega (arith, ap (λ f. ends (names_past k f.0)) same, ap ends (ap (names_past k) (sym (append-nil k)) ∙ names_past-append k [])))
+    (λ same. omega (
+      arith,
+      ap (λ f. ends (names_past k f.0)) same,
+      ap ends (ap (names_past k) (sym (append-nil k))
+          ∙ names_past-append k []),
+    ))
     (λ later. omega (arith, counts k es kind later))
     (Contains-cases e es (k, kind) in')
 
 module _ (c : Content) (w : IsContent c) where
-  -- the keys below a key are those at and below its children
-  pub sizes_of_children : (k : Key) (kind : Kind) → kind_at c k ≡ Some kind → 1 + total (λ e. size c (k ++ e.0 ∷ [])) (children c k) ≤ size c k
+  -- the keys below a key are those at or below its children
+  pub sizes_of_children : (k : Key) (kind : Kind) → kind_at c k ≡ Some kind → 1 + total (λ e. size c (k ++ e.0 ∷ []))
+      (children c k) ≤ size c k
   sizes_of_children k kind held =
       omega (arith, sizes_in k (children c k) (children_apart c w k) c.kinds, counts k c.kinds kind (contains_kind_at c k kind held))
 
@@ -106,7 +115,7 @@ module _ (c : Content) (w : IsContent c) where
   pub size-child : (k : Key) (e : DirEntry) → Contains (children c k) e → 1 ≤ size c (k ++ e.0 ∷ [])
   size-child k e in' = let is = IsChild-list_result c w k e in' in size-some (k ++ e.0 ∷ []) is.kind is.held
 
--- and there are no more than all
+-- and they are at most all keys
 pub size-all : (c : Content) (k : Key) → size c k ≤ length c.kinds
 size-all c k = total-length (λ e. goes_on (names_past k e.0)) c.kinds (λ e. at_most (names_past k e.0))
   where

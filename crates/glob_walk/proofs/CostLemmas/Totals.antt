@@ -1,5 +1,6 @@
 -- Sums over lists.
-use Rattle.std.proofs.Common.{◌≡◌, ℕ, ◌+◌, ◌*◌, ◌≤◌, true, false, cond, Bool, List, [], ◌∷◌, length, refl, sym, ap, ◌∙◌, arith, mul-add, mul-zero}
+use Rattle.std.proofs.Common.{◌≡◌, ℕ, ◌+◌, ◌*◌, ◌≤◌, true, false, cond, Bool, List, [], ◌∷◌, length, refl, sym, ap, ◌∙◌}
+use Rattle.std.proofs.Common.{arith, mul-add, mul-zero}
 use Rattle.std.specs.Prelude.{Contains}
 use Rattle.glob_tree.specs.Content.{DirEntry, insert_entry, is_before, sorted_entries}
 use Rattle.glob_tree.proofs.ContentLemmas.Membership.{Contains-head, Contains-tail}
@@ -25,7 +26,7 @@ pub total-zero : {X : Type 0} (f : X → ℕ) (xs : List X) → ((x : X) → Con
 total-zero f [] none = refl
 total-zero f (x ∷ xs) none = omega (arith, none x (Contains-head x xs), total-zero f xs (λ y in'. none y (Contains-tail x xs y in')))
 
--- each element counts at most once
+-- if each element counts at most once, the sum is at most the length
 pub total-length : {X : Type 0} (f : X → ℕ) (xs : List X) → ((x : X) → f x ≤ 1) → total f xs ≤ length xs
 total-length f [] one = omega arith
 total-length f (x ∷ xs) one = omega (arith, one x, total-length f xs one)
@@ -35,7 +36,8 @@ total-insert_entry : (f : DirEntry → ℕ) (e : DirEntry) (es : List DirEntry) 
 total-insert_entry f e [] = refl
 total-insert_entry f e (g ∷ gs) = by_order (total-insert_entry f e gs) (is_before e g)
   where
-    by_order : total f (insert_entry e gs) ≡ f e + total f gs → (b : Bool) → total f (cond b (e ∷ g ∷ gs) (g ∷ insert_entry e gs)) ≡ f e + total f (g ∷ gs)
+    by_order : total f (insert_entry e gs) ≡ f e + total f gs → (b : Bool) → total f (cond b (e ∷ g ∷ gs)
+        (g ∷ insert_entry e gs)) ≡ f e + total f (g ∷ gs)
     by_order rest true = refl
     by_order rest false = omega (arith, rest)
 

@@ -1,5 +1,6 @@
--- Texts by their bytes and by their characters.
-use Rattle.std.proofs.Common.{◌≡◌, ℕ, suc, ◌<◌, ◌≤◌, ⊎_elim, Bool, true, false, not, ◌&&◌, ◌||◌, ◌==◌, List, [], ◌∷◌, ◌++◌, length, map, get_or, refl, sym, ap, ap₂, ◌∙◌, arith}
+-- Texts as bytes and as characters.
+use Rattle.std.proofs.Common.{◌≡◌, ℕ, suc, ◌<◌, ◌≤◌, ⊎_elim, Bool, true, false, not, ◌&&◌, ◌||◌, ◌==◌, List, [], ◌∷◌}
+use Rattle.std.proofs.Common.{◌++◌, length, map, get_or, refl, sym, ap, ap₂, ◌∙◌, arith}
 use mathlib.Core.Bool.{or-false}
 use Rattle.std.specs.List.{list_any, join_with_byte}
 use Rattle.std.specs.Path.{has_no_slash}
@@ -17,13 +18,14 @@ use Rattle.glob_text.specs.Pieces.{begins_with}
 use Rattle.glob_walk.specs.Components.{is_literal, is_recursive}
 use Rattle.glob_walk.proofs.ListingLemmas.ComponentKinds.{recursive_is}
 
--- a test that no character from 128 on passes
+-- a test that only ASCII characters pass
 abbrev IsOfAscii : (ℕ → Bool) → Type 0
 IsOfAscii p = (c : ℕ) → 128 ≤ c → p c ≡ false
 
 none_high : (p : ℕ → Bool) → IsOfAscii p → (xs : Text) → ((k : ℕ) → k < length xs → 128 ≤ get_or xs k 0) → list_any p xs ≡ false
 none_high p low [] high = refl
-none_high p low (x ∷ xs) high = or_from (p x) (list_any p xs) (low x (high 0 (omega arith))) (none_high p low xs (λ k l. high (suc k) (omega (arith, l))))
+none_high p low (x ∷ xs) high = or_from (p x) (list_any p xs) (low x (high 0 (omega arith))) (none_high p low xs
+    (λ k l. high (suc k) (omega (arith, l))))
 
 any-encode : (p : ℕ → Bool) → IsOfAscii p → (c : ℕ) → list_any p (encode c) ≡ p c
 any-encode p low c = ⊎_elim ascii wide (cases_lt c 128)
@@ -36,7 +38,7 @@ any-encode p low c = ⊎_elim ascii wide (cases_lt c 128)
         (λ small. absurd (omega (arith, inside_one c [] (encode c) k (sym (append-nil (encode c))) in' small)))
         (λ big. big) (cases_lt (get_or (encode c) k 0) 128)) ∙ sym (low c l)
 
--- the bytes pass the test of an ASCII character where the characters do
+-- some byte passes such a test exactly if some character does
 pub any-encodes : (p : ℕ → Bool) → IsOfAscii p → (cs : Text) → list_any p (encodes cs) ≡ list_any p cs
 any-encodes p low [] = refl
 any-encodes p low (c ∷ cs) = list_any-append p (encode c) (encodes cs) ∙ ap₂ (λ x y. x || y) (any-encode p low c) (any-encodes p low cs)
@@ -62,7 +64,8 @@ pub no_slash-encode : (c : ℕ) → has_no_slash (encode c) ≡ not (c == slash)
 no_slash-encode c = slash-any (encode c) ∙ ap not (any-encode (λ x. x == slash) slash-ascii c)
 
 wildcard-ascii : IsOfAscii is_wildcard
-wildcard-ascii c h = or_from _ _ (or_from _ _ (ne_eqb c question_mark (λ e. omega arith)) (ne_eqb c star (λ e. omega arith))) (ne_eqb c open_bracket (λ e. omega arith))
+wildcard-ascii c h = or_from _ _ (or_from _ _ (ne_eqb c question_mark (λ e. omega arith)) (ne_eqb c star
+    (λ e. omega arith))) (ne_eqb c open_bracket (λ e. omega arith))
 
 pub literal-chars : (t : Text) → IsUtf8 t → is_literal t ≡ true → list_any is_wildcard (chars t) ≡ false
 literal-chars t utf8 h = any-chars is_wildcard wildcard-ascii t utf8 ∙ not-true (list_any is_wildcard t) h
@@ -84,15 +87,17 @@ recursive-chars t utf8 = by_test (is_recursive t) refl
   where
     by_test : (b : Bool) → is_recursive t ≡ b → is_recursive (chars t) ≡ is_recursive t
     by_test true e = ap is_recursive (ap chars (recursive_is t e) ∙ two_stars-chars) ∙ sym e
-    by_test false e = false_from_ne_true (is_recursive (chars t)) (λ h. both_ways (is_recursive t) e ((bytes_eq-Decides t (star ∷ star ∷ [])).1
+    by_test false e = false_from_ne_true (is_recursive (chars t)) (λ h. both_ways (is_recursive t) e
+        ((bytes_eq-Decides t (star ∷ star ∷ [])).1
         (chars_same t (star ∷ star ∷ []) utf8 two_stars-utf8 (recursive_is (chars t) h ∙ sym two_stars-chars)))) ∙ sym e
 
--- a first dot
+-- a dot at the start
 pub dot-encodes : (cs : Text) → begins_with dot (encodes cs) ≡ begins_with dot cs
 dot-encodes [] = refl
 dot-encodes (c ∷ cs) = ⊎_elim
     (λ l. ap (λ bs. begins_with dot (bs ++ encodes cs)) (encode_ascii c l))
-    (λ l. false_from_ne_true (begins_with dot (encode c ++ encodes cs)) (λ h. omega (arith, wide l (eqb-true _ _ h))) ∙ sym (ne_eqb c dot (λ e. omega arith)))
+    (λ l. false_from_ne_true (begins_with dot (encode c ++ encodes cs)) (λ h. omega (arith, wide l (eqb-true _ _ h)))
+    ∙ sym (ne_eqb c dot (λ e. omega arith)))
     (cases_lt c 128)
   where
     wide : 128 ≤ c → get_or (encode c ++ encodes cs) 0 0 ≡ dot → ⊥
@@ -108,7 +113,7 @@ dot-encodes (c ∷ cs) = ⊎_elim
 pub dot-chars : (n : Text) → IsUtf8 n → begins_with dot (chars n) ≡ begins_with dot n
 dot-chars n utf8 = sym (dot-encodes (chars n)) ∙ ap (begins_with dot) (encodes-chars n utf8)
 
--- texts of parts joined by separators
+-- parts joined by separators
 pub chars-slash : (t : Text) → chars (slash ∷ t) ≡ slash ∷ chars t
 unfolding chars
 chars-slash [] = refl
@@ -123,4 +128,5 @@ unfolding chars
 chars-joined [] all = refl
 chars-joined (t ∷ []) all = refl
 chars-joined (t ∷ u ∷ us) (utf8, all) =
-    chars-append t (slash ∷ join_with_byte slash (u ∷ us)) utf8 ∙ ap (λ cs. chars t ++ cs) (chars-slash (join_with_byte slash (u ∷ us)) ∙ ap (λ cs. slash ∷ cs) (chars-joined (u ∷ us) all))
+    chars-append t (slash ∷ join_with_byte slash (u ∷ us)) utf8 ∙ ap (λ cs. chars t ++ cs)
+    (chars-slash (join_with_byte slash (u ∷ us)) ∙ ap (λ cs. slash ∷ cs) (chars-joined (u ∷ us) all))

@@ -1,23 +1,24 @@
--- What a walk finds, as the names of keys: the same recursion as the written listing, with no paths, no units and no errors.
+-- What a walk finds, as the names of keys: the recursion of the written listing, without paths, units and errors.
 use Rattle.std.specs.Prelude.{ℕ, zero, suc, Bool, true, ◌||◌, not, if◌then◌else◌, List, [], ◌∷◌, ◌++◌, map, flat_map, Option, Some, None}
 use Rattle.std.specs.declared.io.ErrorKind.{ErrorKind}
 use Rattle.glob_text.specs.Text.{Text}
 use Rattle.glob_walk.specs.Marks.{Item, Found, Unread}
 use Rattle.glob_tree.specs.Paths.{child}
 use Rattle.glob_tree.specs.Content.{Content, Key, DirEntry, kind_at, is_dir, children, sorted_entries}
-use Rattle.glob_walk.specs.Components.{components, wants_directories, Literal, Recursive, Wild, component_kind, begins_recursive, matches_name}
+use Rattle.glob_walk.specs.Components.{components, wants_directories, Literal, Recursive, Wild, component_kind}
+use Rattle.glob_walk.specs.Components.{begins_recursive, matches_name}
 use Rattle.glob_walk.specs.Goal.{start_key}
 use Rattle.glob_walk.specs.Listing.{is_entered, levels}
 use Rattle.glob_pattern.specs.declared.options.MatchOptions.{MatchOptions}
 use Rattle.glob_tree.specs.declared.kind.Kind.{Kind}
 use Rattle.glob_tree.specs.declared.kind.Kind.TheVariants.{Dir, Shut, Other}
 
--- the path, and on by these names
+-- the path extended by these names
 abbrev pub under : Text → Key → Text
 under path [] = path
 under path (n ∷ ns) = under (child path n) ns
 
--- what is found: the names of a key, or those of a directory that cannot be listed
+-- what is found: the names of a key, or of a directory that cannot be listed
 pub data Find : Type 0 where
   Hit : Key → Find
   Miss : Key → ErrorKind → Find
@@ -30,7 +31,7 @@ abbrev pub item_under : Text → Find → Item
 item_under path (Hit ns) = Found (under path ns)
 item_under path (Miss ns kind) = Unread (under path ns) kind
 
--- the name before each
+-- each with this name in front
 abbrev pub below : Text → List Find → List Find
 below n finds = map (deepen n) finds
 
@@ -40,11 +41,11 @@ list_kind c k (Some Dir) each = flat_map each (sorted_entries (children c k))
 list_kind c k (Some (Shut kind)) each = Miss [] kind ∷ []
 list_kind c k (Some Other) each = []
 
--- the entries of a directory that can be listed
+-- the entries of a directory, if it can be listed
 abbrev pub list_names : Content → Key → (DirEntry → List Find) → List Find
 list_names c k each = list_kind c k (kind_at c k) each
 
--- the key, if something stands there
+-- the key, if something is there
 abbrev pub found_names : Option Kind → (Bool → List Find) → List Find
 found_names None next = []
 found_names (Some kind) next = next (is_dir kind)
@@ -52,7 +53,8 @@ found_names (Some kind) next = next (is_dir kind)
 unfoldable pub descent_names : Content → MatchOptions → (each : Key → Text → Bool → List Find) → ℕ → Key → List Find
 descent_names c o each zero k = []
 descent_names c o each (suc n) k =
-    list_names c k (λ e. below e.0 (each (k ++ e.0 ∷ []) e.0 e.1 ++ (if is_entered o e.0 e.1 then descent_names c o each n (k ++ e.0 ∷ []) else [])))
+    list_names c k (λ e. below e.0 (each (k ++ e.0 ∷ []) e.0 e.1 ++ (if is_entered o e.0 e.1 then descent_names c o
+    each n (k ++ e.0 ∷ []) else [])))
 
 module _ (c : Content) (o : MatchOptions) (directories : Bool) where
   unfoldable mutual
@@ -72,7 +74,7 @@ module _ (c : Content) (o : MatchOptions) (directories : Bool) where
     meet_names (t ∷ ts) k name d = if matches_name o t name then enter_names ts k d else []
 
 module _ (c : Content) (o : MatchOptions) (directories : Bool) where
-  -- what is found at the name below k, if something stands there
+  -- what is found at this name below k, if something is there
   abbrev pub at_name : Text → List Text → Key → List Find
   at_name t ts k = found_names (kind_at c (k ++ t ∷ [])) (λ d. enter_names c o directories ts (k ++ t ∷ []) d)
 
@@ -80,14 +82,14 @@ module _ (c : Content) (o : MatchOptions) (directories : Bool) where
   abbrev pub at_entry : Text → List Text → Key → DirEntry → List Find
   at_entry t ts k e = if matches_name o t e.0 then enter_names c o directories ts (k ++ e.0 ∷ []) e.1 else []
 
-  -- what a run of `**` finds past an entry of k, n levels down
+  -- what a descent by `**` finds below an entry of k, n levels down
   abbrev pub past_entry : List Text → ℕ → Key → DirEntry → List Find
   past_entry ts n k e = if is_entered o e.0 e.1 then descent_names c o (meet_names c o directories ts) n (k ++ e.0 ∷ []) else []
 
-  -- what a run of `**` finds at an entry of k: it is met, and then entered
+  -- what a descent by `**` finds at an entry of k, which is met and then entered
   abbrev pub run_entry : List Text → ℕ → Key → DirEntry → List Find
   run_entry ts n k e = meet_names c o directories ts (k ++ e.0 ∷ []) e.0 e.1 ++ past_entry ts n k e
 
--- what a walk after the pattern finds, as names past its start
+-- what a walk of the pattern finds, as names after its start
 abbrev pub finds : Content → MatchOptions → (pattern : Text) → List Find
 finds c o pattern = enter_names c o (wants_directories pattern) (components pattern) (start_key c pattern) true

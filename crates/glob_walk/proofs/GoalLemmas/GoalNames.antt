@@ -1,5 +1,6 @@
 -- The goal of a plain walk: the texts of the keys below its start whose names the components take.
-use Rattle.std.proofs.Common.{◌≡◌, ◌<◌, ⊎_elim, Bool, true, false, cond, ◌&&◌, ◌==◌, List, [], ◌∷◌, ◌++◌, length, Some, None, refl, sym, ap, ◌∙◌, arith}
+use Rattle.std.proofs.Common.{◌≡◌, ◌<◌, ⊎_elim, Bool, true, false, cond, ◌&&◌, ◌==◌, List, [], ◌∷◌, ◌++◌, length, Some}
+use Rattle.std.proofs.Common.{None, refl, sym, ap, ◌∙◌, arith}
 use Rattle.std.specs.Prelude.{Contains, option_and_then}
 use Rattle.std.proofs.lemmas.Bool.{both_ways, and_parts, and_from, cond-true, cases_Bool}
 use Rattle.std.proofs.lemmas.List.Splits.{length-slice_split}
@@ -9,7 +10,8 @@ use Rattle.glob_text.specs.Characters.{slash}
 use Rattle.glob_tree.specs.Content.{Content, Key, kind_at, names_past}
 use Rattle.glob_tree.specs.declared.kind.Kind.{Kind}
 use Rattle.glob_tree.proofs.ContentLemmas.Membership.{Contains-filter_map, filter_map-contains}
-use Rattle.glob_tree.proofs.ContentLemmas.Contents.{IsContent, IsContent-from_test, contains_kind_at, kind_at-entry, names_past-append, names_past_is}
+use Rattle.glob_tree.proofs.ContentLemmas.Contents.{IsContent, IsContent-from_test, contains_kind_at, kind_at-entry}
+use Rattle.glob_tree.proofs.ContentLemmas.Contents.{names_past-append, names_past_is}
 use Rattle.glob_walk.specs.Components.{without_root, without_end_separator, components, wants_directories, is_recursive}
 use Rattle.glob_walk.specs.Goal.{start_key, text_below, matches_kind, taken_text, taken_goal, walk_takes, IsPlainWalk}
 use Rattle.glob_walk.specs.Laws.{are_names}
@@ -20,7 +22,11 @@ use Rattle.glob_walk.proofs.GoalLemmas.FoundIsTaken.{IsTakenAt}
 
 -- components take at least one name
 pub takes_some : (o : MatchOptions) (pattern : Text) → walk_takes o false (components pattern) [] ≡ true → ⊥
-takes_some o pattern h = no_names (components pattern) (omega (arith, length-slice_split (λ c. c == slash) (without_end_separator (without_root pattern)))) h
+takes_some o pattern h = no_names (components pattern) (omega (
+  arith,
+  length-slice_split (λ c. c == slash)
+      (without_end_separator (without_root pattern)),
+)) h
   where
     no_names : (ts : List Text) → 0 < length ts → walk_takes o false ts [] ≡ true → ⊥
     no_names [] l g = omega arith
@@ -28,7 +34,7 @@ takes_some o pattern h = no_names (components pattern) (omega (arith, length-sli
         (λ r. run-nil o false t ts r g)
         (λ r. both_ways (walk_takes o false (t ∷ ts) []) (takes-one_none o false t ts r) g) (cases_Bool (is_recursive t))
 
--- the names are those of a key below the start that the components take, and its kind is wanted
+-- these are the names of a key below the start that the components take, and its kind is wanted
 abbrev pub IsTaken : Content → MatchOptions → (pattern : Text) → Key → Type 0
 IsTaken c o pattern names = IsTakenAt c o (wants_directories pattern) (components pattern) (start_key c pattern) names
 
@@ -44,7 +50,7 @@ module _ (c : Content) (o : MatchOptions) (pattern : Text) (p : IsPlainWalk c pa
   w : IsContent c
   w = IsContent-from_test c p.content
 
-  -- the test of a goal
+  -- the test for a goal
   is_wanted : Kind → Text → Key → Bool
   is_wanted kind n ns = matches_kind pattern kind && walk_takes o false (components pattern) (n ∷ ns)
 
@@ -52,17 +58,20 @@ module _ (c : Content) (o : MatchOptions) (pattern : Text) (p : IsPlainWalk c pa
   unfolding taken_goal is_wanted
   goal_of_taken n ns is =
       let test : is_wanted is.kind n ns ≡ true = and_from (matches_kind pattern is.kind) _ is.allowed is.taken in
-      filter_map-contains (λ e. option_and_then (taken_text o pattern e.1) (names_past (start_key c pattern) e.0)) c.kinds (start_key c pattern ++ n ∷ ns, is.kind) (text_below pattern (n ∷ ns))
+      filter_map-contains (λ e. option_and_then (taken_text o pattern e.1) (names_past (start_key c pattern) e.0))
+      c.kinds (start_key c pattern ++ n ∷ ns, is.kind) (text_below pattern (n ∷ ns))
       (contains_kind_at c (start_key c pattern ++ n ∷ ns) is.kind is.held)
       (ap (option_and_then (taken_text o pattern is.kind)) (names_past-append (start_key c pattern) (n ∷ ns))
       ∙ cond-true (is_wanted is.kind n ns) (Some (text_below pattern (n ∷ ns))) None test)
 
-  taken_text_is : (kind : Kind) (names : Key) (text : Text) → kind_at c (start_key c pattern ++ names) ≡ Some kind → taken_text o pattern kind names ≡ Some text → IsGoal c o pattern text
+  taken_text_is : (kind : Kind) (names : Key) (text : Text) → kind_at c (start_key c pattern ++ names) ≡ Some kind
+      → taken_text o pattern kind names ≡ Some text → IsGoal c o pattern text
   unfolding is_wanted
   taken_text_is kind [] text held h = absurd (none-some text h)
   taken_text_is kind (n ∷ ns) text held h = by_test (is_wanted kind n ns) refl h
     where
-      by_test : (b : Bool) → (matches_kind pattern kind && walk_takes o false (components pattern) (n ∷ ns)) ≡ b → cond b (Some (text_below pattern (n ∷ ns))) None ≡ Some text → IsGoal c o pattern text
+      by_test : (b : Bool) → (matches_kind pattern kind && walk_takes o false (components pattern) (n ∷ ns)) ≡ b
+          → cond b (Some (text_below pattern (n ∷ ns))) None ≡ Some text → IsGoal c o pattern text
       by_test true e g =
           let both = and_parts (matches_kind pattern kind) (walk_takes o false (components pattern) (n ∷ ns)) e in
           record {
@@ -77,6 +86,8 @@ module _ (c : Content) (o : MatchOptions) (pattern : Text) (p : IsPlainWalk c pa
   pub taken_of_goal : (text : Text) → Contains (taken_goal c o pattern) text → IsGoal c o pattern text
   unfolding taken_goal
   taken_of_goal text h =
-      let (e, in', gives) = Contains-filter_map (λ e. option_and_then (taken_text o pattern e.1) (names_past (start_key c pattern) e.0)) c.kinds text h in
+      let (e, in', gives) = Contains-filter_map (λ e. option_and_then (taken_text o pattern e.1)
+      (names_past (start_key c pattern) e.0)) c.kinds text h in
       option_and_then_some (taken_text o pattern e.1) (names_past (start_key c pattern) e.0) text gives
-      (λ names past is. taken_text_is e.1 names text (ap (kind_at c) (sym (names_past_is (start_key c pattern) e.0 names past)) ∙ kind_at-entry c w e in') is)
+      (λ names past is. taken_text_is e.1 names text (ap (kind_at c) (sym (names_past_is (start_key c pattern) e.0
+      names past)) ∙ kind_at-entry c w e in') is)

@@ -1,4 +1,4 @@
--- The items of a plain walk: what is found below its start, and so the keys that the components take.
+-- The items of a plain walk: what it finds below its start, and so the keys that the components take.
 use Rattle.std.proofs.Common.{◌≡◌, true, false, map, sym, ap, ◌∙◌}
 use Rattle.std.specs.Prelude.{Contains, option_map, unwrap_or}
 use Rattle.std.proofs.lemmas.Bool.{and_parts}
@@ -38,13 +38,15 @@ module _ (c : Content) (o : MatchOptions) (pattern : Text) (p : IsPlainWalk c pa
   unfolding listing
   items-finds =
       let at = LeadsTo-start c w pattern in
-      ap (λ d. items (enter c o (wants_directories pattern) (components pattern) (start pattern) d)) (is_directory-look_result c (start pattern) (start_key c pattern) at)
-      ∙ same_enter c w o (wants_directories pattern) (components pattern) plain-components (components-flat pattern) (start pattern) (start_key c pattern) true (record { resolved = at.resolved; is = at.directory })
+      ap (λ d. items (enter c o (wants_directories pattern) (components pattern) (start pattern) d))
+      (is_directory-look_result c (start pattern) (start_key c pattern) at)
+      ∙ same_enter c w o (wants_directories pattern) (components pattern) plain-components (components-flat pattern)
+      (start pattern) (start_key c pattern) true (record { resolved = at.resolved; is = at.directory })
 
-  -- each hit is of a key that the components take
+  -- each hit is a key that the components take
   pub found_is_taken : (names : Key) → Contains (finds c o pattern) (Hit names) → IsTaken c o pattern names
   found_is_taken = hits_are_taken c w o (wants_directories pattern) (components pattern) (start_key c pattern) true here
 
-  -- each key that the components take is a hit, or lies below one that cannot be listed
+  -- each key that the components take is a hit, or is below one that cannot be listed
   pub taken_is_found : (names : Key) → IsTaken c o pattern names → FoundOrCovered c (finds c o pattern) (start_key c pattern) names
   taken_is_found = taken_are_found c w o (wants_directories pattern) (components pattern) (start_key c pattern) true here

@@ -1,5 +1,6 @@
--- The paths of names: below the start of a walk they are the texts of the names, and lead to their keys.
-use Rattle.std.proofs.Common.{◌≡◌, ℕ, suc, ◌-◌, ◌<◌, Bool, true, false, cond, not, ◌&&◌, ◌||◌, ◌==◌, List, [], ◌∷◌, ◌++◌, length, filter, slice_index, Some, refl, sym, ap, ap₂, ◌∙◌, arith}
+-- The paths of names below the start of a walk: they are the texts of the names, and lead to their keys.
+use Rattle.std.proofs.Common.{◌≡◌, ℕ, suc, ◌-◌, ◌<◌, Bool, true, false, cond, not, ◌&&◌, ◌||◌, ◌==◌, List, [], ◌∷◌}
+use Rattle.std.proofs.Common.{◌++◌, length, filter, slice_index, Some, refl, sym, ap, ap₂, ◌∙◌, arith}
 use Rattle.std.specs.List.{list_all, join_with_byte}
 use Rattle.std.specs.Path.{has_no_slash, root_dir, cur_dir}
 use Rattle.std.specs.Str.{is_utf8}
@@ -37,12 +38,14 @@ last-flat (x ∷ y ∷ xs) h l =
     let both = and_parts (not (x == slash)) (has_no_slash (y ∷ xs)) h in
     let back : length (x ∷ y ∷ xs) - 1 ≡ suc (length xs) = omega arith in
     let next : length (y ∷ xs) - 1 ≡ length xs = omega arith in
-    ap (λ k. slice_index (x ∷ y ∷ xs) k == slash) back ∙ ap (λ k. slice_index (y ∷ xs) k == slash) (sym next) ∙ last-flat (y ∷ xs) both.1 (omega arith)
+    ap (λ k. slice_index (x ∷ y ∷ xs) k == slash) back ∙ ap (λ k. slice_index (y ∷ xs) k == slash) (sym next)
+    ∙ last-flat (y ∷ xs) both.1 (omega arith)
 
 IsNamed-name : (n : Text) → IsName n → IsNamed n
 IsNamed-name n is = record {
   some = is.some;
-  here = and_right (begins_with dot n) (list_all stays (pieces n)) (ap (list_all stays) (pieces_one n is.plain) ∙ ap (λ b. b && true) is.leads);
+  here = and_right (begins_with dot n) (list_all stays (pieces n)) (ap (list_all stays) (pieces_one n is.plain) ∙ ap
+      (λ b. b && true) is.leads);
   ended = last-flat n is.plain is.some;
 }
 
@@ -50,14 +53,16 @@ IsNamed-child : (path n : Text) → IsName n → IsNamed (path ++ slash ∷ n)
 IsNamed-child path n is = record {
   some = omega (arith, length-append path (slash ∷ n));
   here = and_right (begins_with dot (path ++ slash ∷ n)) (list_all stays (pieces (path ++ slash ∷ n)))
-      (ap (list_all stays) (pieces-append path n ∙ ap (λ ps. pieces path ++ ps) (pieces_one n is.plain)) ∙ list_all-append stays (pieces path) (n ∷ [])
+      (ap (list_all stays) (pieces-append path n ∙ ap (λ ps. pieces path ++ ps) (pieces_one n is.plain))
+      ∙ list_all-append stays (pieces path) (n ∷ [])
       ∙ and_right (list_all stays (pieces path)) (stays n && true) (ap (λ b. b && true) is.leads));
   ended =
       let l = length-append path (slash ∷ n) in
       let some = is.some in
       let k : ℕ = length (path ++ slash ∷ n) - 1 in
       let at : k - length path ≡ suc (length n - 1) = omega arith in
-      ap (λ c. c == slash) (get_or-append_right path (slash ∷ n) (length path) k 0 refl (omega arith) ∙ ap (λ j. slice_index (slash ∷ n) j) at) ∙ last-flat n is.plain is.some;
+      ap (λ c. c == slash) (get_or-append_right path (slash ∷ n) (length path) k 0 refl (omega arith) ∙ ap
+      (λ j. slice_index (slash ∷ n) j) at) ∙ last-flat n is.plain is.some;
 }
 
 child-child_key : (path n : Text) → IsNamed path → child path n ≡ path ++ slash ∷ n
@@ -65,14 +70,16 @@ unfolding child join
 child-child_key path n is =
     let some : (length path == 0) ≡ false = ne_eqb (length path) 0 (λ z. omega (arith, z, is.some)) in
     cond-false (is_here path) n (join path n) is.here
-    ∙ ap (λ p. p ++ n) (cond-false (length path == 0 || ends_with slash path) path (path ++ slash ∷ []) (or_from (length path == 0) (ends_with slash path) some is.ended))
+    ∙ ap (λ p. p ++ n) (cond-false (length path == 0 || ends_with slash path) path (path ++ slash ∷ [])
+    (or_from (length path == 0) (ends_with slash path) some is.ended))
     ∙ append_assoc path (slash ∷ []) n
 
 abbrev pub AreNames : List Text → Type 0
 AreNames [] = Unit {0}
 AreNames (n ∷ ns) = IsName n × AreNames ns
 
-under-child_key : (path n : Text) (ns : Key) → IsNamed path → AreNames (n ∷ ns) → under path (n ∷ ns) ≡ path ++ slash ∷ join_with_byte slash (n ∷ ns)
+under-child_key : (path n : Text) (ns : Key) → IsNamed path → AreNames (n ∷ ns) → under path (n ∷ ns) ≡ path ++ slash ∷
+    join_with_byte slash (n ∷ ns)
 under-child_key path n [] is names = child-child_key path n is
 under-child_key path n (m ∷ ns) is names =
     ap (λ p. under p (m ∷ ns)) (child-child_key path n is)
@@ -95,11 +102,12 @@ child-root : (n : Text) → child root_dir n ≡ slash ∷ n
 unfolding child join
 child-root n = refl
 
--- the path of names past the start is their text
+-- the path of names after the start is their text
 pub under-start : (pattern : Text) (n : Text) (ns : Key) → AreNames (n ∷ ns) → under (start pattern) (n ∷ ns) ≡ text_below pattern (n ∷ ns)
 under-start pattern n ns names = by_root (has_root pattern)
   where
-    by_root : (b : Bool) → under (cond b root_dir cur_dir) (n ∷ ns) ≡ cond b (slash ∷ join_with_byte slash (n ∷ ns)) (join_with_byte slash (n ∷ ns))
+    by_root : (b : Bool) → under (cond b root_dir cur_dir) (n ∷ ns) ≡ cond b (slash ∷ join_with_byte slash (n ∷ ns))
+        (join_with_byte slash (n ∷ ns))
     by_root true = ap (λ p. under p ns) (child-root n) ∙ under-root n ns names
     by_root false = ap (λ p. under p ns) (child-here n) ∙ under-first n ns names
 
@@ -137,7 +145,8 @@ pub names_of-below : (pattern : Text) (n : Text) (ns : Key) → AreNames (n ∷ 
 names_of-below pattern n ns names = by_root (has_root pattern)
   where
     by_root : (b : Bool) → names_of (cond b (slash ∷ join_with_byte slash (n ∷ ns)) (join_with_byte slash (n ∷ ns))) ≡ n ∷ ns
-    by_root true = ap (filter (λ piece. not (is_empty piece))) (pieces-append [] (join_with_byte slash (n ∷ ns)) ∙ ap (λ ps. [] ∷ ps) (pieces-joined n ns names)) ∙ kept_names (n ∷ ns) names
+    by_root true = ap (filter (λ piece. not (is_empty piece))) (pieces-append [] (join_with_byte slash (n ∷ ns)) ∙ ap
+        (λ ps. [] ∷ ps) (pieces-joined n ns names)) ∙ kept_names (n ∷ ns) names
     by_root false = ap (filter (λ piece. not (is_empty piece))) (pieces-joined n ns names) ∙ kept_names (n ∷ ns) names
 
 -- the start leads to its key
@@ -150,7 +159,8 @@ LeadsTo-start c w pattern = by_root (has_root pattern)
     by_root false = record { resolved = rw (w.current) refl; directory = w.current }
 
 -- the path of names leads to their key
-pub resolve-under : (c : Content) → IsContent c → (path : Text) (k names : Key) (kind : Kind) → resolve c path ≡ Some k → kind_at c (k ++ names) ≡ Some kind → AreNames names → resolve c (under path names) ≡ Some (k ++ names)
+pub resolve-under : (c : Content) → IsContent c → (path : Text) (k names : Key) (kind : Kind) → resolve c path ≡ Some k
+    → kind_at c (k ++ names) ≡ Some kind → AreNames names → resolve c (under path names) ≡ Some (k ++ names)
 resolve-under c w path k [] kind leads held names = leads ∙ ap Some (sym (append-nil k))
 resolve-under c w path k (n ∷ ns) kind leads held names =
     let way = on_the_way c w k n ns kind held in

@@ -1,5 +1,6 @@
 -- The paths of the written listing come once, and in order.
-use Rattle.std.proofs.Common.{◌≡◌, ◌≢◌, ℕ, suc, ◌+◌, ◌-◌, ◌<◌, ◌≤◌, Bool, true, false, cond, not, List, [], ◌∷◌, ◌++◌, length, drop, map, refl, sym, ap, subst, ◌∙◌, arith}
+use Rattle.std.proofs.Common.{◌≡◌, ◌≢◌, ℕ, suc, ◌+◌, ◌-◌, ◌<◌, ◌≤◌, Bool, true, false, cond, not, List, [], ◌∷◌, ◌++◌}
+use Rattle.std.proofs.Common.{length, drop, map, refl, sym, ap, subst, ◌∙◌, arith}
 use Rattle.std.specs.Prelude.{Contains, AllPairs, nat_le}
 use Rattle.std.specs.List.{list_any, prefix_len}
 use Rattle.std.specs.Cmp.Lexicographic.{slice_cmp}
@@ -17,7 +18,8 @@ use Rattle.glob_walk.specs.Marks.{Item, items, paths, IsBeginning}
 use Rattle.glob_walk.specs.Components.{start, components, wants_directories, begins_recursive, is_recursive}
 use Rattle.glob_walk.specs.Listing.{listing}
 use Rattle.glob_walk.specs.Goal.{IsPlainWalk, start_key}
-use Rattle.glob_walk.specs.Order.{from_first_recursive, after_first_recursive, has_one_recursive, keeps_order, names_of, path_cmp, IsOnce, IsAscending, IsOrderly}
+use Rattle.glob_walk.specs.Order.{from_first_recursive, after_first_recursive, has_one_recursive, keeps_order, names_of}
+use Rattle.glob_walk.specs.Order.{path_cmp, IsOnce, IsAscending, IsOrderly}
 use Rattle.glob_pattern.specs.declared.options.MatchOptions.{MatchOptions}
 use Rattle.glob_tree.proofs.ContentLemmas.Membership.{Contains-head, Contains-tail, All-from_contains}
 use Rattle.glob_tree.proofs.ContentLemmas.Contents.{IsContent, IsContent-from_test}
@@ -30,7 +32,7 @@ use Rattle.glob_walk.proofs.GoalLemmas.ItemsFound.{items-finds, found_is_taken}
 use Rattle.glob_walk.proofs.GoalLemmas.FoundParts.{hit_of_path}
 use Rattle.glob_walk.proofs.GoalLemmas.FoundInOrder.{Pairs, OfHits, Shorter, AtRuns, ordered_finds}
 
--- a text compares as equal with itself
+-- a text is equal to itself in the order
 cmp-same : (n : Text) → slice_cmp nat_cmp n n ≡ Equal
 cmp-same n = equal (slice_cmp nat_cmp n n) (is_eq-slice_cmp n n ∙ (bytes_eq-Decides n n).1 refl)
   where
@@ -58,7 +60,7 @@ differ-first m n a b less e = less_not_equal (sym less ∙ ap (λ x. slice_cmp n
 differ-shorter : (m : ℕ) (a b : Key) → length a ≡ m → m < length b → Differ a b
 differ-shorter m a b l h e = omega (arith, ap length e)
 
--- names in order
+-- names in ascending order
 abbrev Rises : Key → Key → Type 0
 Rises a b = slice_cmp (slice_cmp nat_cmp) a b ≡ Less
 
@@ -73,7 +75,7 @@ rises-shorter m z [] [] l h = absurd (omega arith)
 rises-shorter m z [] (n ∷ b) l h = refl
 rises-shorter m z (x ∷ a) b l h = absurd (omega arith)
 
--- the components after the first run
+-- the components after the first `**`
 from_first_recursive-other : (t : Text) (ts : List Text) → is_recursive t ≡ false → from_first_recursive (t ∷ ts) ≡ from_first_recursive ts
 from_first_recursive-other t ts e =
     let one : 1 + prefix_len (λ u. not (is_recursive u)) ts ≡ suc (prefix_len (λ u. not (is_recursive u)) ts) = omega arith in
@@ -82,7 +84,8 @@ from_first_recursive-other t ts e =
 from_first_recursive-run : (t : Text) (ts : List Text) → is_recursive t ≡ true → from_first_recursive (t ∷ ts) ≡ t ∷ ts
 from_first_recursive-run t ts e = ap (λ b. drop (cond (not b) (1 + prefix_len (λ u. not (is_recursive u)) ts) 0) (t ∷ ts)) e
 
-after_first_recursive-other : (t : Text) (ts : List Text) → is_recursive t ≡ false → after_first_recursive (t ∷ ts) ≡ after_first_recursive ts
+after_first_recursive-other : (t : Text) (ts : List Text) → is_recursive t ≡ false → after_first_recursive
+    (t ∷ ts) ≡ after_first_recursive ts
 after_first_recursive-other t ts e = ap (λ us. drop (prefix_len is_recursive us) us) (from_first_recursive-other t ts e)
 
 past : List Text → List Text
@@ -108,26 +111,33 @@ unfolding past
 after_first_recursive-more [] e = absurd (false≢true e)
 after_first_recursive-more (t ∷ ts) e = after_first_recursive-run t ts e ∙ sym (past-run t ts e)
 
--- where no `**` is left
+-- if no `**` is left
 at_no_run : (R : Key → Key → Type 0) (ts : List Text) → list_any is_recursive ts ≡ false → AtRuns R ts
 at_no_run R [] h = tt
 at_no_run R (t ∷ ts) h =
     let both = or_parts (is_recursive t) (list_any is_recursive ts) h in
     ((λ r last. absurd (both_ways (is_recursive t) both.0 r)), at_no_run R ts both.1)
 
-at_runs : (R : Key → Key → Type 0) (ts : List Text) → list_any is_recursive (after_first_recursive ts) ≡ false → Shorter R (length (after_first_recursive ts) - 1) → AtRuns R ts
+at_runs : (R : Key → Key → Type 0) (ts : List Text) → list_any is_recursive (after_first_recursive ts) ≡ false
+    → Shorter R (length (after_first_recursive ts) - 1) → AtRuns R ts
 at_runs R [] h shorter = tt
 at_runs R (t ∷ ts) h shorter = by_test (is_recursive t) refl
     (λ e. at_runs R ts (subst (λ us. list_any is_recursive us ≡ false) e h) (subst (λ us. Shorter R (length us - 1)) e shorter))
   where
-    by_next : is_recursive t ≡ true → (b : Bool) → begins_recursive ts ≡ b → (after_first_recursive (t ∷ ts) ≡ after_first_recursive ts → AtRuns R ts) → AtRuns R (t ∷ ts)
-    by_next r true more further = ((λ q last. absurd (both_ways (begins_recursive ts) last more)), further (after_first_recursive-run t ts r ∙ sym (after_first_recursive-more ts more)))
+    by_next : is_recursive t ≡ true → (b : Bool) → begins_recursive ts ≡ b → (after_first_recursive
+        (t ∷ ts) ≡ after_first_recursive ts → AtRuns R ts) → AtRuns R (t ∷ ts)
+    by_next r true more further = (
+      (λ q last. absurd (both_ways (begins_recursive ts) last more)),
+      further
+          (after_first_recursive-run t ts r ∙ sym (after_first_recursive-more ts more)),
+    )
     by_next r false last further =
         let e : after_first_recursive (t ∷ ts) ≡ ts = after_first_recursive-run t ts r ∙ past-other ts last in
         let plain = subst (λ us. list_any is_recursive us ≡ false) e h in
         ((λ q l. (plain, subst (λ us. Shorter R (length us - 1)) e shorter)), at_no_run R ts plain)
 
-    by_test : (b : Bool) → is_recursive t ≡ b → (after_first_recursive (t ∷ ts) ≡ after_first_recursive ts → AtRuns R ts) → AtRuns R (t ∷ ts)
+    by_test : (b : Bool) → is_recursive t ≡ b → (after_first_recursive (t ∷ ts) ≡ after_first_recursive ts
+        → AtRuns R ts) → AtRuns R (t ∷ ts)
     by_test true r further = by_next r (begins_recursive ts) refl further
     by_test false r further = ((λ q last. absurd (both_ways (is_recursive t) r q)), further (after_first_recursive-other t ts r))
 
@@ -140,11 +150,14 @@ Pairs-paths R S path [] pairs turn = tt
 Pairs-paths R S path (Hit a ∷ fs) pairs turn = (
   λ text in'.
       let (b, e, there) = hit_of_path path fs text in' in
-      subst (S (under path a)) (sym e) (turn a b (Contains-head (Hit a) fs) (Contains-tail (Hit a) fs (Hit b) there) (pairs.0 (Hit b) there a b refl refl)),
-  Pairs-paths R S path fs pairs.1 (λ x y left right. turn x y (Contains-tail (Hit a) fs (Hit x) left) (Contains-tail (Hit a) fs (Hit y) right)),
+      subst (S (under path a)) (sym e) (turn a b (Contains-head (Hit a) fs) (Contains-tail (Hit a) fs (Hit b) there)
+      (pairs.0 (Hit b) there a b refl refl)),
+  Pairs-paths R S path fs pairs.1 (λ x y left right. turn x y (Contains-tail (Hit a) fs (Hit x) left) (Contains-tail
+      (Hit a) fs (Hit y) right)),
 )
 Pairs-paths R S path (Miss a kind ∷ fs) pairs turn =
-    Pairs-paths R S path fs pairs.1 (λ x y left right. turn x y (Contains-tail (Miss a kind) fs (Hit x) left) (Contains-tail (Miss a kind) fs (Hit y) right))
+    Pairs-paths R S path fs pairs.1 (λ x y left right. turn x y (Contains-tail (Miss a kind) fs (Hit x) left)
+    (Contains-tail (Miss a kind) fs (Hit y) right))
 
 Pairs-front : {X : Type 0} (S : X → X → Type 0) (xs ys : List X) → Pairs S (xs ++ ys) → Pairs S xs
 Pairs-front S [] ys p = tt
@@ -169,7 +182,8 @@ module _ (c : Content) (o : MatchOptions) (pattern : Text) (p : IsPlainWalk c pa
           ap names_of (under-start pattern n ns all) ∙ names_of-below pattern n ns all
 
   given_pairs : (R : Key → Key → Type 0) (S : Text → Text → Type 0) → Pairs (OfHits R) (finds c o pattern)
-      → ((path later : Text) → R (names_of path) (names_of later) → S path later) → (given : List Item) → IsBeginning given (items (listing c o pattern)) → AllPairs S (paths given)
+      → ((path later : Text) → R (names_of path) (names_of later) → S path later) → (given : List Item)
+      → IsBeginning given (items (listing c o pattern)) → AllPairs S (paths given)
   given_pairs R S pairs turn given begins =
       AllPairs-from S (paths given) (Pairs-front S (paths given) (paths begins.0)
       (subst (Pairs S) (ap paths (sym (items-finds c o pattern p) ∙ begins.1) ∙ paths-append given begins.0)
@@ -177,14 +191,16 @@ module _ (c : Content) (o : MatchOptions) (pattern : Text) (p : IsPlainWalk c pa
       (λ a b left right r. turn (under (start pattern) a) (under (start pattern) b)
       (subst (λ x. R x (names_of (under (start pattern) b))) (sym (hit_names a left)) (subst (R a) (sym (hit_names b right)) r))))))
 
-  -- a beginning of the written listing gives its paths once and in order, as the pattern has runs
+  -- a prefix of the written listing gives its paths once and in order, as far as the places of `**` allow
   pub plain_walk_orderly : (given : List Item) → IsBeginning given (items (listing c o pattern)) → IsOrderly pattern (paths given)
   plain_walk_orderly given begins = record { once = once; ascending = ascending }
     where
       once : has_one_recursive pattern ≡ true → IsOnce (paths given)
       once h = given_pairs Differ (λ p q. p ≢ q)
-          (ordered_finds c w Differ (record { under = differ-under; first = differ-first }) o (wants_directories pattern) (components pattern)
-          (at_runs Differ (components pattern) (not-true _ h) (differ-shorter (length (after_first_recursive (components pattern)) - 1))) (start_key c pattern) true)
+          (ordered_finds c w Differ (record { under = differ-under; first = differ-first }) o
+          (wants_directories pattern) (components pattern)
+          (at_runs Differ (components pattern) (not-true _ h) (differ-shorter (length (after_first_recursive
+          (components pattern)) - 1))) (start_key c pattern) true)
           (λ p q r e. r (ap names_of e)) given begins
 
       ascending : keeps_order pattern ≡ true → IsAscending (paths given)
@@ -193,5 +209,6 @@ module _ (c : Content) (o : MatchOptions) (pattern : Text) (p : IsPlainWalk c pa
           let few : length (after_first_recursive (components pattern)) ≤ 1 = leb-true _ 1 both.1 in
           given_pairs Rises (λ p q. path_cmp p q ≡ Less)
           (ordered_finds c w Rises (record { under = rises-under; first = rises-first }) o (wants_directories pattern) (components pattern)
-          (at_runs Rises (components pattern) (not-true _ both.0) (rises-shorter (length (after_first_recursive (components pattern)) - 1) (omega arith))) (start_key c pattern) true)
+          (at_runs Rises (components pattern) (not-true _ both.0) (rises-shorter (length (after_first_recursive
+          (components pattern)) - 1) (omega arith))) (start_key c pattern) true)
           (λ p q r. r) given begins

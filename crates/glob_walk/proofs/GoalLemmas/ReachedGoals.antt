@@ -1,4 +1,4 @@
--- A plain walk finds its goal, but for what lies below directories that cannot be listed.
+-- A plain walk finds its goal, except for what is below directories that cannot be listed.
 use Rattle.std.proofs.Common.{◌≡◌, ◌⊎◌, inl, inr, ⊎_elim, true, List, [], ◌∷◌, ◌++◌, map, sym, ap, subst, ◌∙◌}
 use Rattle.std.specs.Prelude.{Contains}
 use Rattle.std.proofs.lemmas.List.{append_assoc}
@@ -10,7 +10,8 @@ use Rattle.glob_tree.proofs.ContentLemmas.Contents.{IsContent, IsContent-from_te
 use Rattle.glob_walk.specs.Marks.{Item, Unread, items, paths, IsBeginning}
 use Rattle.glob_walk.specs.Components.{start}
 use Rattle.glob_walk.specs.Listing.{listing}
-use Rattle.glob_walk.specs.Goal.{start_key, is_readable, taken_goal, IsPlainWalk, IsSensitiveWalk, IsHidden, ReachesTexts, GivesTexts, ReachesGoal, GivesGoal}
+use Rattle.glob_walk.specs.Goal.{start_key, is_readable, taken_goal, IsPlainWalk, IsSensitiveWalk, IsHidden}
+use Rattle.glob_walk.specs.Goal.{ReachesTexts, GivesTexts, ReachesGoal, GivesGoal}
 use Rattle.glob_pattern.specs.declared.options.MatchOptions.{MatchOptions}
 use Rattle.glob_walk.proofs.ListingLemmas.Marks.{paths-append}
 use Rattle.glob_walk.proofs.GoalLemmas.KeysBelow.{names_at}
@@ -32,17 +33,20 @@ module _ (c : Content) (o : MatchOptions) (pattern : Text) (p : IsPlainWalk c pa
   path_is_goal : (names : Key) → IsTaken c o pattern names → Contains (taken_goal c o pattern) (under (start pattern) names)
   path_is_goal [] is = absurd (takes_some o pattern is.taken)
   path_is_goal (n ∷ ns) is =
-      subst (Contains (taken_goal c o pattern)) (sym (under-start pattern n ns (AreNames-from (n ∷ ns) (names_at c w (start_key c pattern) (n ∷ ns) is.kind is.held))))
+      subst (Contains (taken_goal c o pattern)) (sym (under-start pattern n ns (AreNames-from (n ∷ ns)
+      (names_at c w (start_key c pattern) (n ∷ ns) is.kind is.held))))
       (goal_of_taken c o pattern p n ns is)
 
   -- each path of the written listing is a goal
   pub paths_are_goals : (text : Text) → Contains (paths (items (listing c o pattern))) text → Contains (taken_goal c o pattern) text
   paths_are_goals text h =
-      let (names, e, in') = hit_of_path (start pattern) (finds c o pattern) text (subst (λ is. Contains (paths is) text) (items-finds c o pattern p) h) in
+      let (names, e, in') = hit_of_path (start pattern) (finds c o pattern) text
+      (subst (λ is. Contains (paths is) text) (items-finds c o pattern p) h) in
       subst (Contains (taken_goal c o pattern)) (sym e) (path_is_goal names (found_is_taken c o pattern p names in'))
 
   -- a goal below a directory that cannot be listed is hidden
-  hidden : (text : Text) (is : IsGoal c o pattern text) → IsCovered c (finds c o pattern) (start_key c pattern) (is.name ∷ is.names) → IsHidden c pattern (items (listing c o pattern)) text
+  hidden : (text : Text) (is : IsGoal c o pattern text) → IsCovered c (finds c o pattern) (start_key c pattern)
+      (is.name ∷ is.names) → IsHidden c pattern (items (listing c o pattern)) text
   hidden text is covered = record {
     path = under (start pattern) covered.upper;
     kind = covered.kind;
@@ -51,7 +55,8 @@ module _ (c : Content) (o : MatchOptions) (pattern : Text) (p : IsPlainWalk c pa
     names = is.name ∷ is.names;
     unread = subst (λ x. Contains x (Unread (under (start pattern) covered.upper) covered.kind)) (sym (items-finds c o pattern p))
         (map-contains (item_under (start pattern)) (finds c o pattern) (Miss covered.upper covered.kind) covered.miss);
-    leads = resolve-under c w (start pattern) (start_key c pattern) covered.upper (Shut covered.kind) (LeadsTo-start c w pattern).resolved covered.shut
+    leads = resolve-under c w (start pattern) (start_key c pattern) covered.upper (Shut covered.kind)
+        (LeadsTo-start c w pattern).resolved covered.shut
         (AreNames-from covered.upper (names_at c w (start_key c pattern) covered.upper (Shut covered.kind) covered.shut));
     shut = covered.shut;
     longer = covered.longer;
@@ -59,7 +64,7 @@ module _ (c : Content) (o : MatchOptions) (pattern : Text) (p : IsPlainWalk c pa
     same = is.same;
   }
 
-  -- each goal is a path of the written listing, or hidden
+  -- each goal is a path of the written listing, or is hidden
   pub goals_are_reached : (text : Text) → Contains (taken_goal c o pattern) text
       → Contains (paths (items (listing c o pattern))) text ⊎ IsHidden c pattern (items (listing c o pattern)) text
   goals_are_reached text h =
@@ -72,8 +77,9 @@ module _ (c : Content) (o : MatchOptions) (pattern : Text) (p : IsPlainWalk c pa
       (λ covered. inr (hidden text is covered))
       (taken_is_found c o pattern p (is.name ∷ is.names) is.taken)
 
--- A beginning of the items reaches the goal, where `IsWhole` says that it is all of them.
-pub taken_walk_reaches : (c : Content) (o : MatchOptions) (pattern : Text) → IsPlainWalk c pattern → (given : List Item) → IsBeginning given (items (listing c o pattern))
+-- A prefix of the items reaches the goal; `IsWhole` says whether it is all of them.
+pub taken_walk_reaches : (c : Content) (o : MatchOptions) (pattern : Text) → IsPlainWalk c pattern →
+    (given : List Item) → IsBeginning given (items (listing c o pattern))
     → (IsWhole : Type 0) → (IsWhole → given ≡ items (listing c o pattern)) → ReachesTexts c pattern (taken_goal c o pattern) IsWhole given
 taken_walk_reaches c o pattern p given begins IsWhole whole = record {
   sound = λ text h. paths_are_goals c o pattern p text
@@ -83,23 +89,29 @@ taken_walk_reaches c o pattern p given begins IsWhole whole = record {
       subst (λ is. Contains (paths is) text ⊎ IsHidden c pattern is text) (sym (whole is_whole)) (goals_are_reached c o pattern p text h);
 }
 
--- Over a readable content the items are exactly the goal.
-pub taken_walk_gives : (c : Content) (o : MatchOptions) (pattern : Text) → IsPlainWalk c pattern → is_readable c pattern ≡ true → GivesTexts (taken_goal c o pattern) (items (listing c o pattern))
+-- Over a readable content, the items are exactly the goal.
+pub taken_walk_gives : (c : Content) (o : MatchOptions) (pattern : Text) → IsPlainWalk c pattern → is_readable c
+    pattern ≡ true → GivesTexts (taken_goal c o pattern) (items (listing c o pattern))
 taken_walk_gives c o pattern p readable =
     let none = no_error c o pattern p readable in record {
       readable = none;
       exact = λ text. (
         paths_are_goals c o pattern p text,
-        λ h. ⊎_elim (λ found. found) (λ hidden. absurd (none hidden.path hidden.kind hidden.unread)) (goals_are_reached c o pattern p text h),
+        λ h. ⊎_elim (λ found. found) (λ hidden. absurd (none hidden.path hidden.kind hidden.unread))
+            (goals_are_reached c o pattern p text h),
       );
     }
 
--- Both hold of a plain walk, whose goal is what the undivided pattern matches.
-pub plain_walk_reaches : (c : Content) (o : MatchOptions) (pattern : Text) → IsSensitiveWalk c o pattern → (given : List Item) → IsBeginning given (items (listing c o pattern))
+-- Both hold for a case-sensitive plain walk, whose goal is what the undivided pattern matches.
+pub plain_walk_reaches : (c : Content) (o : MatchOptions) (pattern : Text) → IsSensitiveWalk c o pattern →
+    (given : List Item) → IsBeginning given (items (listing c o pattern))
     → (IsWhole : Type 0) → (IsWhole → given ≡ items (listing c o pattern)) → ReachesGoal c o pattern IsWhole given
 plain_walk_reaches c o pattern p given begins IsWhole whole =
-    subst (λ wanted. ReachesTexts c pattern wanted IsWhole given) (goal_is_taken c o pattern p) (taken_walk_reaches c o pattern p.plain given begins IsWhole whole)
+    subst (λ wanted. ReachesTexts c pattern wanted IsWhole given) (goal_is_taken c o pattern p)
+    (taken_walk_reaches c o pattern p.plain given begins IsWhole whole)
 
-pub plain_walk_gives : (c : Content) (o : MatchOptions) (pattern : Text) → IsSensitiveWalk c o pattern → is_readable c pattern ≡ true → GivesGoal c o pattern (items (listing c o pattern))
+pub plain_walk_gives : (c : Content) (o : MatchOptions) (pattern : Text) → IsSensitiveWalk c o pattern → is_readable c
+    pattern ≡ true → GivesGoal c o pattern (items (listing c o pattern))
 plain_walk_gives c o pattern p readable =
-    subst (λ wanted. GivesTexts wanted (items (listing c o pattern))) (goal_is_taken c o pattern p) (taken_walk_gives c o pattern p.plain readable)
+    subst (λ wanted. GivesTexts wanted (items (listing c o pattern))) (goal_is_taken c o pattern p)
+    (taken_walk_gives c o pattern p.plain readable)

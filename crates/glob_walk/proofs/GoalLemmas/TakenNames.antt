@@ -8,7 +8,7 @@ use Rattle.glob_walk.specs.Goal.{walk_takes, walk_takes_name}
 use Rattle.glob_pattern.specs.Matching.Components.{is_open, run_to_end, run_before}
 use Rattle.glob_pattern.specs.declared.options.MatchOptions.{MatchOptions}
 
--- one component that is not `**`
+-- one component other than `**`
 pub takes-one : (o : MatchOptions) (a : Bool) (t : Text) (ts : List Text) (n : Text) (ns : Key) → is_recursive t ≡ false
     → walk_takes o a (t ∷ ts) (n ∷ ns) ≡ (walk_takes_name o a t n && walk_takes o false ts ns)
 takes-one o a t [] n ns e = rw e refl
@@ -18,20 +18,22 @@ pub takes-one_none : (o : MatchOptions) (a : Bool) (t : Text) (ts : List Text) �
 takes-one_none o a t [] e = rw e refl
 takes-one_none o a t (u ∷ us) e = rw e refl
 
--- a last `**` takes all names that may be met
-pub takes-last : (o : MatchOptions) (a : Bool) (t : Text) (names : Key) → is_recursive t ≡ true → walk_takes o a (t ∷ []) names ≡ run_to_end o names
+-- a last `**` takes all names that are open
+pub takes-last : (o : MatchOptions) (a : Bool) (t : Text) (names : Key) → is_recursive t ≡ true → walk_takes o a
+    (t ∷ []) names ≡ run_to_end o names
 takes-last o a t names e = rw e refl
 
 takes-before : (o : MatchOptions) (a : Bool) (t u : Text) (us : List Text) (names : Key) → is_recursive t ≡ true
     → walk_takes o a (t ∷ u ∷ us) names ≡ run_before o (walk_takes o true (u ∷ us)) names
 takes-before o a t u us names e = rw e refl
 
--- what is before a `**` does not matter
-pub takes-any : (o : MatchOptions) (a b : Bool) (t : Text) (ts : List Text) (names : Key) → is_recursive t ≡ true → walk_takes o a (t ∷ ts) names ≡ walk_takes o b (t ∷ ts) names
+-- a `**` does not depend on what is before it
+pub takes-any : (o : MatchOptions) (a b : Bool) (t : Text) (ts : List Text) (names : Key) → is_recursive t ≡ true
+    → walk_takes o a (t ∷ ts) names ≡ walk_takes o b (t ∷ ts) names
 takes-any o a b t [] names r = takes-last o a t names r ∙ sym (takes-last o b t names r)
 takes-any o a b t (u ∷ us) names r = takes-before o a t u us names r ∙ sym (takes-before o b t u us names r)
 
--- the name that a run meets last
+-- the last name that a `**` meets
 abbrev pub MetBy : MatchOptions → List Text → Text → Key → Type 0
 MetBy o [] name names = (names ≡ []) × (is_open o name ≡ true)
 MetBy o (t ∷ ts) name names = walk_takes o true (t ∷ ts) (name ∷ names) ≡ true
@@ -60,13 +62,16 @@ module _ (o : MatchOptions) (a : Bool) where
   run-nil t [] r h = both_ways (takes (t ∷ []) []) (takes-last o a t [] r) h
   run-nil t (u ∷ us) r h = both_ways (takes (t ∷ u ∷ us) []) (takes-before o a t u us [] r) h
 
-  pub run-enter : (t : Text) (ts : List Text) (n : Text) (ns : Key) → is_recursive t ≡ true → is_open o n ≡ true → takes (t ∷ ts) ns ≡ true → takes (t ∷ ts) (n ∷ ns) ≡ true
+  pub run-enter : (t : Text) (ts : List Text) (n : Text) (ns : Key) → is_recursive t ≡ true → is_open o n ≡ true
+      → takes (t ∷ ts) ns ≡ true → takes (t ∷ ts) (n ∷ ns) ≡ true
   run-enter t [] n [] r open' h = absurd (run-nil t [] r h)
-  run-enter t [] n (m ∷ ns) r open' h = takes-last o a t (n ∷ m ∷ ns) r ∙ and_from (is_open o n) _ open' (sym (takes-last o a t (m ∷ ns) r) ∙ h)
+  run-enter t [] n (m ∷ ns) r open' h = takes-last o a t (n ∷ m ∷ ns) r ∙ and_from (is_open o n) _ open'
+      (sym (takes-last o a t (m ∷ ns) r) ∙ h)
   run-enter t (u ∷ us) n ns r open' h =
-      takes-before o a t u us (n ∷ ns) r ∙ or_right (walk_takes o true (u ∷ us) (n ∷ ns)) _ (and_from (is_open o n) _ open' (sym (takes-before o a t u us ns r) ∙ h))
+      takes-before o a t u us (n ∷ ns) r ∙ or_right (walk_takes o true (u ∷ us) (n ∷ ns)) _
+      (and_from (is_open o n) _ open' (sym (takes-before o a t u us ns r) ∙ h))
 
--- neighbouring `**` are as one
+-- adjacent `**` count as one
 pub run-run : (o : MatchOptions) (a : Bool) (t u : Text) (us : List Text) (names : Key) → is_recursive t ≡ true → is_recursive u ≡ true
     → walk_takes o a (t ∷ u ∷ us) names ≡ true → walk_takes o a (u ∷ us) names ≡ true
 run-run o a t u us [] r q h = absurd (run-nil o a t (u ∷ us) r h)
@@ -77,7 +82,8 @@ run-run o a t u us (n ∷ ns) r q h =
     run-enter o a u us n ns q both.0 (run-run o a t u us ns r q (takes-before o a t u us ns r ∙ both.1)))
     (or_cases (follows (n ∷ ns)) (is_open o n && run_before o follows ns) (sym (takes-before o a t u us (n ∷ ns) r) ∙ h))
 
-pub run-from_first_recursive : (o : MatchOptions) (a : Bool) (t u : Text) (us : List Text) (names : Key) → is_recursive t ≡ true → is_recursive u ≡ true
+pub run-from_first_recursive : (o : MatchOptions) (a : Bool) (t u : Text) (us : List Text) (names : Key) → is_recursive
+    t ≡ true → is_recursive u ≡ true
     → walk_takes o a (u ∷ us) names ≡ true → walk_takes o a (t ∷ u ∷ us) names ≡ true
 run-from_first_recursive o a t u us [] r q h = absurd (run-nil o a u us q h)
 run-from_first_recursive o a t u us (n ∷ ns) r q h =

@@ -1,5 +1,6 @@
--- A run of `**`: enough levels always give the same marks, and so its equation needs none.
-use Rattle.std.proofs.Common.{◌≡◌, ℕ, zero, suc, ◌+◌, ◌<◌, ◌≤◌, max, Bool, true, false, cond, ⊎_elim, List, [], ◌∷◌, ◌++◌, length, replicate, Option, Some, None, refl, ap, sym, ◌∙◌, arith}
+-- A descent by `**`: all sufficient numbers of levels give the same marks, so its equation needs no number.
+use Rattle.std.proofs.Common.{◌≡◌, ℕ, zero, suc, ◌+◌, ◌<◌, ◌≤◌, max, Bool, true, false, cond, ⊎_elim, List, [], ◌∷◌}
+use Rattle.std.proofs.Common.{◌++◌, length, replicate, Option, Some, None, refl, ap, sym, ◌∙◌, arith}
 use Rattle.std.specs.Prelude.{Contains, option_map, unwrap_or, fold, flat_map}
 use Rattle.std.proofs.lemmas.Bool.{and_parts, both_ways}
 use Rattle.std.proofs.lemmas.List.{length-append}
@@ -8,7 +9,8 @@ use Rattle.glob_tree.specs.Paths.{child}
 use Rattle.glob_tree.specs.Content.{Content, Key, DirEntry, children, list_result, sorted_entries, is_dir, is_dir_at, kind_at}
 use Rattle.glob_walk.specs.Marks.{Mark, Work}
 use Rattle.glob_walk.specs.Components.{Recursive, Literal, Wild, component_kind, begins_recursive}
-use Rattle.glob_walk.specs.Listing.{Next, after_listing, by_name, by_match, list_directory, is_entered, descent, deepest, levels, enter, meet}
+use Rattle.glob_walk.specs.Listing.{Next, after_listing, by_name, by_match, list_directory, is_entered, descent}
+use Rattle.glob_walk.specs.Listing.{deepest, levels, enter, meet}
 use Rattle.glob_pattern.specs.Matching.Components.{is_open}
 use Rattle.glob_pattern.specs.declared.options.MatchOptions.{MatchOptions}
 use Rattle.glob_tree.specs.declared.kind.Kind.{Kind}
@@ -17,23 +19,27 @@ use Rattle.glob_tree.proofs.ContentLemmas.Contents.{IsContent, contains_kind_at}
 use Rattle.glob_tree.proofs.ContentLemmas.Directories.{LeadsTo, LeadsTo-list_result, ListsAs, Read, Unreadable, ListsAs-from_leads}
 use Rattle.glob_tree.proofs.ContentLemmas.Sorting.{Contains-sorted_entries}
 
--- two functions that agree at each element of a list
+-- two functions that agree on each element of a list
 pub flat_map_agree : {X Y : Type 0} (f g : X → List Y) (xs : List X) → ((x : X) → Contains xs x → f x ≡ g x) → flat_map f xs ≡ flat_map g xs
 flat_map_agree f g [] same = refl
-flat_map_agree f g (x ∷ xs) same = λ i. same x (Contains-head x xs) i ++ flat_map_agree f g xs (λ y in'. same y (Contains-tail x xs y in')) i
+flat_map_agree f g (x ∷ xs) same = λ i. same x (Contains-head x xs) i ++ flat_map_agree f g xs (λ y in'. same y
+    (Contains-tail x xs y in')) i
 
--- What comes of a listing depends on what comes of the entries of the directory alone.
+-- What follows a listing depends only on what follows at the entries of the directory.
 pub list_directory_agree : (c : Content) (path : Text) (k : Key) → LeadsTo c path k → (before : List Mark) (each other : Next)
-    → ((e : DirEntry) → Contains (children c k) e → each e.0 e.1 ≡ other e.0 e.1) → list_directory c path before each ≡ list_directory c path before other
+    → ((e : DirEntry) → Contains (children c k) e → each e.0 e.1 ≡ other e.0 e.1) → list_directory c path before each ≡
+    list_directory c path before other
 list_directory_agree c path k at before each other same = ap (λ ms. Work path ∷ ms) (by_answer (ListsAs-from_leads c path k at))
   where
-    by_answer : ListsAs c path k → after_listing path before each (list_result c path) ≡ after_listing path before other (list_result c path)
+    by_answer : ListsAs c path k → after_listing path before each (list_result c path) ≡ after_listing path before
+        other (list_result c path)
     by_answer (Read entries answer) = rw answer
         (ap (λ ms. replicate (length (children c k)) (Work path) ++ before ++ ms)
-        (flat_map_agree (λ e. each e.0 e.1) (λ e. other e.0 e.1) (sorted_entries (children c k)) (λ e in'. same e (Contains-sorted_entries (children c k) e in'))))
+        (flat_map_agree (λ e. each e.0 e.1) (λ e. other e.0 e.1) (sorted_entries (children c k)) (λ e in'. same e
+        (Contains-sorted_entries (children c k) e in'))))
     by_answer (Unreadable kind entries answer) = rw answer refl
 
--- the longest of some keys, and of n names, is as long as each
+-- the longest of some keys, and n, is at least as long as each
 longest_from : (n : ℕ) (es : List (Key × Kind)) → n ≤ fold (λ m e. max m (length e.0)) n es
 longest_from n [] = omega arith
 longest_from n (e ∷ es) = omega (arith, longest_from (max n (length e.0)) es)
@@ -45,7 +51,7 @@ longest n (f ∷ es) e in' = ⊎_elim
     (λ later. longest (max n (length f.0)) es e later)
     (Contains-cases f es e in')
 
--- a directory is no deeper than the levels of its content
+-- no directory is deeper than the levels of its content
 pub depth : (c : Content) (k : Key) → is_dir_at c k ≡ true → length k < levels c
 depth c k d = of_kind (kind_at c k) refl d
   where
@@ -53,7 +59,7 @@ depth c k d = of_kind (kind_at c k) refl d
     of_kind None e h = absurd (both_ways false refl h)
     of_kind (Some kind) e h = omega (arith, longest 0 c.kinds (k, kind) (contains_kind_at c k kind e))
 
--- a branch that is taken alone counts
+-- a branch needs to agree only if it is taken
 cond_agree : {X : Type 0} (b : Bool) (x y z : X) → (b ≡ true → x ≡ y) → cond b x z ≡ cond b y z
 cond_agree true x y z same = same refl
 cond_agree false x y z same = refl
@@ -62,8 +68,9 @@ cond_agree false x y z same = refl
 pub is_entered-directory : (o : MatchOptions) (name : Text) (d : Bool) → is_entered o name d ≡ true → d ≡ true
 is_entered-directory o name d h = (and_parts d (is_open o name) h).0
 
--- Below a directory at k, all numbers of levels give the same marks that reach down to the deepest keys.
-pub descent_enough : (c : Content) → IsContent c → (o : MatchOptions) (each : Text → Text → Bool → List Mark) (n m : ℕ) (path : Text) (k : Key) → LeadsTo c path k
+-- Below a directory at k, all numbers of levels that reach the deepest keys give the same marks.
+pub descent_enough : (c : Content) → IsContent c → (o : MatchOptions) (each : Text → Text → Bool → List Mark) (n m : ℕ)
+    (path : Text) (k : Key) → LeadsTo c path k
     → levels c ≤ length k + n → levels c ≤ length k + m → descent c o each n path ≡ descent c o each m path
 unfolding descent
 descent_enough c w o each zero m path k at h g = absurd (omega (arith, h, depth c k at.directory))
@@ -78,8 +85,9 @@ descent_enough c w o each (suc n) (suc m) path k at h g = list_directory_agree c
     (LeadsTo-list_result c w path k at e in' (is_entered-directory o e.0 e.1 entered))
     (omega (arith, h, deeper)) (omega (arith, g, deeper)))))
 
--- A run of `**` lists the directory, and goes on in the same way in each entry that it enters.
-pub descent-levels : (c : Content) → IsContent c → (o : MatchOptions) (each : Text → Text → Bool → List Mark) (path : Text) (k : Key) → LeadsTo c path k
+-- A descent by `**` lists the directory, and then does the same in each entry that it enters.
+pub descent-levels : (c : Content) → IsContent c → (o : MatchOptions) (each : Text → Text → Bool → List Mark)
+    (path : Text) (k : Key) → LeadsTo c path k
     → descent c o each (levels c) path
     ≡ list_directory c path [] (λ name d.
     each (child path name) name d ++ (cond (is_entered o name d) (descent c o each (levels c) (child path name)) []))
@@ -88,7 +96,8 @@ descent-levels c w o each path k at = list_directory_agree c path k at []
     (λ name d. each (child path name) name d ++ (cond (is_entered o name d) (descent c o each (deepest c) (child path name)) []))
     (λ name d. each (child path name) name d ++ (cond (is_entered o name d) (descent c o each (levels c) (child path name)) []))
     (λ e in'. ap (λ ms. each (child path e.0) e.0 e.1 ++ ms)
-    (cond_agree (is_entered o e.0 e.1) (descent c o each (deepest c) (child path e.0)) (descent c o each (levels c) (child path e.0)) [] (λ entered.
+    (cond_agree (is_entered o e.0 e.1) (descent c o each (deepest c) (child path e.0)) (descent c o each (levels c)
+    (child path e.0)) [] (λ entered.
     let deeper = length-append k (e.0 ∷ []) in
     descent_enough c w o each (deepest c) (levels c) (child path e.0) (k ++ e.0 ∷ [])
     (LeadsTo-list_result c w path k at e in' (is_entered-directory o e.0 e.1 entered))
@@ -106,12 +115,12 @@ module _ (c : Content) (o : MatchOptions) (directories : Bool) where
   unfolding enter
   enter-wild t ts path kind = rw (kind, enter) refl
 
-  -- no wildcard is asked of what is no directory
+  -- a component with wildcards does nothing at a non-directory
   pub enter_none : (t : Text) (ts : List Text) (path : Text) → component_kind t ≡ Wild → enter c o directories (t ∷ ts) path false ≡ []
   unfolding enter
   enter_none t ts path kind = rw (kind, enter) refl
 
-  -- neighbouring `**` are as one
+  -- adjacent `**` count as one
   pub enter-run : (t : Text) (ts : List Text) (path : Text) (d : Bool) → component_kind t ≡ Recursive → begins_recursive ts ≡ true
       → enter c o directories (t ∷ ts) path d ≡ enter c o directories ts path d
   unfolding enter
@@ -127,8 +136,9 @@ module _ (c : Content) (o : MatchOptions) (directories : Bool) where
   unfolding enter
   enter-levels t ts path kind last = rw (kind, last, enter) refl
 
-  -- the last `**` of a run lists the directory: each entry is met, and then entered
-  pub enter-recursive : IsContent c → (t : Text) (ts : List Text) (path : Text) (k : Key) → component_kind t ≡ Recursive → begins_recursive ts ≡ false → LeadsTo c path k
+  -- the last `**` in a place lists the directory: each entry is met, and then entered
+  pub enter-recursive : IsContent c → (t : Text) (ts : List Text) (path : Text) (k : Key) → component_kind t ≡
+      Recursive → begins_recursive ts ≡ false → LeadsTo c path k
       → enter c o directories (t ∷ ts) path true
       ≡ list_directory c path [] (λ name d. meet c o directories ts (child path name) name d
       ++ (cond (is_entered o name d) (enter c o directories (t ∷ ts) (child path name) true) []))
@@ -136,6 +146,9 @@ module _ (c : Content) (o : MatchOptions) (directories : Bool) where
       enter-levels t ts path kind last
       ∙ descent-levels c w o (meet c o directories ts) path k at
       ∙ list_directory_agree c path k at []
-      (λ name d. meet c o directories ts (child path name) name d ++ (cond (is_entered o name d) (descent c o (meet c o directories ts) (levels c) (child path name)) []))
-      (λ name d. meet c o directories ts (child path name) name d ++ (cond (is_entered o name d) (enter c o directories (t ∷ ts) (child path name) true) []))
-      (λ e in'. ap (λ ms. meet c o directories ts (child path e.0) e.0 e.1 ++ (cond (is_entered o e.0 e.1) ms [])) (sym (enter-levels t ts (child path e.0) kind last)))
+      (λ name d. meet c o directories ts (child path name) name d ++ (cond (is_entered o name d)
+      (descent c o (meet c o directories ts) (levels c) (child path name)) []))
+      (λ name d. meet c o directories ts (child path name) name d ++ (cond (is_entered o name d) (enter c o directories
+      (t ∷ ts) (child path name) true) []))
+      (λ e in'. ap (λ ms. meet c o directories ts (child path e.0) e.0 e.1 ++ (cond (is_entered o e.0 e.1) ms []))
+      (sym (enter-levels t ts (child path e.0) kind last)))

@@ -1,4 +1,4 @@
--- What a limit leaves of what a walk does.
+-- What a limit leaves of a walk.
 use Rattle.std.proofs.Common.{append_assoc, ◌≡◌, ◌∙◌, ℕ, zero, suc, ◌+◌, ◌-◌, ◌≤◌, List, [], ◌∷◌, ◌++◌, replicate, refl, ap, arith}
 use Rattle.glob_text.specs.Text.{Text}
 use Rattle.glob_walk.specs.Marks.{Item, Found, Unread, Mark, Work, Give, items, cost, front, paths, IsBeginning}
@@ -18,18 +18,18 @@ pub items-replicate : (n : ℕ) (path : Text) → items (replicate n (Work path)
 items-replicate zero path = refl
 items-replicate (suc n) path = items-replicate n path
 
--- what is given within a limit is a beginning of what is given
+-- the items within a limit are a prefix of all
 pub IsBeginning-front : (n : ℕ) (ms : List Mark) → IsBeginning (items (front n ms)) (items ms)
 IsBeginning-front n [] = ([], refl)
 IsBeginning-front n (Give item ∷ ms) = let (rest, same) = IsBeginning-front n ms in (rest, ap (λ is. item ∷ is) same)
 IsBeginning-front zero (Work path ∷ ms) = (items ms, refl)
 IsBeginning-front (suc n) (Work path ∷ ms) = IsBeginning-front n ms
 
--- what is given already is a beginning of what is given
+-- the items so far are a prefix of all
 pub IsBeginning-append : (ms ns : List Mark) → IsBeginning (items ms) (items (ms ++ ns))
 IsBeginning-append ms ns = (items ns, items-append ms ns)
 
--- the limit is met in what follows
+-- if the first marks fit, the limit cuts the later ones
 pub front-append : (n : ℕ) (ms ns : List Mark) → cost ms ≤ n → front n (ms ++ ns) ≡ ms ++ front (n - cost ms) ns
 front-append n [] ns h = let e : n - 0 ≡ n = omega arith in rw e refl
 front-append n (Give item ∷ ms) ns h = ap (λ os. Give item ∷ os) (front-append n ms ns h)
@@ -43,9 +43,10 @@ paths-append [] js = refl
 paths-append (Found path ∷ is) js = ap (λ ps. path ∷ ps) (paths-append is js)
 paths-append (Unread path kind ∷ is) js = paths-append is js
 
--- so are items of which the last may have found no room
+-- items of which the last may have been lost are a prefix
 pub IsBeginning-cut : (ms : List Mark) (spent : ℕ) (is : List Item) → IsCutShort ms spent is → IsBeginning is (items ms)
 IsBeginning-cut ms spent is cut = (
   cut.lost ++ items cut.rest,
-  ap items cut.whole ∙ items-append cut.done cut.rest ∙ ap (λ js. js ++ items cut.rest) cut.given ∙ append_assoc is cut.lost (items cut.rest),
+  ap items cut.whole ∙ items-append cut.done cut.rest ∙ ap (λ js. js ++ items cut.rest) cut.given ∙ append_assoc is
+      cut.lost (items cut.rest),
 )

@@ -15,7 +15,7 @@ list_units kinds None asks = absurd asks
 list_units kinds (Some (LookAt path)) asks = absurd asks
 list_units kinds (Some (ListAt wanted path)) asks = refl
 
--- a step asks the question that is then open
+-- a step costs what the question that is then open costs
 pub asked_units : (s : Saying) (q : Option Question) → IsAskedAfter s q → question_units q ≡ step_units s
 asked_units AsksLook q asks = look_units q asks
 asked_units (AsksList kinds) q asks = list_units kinds q asks

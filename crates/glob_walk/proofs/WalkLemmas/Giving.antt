@@ -1,75 +1,121 @@
--- What a step makes of what was given.
-use Rattle.std.proofs.Common.{◌≡◌, ℕ, suc, false, ◌+◌, ◌-◌, List, [], ◌∷◌, ◌++◌, refl, ap, sym, ◌∙◌, arith, append_assoc}
+-- What a step does to what was given.
+use Rattle.std.proofs.Common.{◌≡◌, ℕ, suc, false, ◌+◌, ◌-◌, ◌<◌, List, [], ◌∷◌, ◌++◌, refl, ap, sym, ◌∙◌, arith, append_assoc}
+use Rattle.std.proofs.lemmas.List.{append-nil}
 use Rattle.glob_text.specs.Text.{Text}
 use Rattle.glob_tree.specs.Content.{Content}
 use Rattle.glob_walk.specs.Listing.{listing_of}
-use Rattle.glob_walk.specs.Marks.{Mark, Work, Give, Item, items, cost, front}
+use Rattle.glob_walk.specs.Marks.{Mark, Work, Give, Item, IsUpTo, items, cost, front}
 use Rattle.glob_walk.specs.Questions.{question_path}
-use Rattle.glob_walk.specs.Machines.{MachineState, Progress, IsFreshMachine, Saying, AsksLook, AsksList, Says, Ends, StepCounts, StepTakes, Agrees, left_of}
-use Rattle.glob_walk.specs.Driven.{HasGiven, GivesNext}
-use Rattle.glob_walk.specs.Iterating.{Charges, works}
-use Rattle.glob_walk.specs.Walks.{Gives, LimitAt, NoMemory}
+use Rattle.glob_walk.specs.Machines.{MachineState, Progress, IsFresh, Saying, AsksLook, AsksList, Says, Ends}
+use Rattle.glob_walk.specs.Machines.{StepCounts, HasGiven, GivesNext, AsksNext, Agrees, left_of, step_units}
+use Rattle.glob_walk.specs.Private.Turns.{Charges, TakesStep, works}
+use Rattle.glob_walk.specs.Walks.{Gives, LimitAt, NoMemory, IsCutShort}
 use Rattle.glob_walk.proofs.ListingLemmas.Marks.{items-append, cost-append, front-append}
 use Rattle.glob_walk.proofs.WalkLemmas.Charging.{Charges-asked}
 use Rattle.glob_walk.proofs.WalkLemmas.Works.{items-works, cost-works}
-use Rattle.std.proofs.lemmas.List.{append-nil}
 
-pub given_fresh : {P : Progress} (limit : ℕ) (listing : List Mark) (c : Content) (walk : MachineState P) → IsFreshMachine limit walk → listing_of c walk.aim ≡ listing → HasGiven listing c [] walk
-given_fresh limit listing c walk fresh aim = record { agrees = fresh.agrees c; going = fresh.over; done = []; whole = sym (fresh.whole c ∙ aim); units = fresh.spent; same = refl }
+module _ (listing : List Mark) (spent : ℕ) (given : List Item) where
+  -- one more item
+  pub upto_item : (item : Item) (left : List Mark) → IsUpTo listing spent given (Give item ∷ left) → IsUpTo listing
+      spent (given ++ item ∷ []) left
+  upto_item item left u = record {
+    done = u.done ++ Give item ∷ [];
+    whole = u.whole ∙ sym (append_assoc u.done (Give item ∷ []) left);
+    units = omega (arith, u.units, cost-append u.done (Give item ∷ []));
+    same = ap (λ xs. xs ++ item ∷ []) u.same ∙ sym (items-append u.done (Give item ∷ []));
+  }
 
-pub gives_next : {P : Progress} (n : ℕ) (listing : List Mark) (c : Content) (given : List Item) (old : MachineState P) (s : Saying) (new : MachineState P)
-    → StepCounts n old s new → (old.over ≡ false → Agrees c old → StepTakes old s new c) → HasGiven listing c given old → GivesNext listing c given s new
-gives_next n listing c given old s new counts takes h = by_saying s counts (takes h.going h.agrees)
-  where
-    charged : (after : List Mark) (spent : ℕ) → Charges (left_of c old) old.spent after spent
-        → (ps : List Text) × (listing ≡ (h.done ++ works ps) ++ after) × (spent ≡ cost (h.done ++ works ps)) × (given ≡ items (h.done ++ works ps))
-    charged after spent k = (
-      k.paths,
-      h.whole ∙ ap (λ xs. h.done ++ xs) k.front ∙ sym (append_assoc h.done (works k.paths) after),
-      omega (arith, h.units, k.units, cost-append h.done (works k.paths), cost-works k.paths),
-      sym (items-append h.done (works k.paths) ∙ ap (λ xs. items h.done ++ xs) (items-works k.paths) ∙ append-nil (items h.done) ∙ sym h.same),
-    )
+  -- more units
+  pub upto_charged : (left after : List Mark) (spent' : ℕ) → IsUpTo listing spent given left → Charges left spent after
+      spent' → IsUpTo listing spent' given after
+  upto_charged left after spent' u k = record {
+    done = u.done ++ works k.paths;
+    whole = u.whole ∙ ap (λ xs. u.done ++ xs) k.front ∙ sym (append_assoc u.done (works k.paths) after);
+    units = omega (arith, u.units, k.units, cost-append u.done (works k.paths), cost-works k.paths);
+    same = u.same ∙ sym (items-append u.done (works k.paths) ∙ ap (λ xs. items u.done ++ xs) (items-works k.paths)
+        ∙ append-nil (items u.done));
+  }
 
-    by_saying : (s : Saying) → StepCounts n old s new → StepTakes old s new c → GivesNext listing c given s new
-    by_saying AsksLook k t =
-        let (ps, whole, units, same) = charged (left_of c new) new.spent (Charges-asked (left_of c old) (left_of c new) old.spent new.spent (question_path new.asked) t.takes) in
-        record { agrees = t.agrees; going = k.ends; done = h.done ++ works ps; whole = whole; units = units; same = same }
-    by_saying (AsksList kinds) k t =
-        let (ps, whole, units, same) = charged (left_of c new) new.spent (Charges-asked (left_of c old) (left_of c new) old.spent new.spent (question_path new.asked) t.takes) in
-        record { agrees = t.agrees; going = k.ends; done = h.done ++ works ps; whole = whole; units = units; same = same }
-    by_saying (Says (Gives item)) k t =
-        let (ps, whole, units, same) = charged (Give item ∷ left_of c new) new.spent t.takes in
-        let done : List Mark = h.done ++ works ps in
-        record {
-          agrees = t.agrees;
-          going = k.ends;
-          done = done ++ Give item ∷ [];
-          whole = whole ∙ sym (append_assoc done (Give item ∷ []) (left_of c new));
-          units = omega (arith, units, cost-append done (Give item ∷ []));
-          same = ap (λ xs. xs ++ item ∷ []) same ∙ sym (items-append done (Give item ∷ []));
-        }
-    by_saying (Says (LimitAt path)) k t =
-        let stop = t.takes in
-        let (ps, whole, units, same) = charged (Work path ∷ stop.rest) new.spent stop.charges in
-        let done : List Mark = h.done ++ works ps in
-        let at = k.charged.0 in
-        let costs : cost listing ≡ cost done + suc (cost stop.rest) = ap cost whole ∙ cost-append done (Work path ∷ stop.rest) in
-        let none : new.limit - cost done ≡ 0 = omega (arith, at, units) in
-        let cut : front new.limit listing ≡ done =
-        ap (front new.limit) whole ∙ front-append new.limit done (Work path ∷ stop.rest) (omega (arith, at, units)) ∙ ap (λ n. done ++ front n (Work path ∷ stop.rest)) none ∙ append-nil done in
-        (at, omega (arith, costs, at, units), same ∙ ap items (sym cut))
-    by_saying (Says NoMemory) k t =
-        let (ps, whole, units, same) = charged t.takes.rest new.spent t.takes.charges in
-        record {
-          done = h.done ++ works ps;
-          rest = t.takes.rest;
-          lost = [];
-          whole = whole;
-          units = units;
-          given = sym same ∙ sym (append-nil given);
-          few = omega arith;
-        }
-    by_saying Ends k t =
-        let (ps, whole, units, same) = charged [] new.spent t.takes.0 in
-        let all : listing ≡ h.done ++ works ps = whole ∙ append-nil (h.done ++ works ps) in
-        (same ∙ ap items (sym all), units ∙ ap cost (sym all))
+  -- nothing is left: these were all
+  pub upto_end : IsUpTo listing spent given [] → (given ≡ items listing) × (spent ≡ cost listing)
+  upto_end u =
+      let all : listing ≡ u.done = u.whole ∙ append-nil u.done in
+      (u.same ∙ ap items (sym all), u.units ∙ ap cost (sym all))
+
+  -- the next unit does not fit
+  pub upto_limit : (path : Text) (rest : List Mark) → IsUpTo listing spent given (Work path ∷ rest) →
+      (spent < cost listing) × (given ≡ items (front spent listing))
+  upto_limit path rest u =
+      let costs : cost listing ≡ cost u.done + suc (cost rest) = ap cost u.whole ∙ cost-append u.done (Work path ∷ rest) in
+      let none : spent - cost u.done ≡ 0 = omega (arith, u.units) in
+      let cut : front spent listing ≡ u.done =
+      ap (front spent) u.whole ∙ front-append spent u.done (Work path ∷ rest) (omega (arith, u.units)) ∙ ap
+      (λ n. u.done ++ front n (Work path ∷ rest)) none ∙ append-nil u.done in
+      (omega (arith, costs, u.units), u.same ∙ ap items (sym cut))
+
+  -- what was charged is a prefix of the listing
+  pub upto_cut : (rest : List Mark) → IsUpTo listing spent given rest → IsCutShort listing spent given
+  upto_cut rest u = record {
+    done = u.done;
+    rest = rest;
+    lost = [];
+    whole = u.whole;
+    units = u.units;
+    given =
+        sym u.same ∙ sym (append-nil given);
+    few = omega arith;
+  }
+
+-- a walk that has done nothing yet has given nothing of its listing
+pub given_fresh : {P : Progress} (limit : ℕ) (listing : List Mark) (c : Content) (walk : MachineState P)
+    → IsFresh limit walk → listing_of c walk.aim ≡ listing → HasGiven listing c [] walk
+given_fresh limit listing c walk fresh aim = record {
+  agrees = fresh.agrees c;
+  going = fresh.over;
+  upto = record { done = []; whole = sym (fresh.whole c ∙ aim); units = fresh.spent; same = refl };
+}
+
+module _ {P : Progress} (n : ℕ) (listing : List Mark) (c : Content) (given : List Item) (old new : MachineState P)
+    (h : HasGiven listing c given old) where
+  charged : (after : List Mark) (spent : ℕ) → Charges (left_of c old) old.spent after spent → IsUpTo listing spent given after
+  charged after spent k = upto_charged listing old.spent given (left_of c old) after spent h.upto k
+
+  pub gives_next : (s : Saying) → StepCounts n old s new → Agrees c new → TakesStep (left_of c old) old.spent s
+      new.asked (left_of c new) new.spent → GivesNext listing c given s new
+  gives_next AsksLook k agrees t = record {
+    agrees = agrees;
+    going = k.counts.ends;
+    upto = charged (left_of c new) new.spent (Charges-asked (left_of c old) (left_of c new) old.spent new.spent
+        (question_path new.asked) t);
+  }
+  gives_next (AsksList kinds) k agrees t = record {
+    agrees = agrees;
+    going = k.counts.ends;
+    upto = charged (left_of c new) new.spent (Charges-asked (left_of c old) (left_of c new) old.spent new.spent
+        (question_path new.asked) t);
+  }
+  gives_next (Says (Gives item)) k agrees t = record {
+    agrees = agrees;
+    going = k.counts.ends;
+    upto = upto_item listing new.spent given item (left_of c new) (charged (Give item ∷ left_of c new) new.spent t);
+  }
+  gives_next (Says (LimitAt path)) k agrees t = (k.charged.0, t.rest, charged (Work path ∷ t.rest) new.spent t.charges)
+  gives_next (Says NoMemory) k agrees t = (t.rest, charged t.rest new.spent t.charges)
+  gives_next Ends k agrees t = charged [] new.spent t.0
+
+  pub asks_next : (s : Saying) → step_units s ≡ 1 → TakesStep (left_of c old) old.spent s new.asked (left_of c new) new.spent
+      → AsksNext listing given (question_path new.asked) new.spent (left_of c new)
+  asks_next AsksLook unit t = record {
+    before = t.before;
+    unit = t.unit;
+    upto = charged (Work (question_path new.asked)
+        ∷ left_of c new) t.before t.charges;
+  }
+  asks_next (AsksList kinds) unit t = record {
+    before = t.before;
+    unit = t.unit;
+    upto = charged
+        (Work (question_path new.asked) ∷ left_of c new) t.before t.charges;
+  }
+  asks_next (Says o) unit t = absurd (omega (arith, unit))
+  asks_next Ends unit t = absurd (omega (arith, unit))

@@ -1,5 +1,6 @@
--- Listings with the kinds of the entries, and of names alone.
-use Rattle.std.proofs.Common.{◌≡◌, ℕ, suc, ◌<◌, Bool, true, false, cond, not, ◌||◌, List, [], ◌∷◌, ◌++◌, length, drop, get_or, replicate, refl, ap, sym, subst, ◌∙◌}
+-- Listings with the kinds of the entries, and of names only.
+use Rattle.std.proofs.Common.{◌≡◌, ℕ, suc, ◌<◌, Bool, true, false, cond, not, ◌||◌, List, [], ◌∷◌, ◌++◌, length, drop}
+use Rattle.std.proofs.Common.{get_or, replicate, refl, ap, sym, subst, ◌∙◌}
 use Rattle.std.specs.Prelude.{flat_map, IsPermutation}
 use Rattle.std.specs.List.Sorted.{IsSortedByKey}
 use Rattle.std.specs.Cmp.Lexicographic.{slice_cmp}
@@ -16,7 +17,7 @@ use Rattle.glob_tree.specs.declared.tree.Entry.{Entry}
 use Rattle.glob_tree.proofs.ContentLemmas.Contents.{IsContent}
 use Rattle.glob_walk.specs.Listing.{enter}
 use Rattle.glob_walk.specs.Marks.{Mark, Give, Found}
-use Rattle.glob_walk.specs.Iterating.{works}
+use Rattle.glob_walk.specs.Private.Turns.{works}
 use Rattle.glob_walk.specs.declared.plan.Plan.{Plan}
 use Rattle.glob_walk.specs.declared.frame.Cursor.TheVariants.{Parent, At}
 use Rattle.glob_walk.specs.Private.Forms.{takes_name}
@@ -31,8 +32,9 @@ names_length : (es : List DirEntry) → length (names_of es) ≡ length es
 names_length [] = refl
 names_length (e ∷ es) = ap suc (names_length es)
 
--- a last component that is met by names, where directories are not wanted
-module _ {A : Type 0} (c : Content) (plan : Plan A) (component : ℕ) (path : Text) (within : component < length plan.components.items) (ignores : IgnoresKinds plan component false) where
+-- the last component, matched against names, if not only directories are wanted
+module _ {A : Type 0} (c : Content) (plan : Plan A) (component : ℕ) (path : Text) (within : component < length
+    plan.components.items) (ignores : IgnoresKinds plan component false) where
   t : Text
   t = get_or plan.components.items component []
 
@@ -40,7 +42,7 @@ module _ {A : Type 0} (c : Content) (plan : Plan A) (component : ℕ) (path : Te
   unfolding t
   alone = drop_more plan.components.items component [] within ∙ ap (λ ts. get_or plan.components.items component [] ∷ ts) ignores.last
 
-  -- what comes of a name
+  -- what follows at a name
   name_marks : Text → List Mark
   name_marks name = cond (takes_name plan.options t name) (Give (Found (child path name)) ∷ []) []
 
@@ -60,31 +62,41 @@ module _ {A : Type 0} (c : Content) (plan : Plan A) (component : ℕ) (path : Te
   entries_same (e ∷ es) = λ i. entry_same e i ++ entries_same es i
 
   cursor_same : (es fs : List DirEntry) → names_of es ≡ names_of fs
-      → cursor_marks c plan false component path es (first_cursor (drop component plan.components.items)) ≡ cursor_marks c plan false component path fs (first_cursor (drop component plan.components.items))
+      → cursor_marks c plan false component path es (first_cursor (drop component plan.components.items)) ≡
+      cursor_marks c plan false component path fs (first_cursor (drop component plan.components.items))
   cursor_same es fs same = by_test (is_dotted (drop component plan.components.items))
     where
       marks : entries_marks c plan false component path es ≡ entries_marks c plan false component path fs
       marks = entries_same es ∙ ap (flat_map name_marks) same ∙ sym (entries_same fs)
 
-      by_test : (b : Bool) → cursor_marks c plan false component path es (cond b Parent (At 0)) ≡ cursor_marks c plan false component path fs (cond b Parent (At 0))
+      by_test : (b : Bool) → cursor_marks c plan false component path es (cond b Parent (At 0)) ≡ cursor_marks c plan
+          false component path fs (cond b Parent (At 0))
       by_test true = ap (λ ms. special_marks c plan component path parent_dir ++ (special_marks c plan component path cur_dir ++ ms)) marks
       by_test false = marks
 
-module _ {A : Type 0} (c : Content) (w : IsContent c) (plan : Plan A) (component : ℕ) (path : Text) (d : is_directory (look_result c path) ≡ true) (es sorted : List (Entry A)) (moved : IsPermutation es sorted)
+module _ {A : Type 0} (c : Content) (w : IsContent c) (plan : Plan A) (component : ℕ) (path : Text) (d : is_directory
+    (look_result c path) ≡ true) (es sorted : List (Entry A)) (moved : IsPermutation es sorted)
     (up : IsSortedByKey (λ e. e.name) (slice_cmp nat_cmp) sorted) where
-  -- names alone are enough
-  opened_names : (l : IsListedFor plan component false false) → IsNamesAnswer (list_result c path) (entries_of es) → Opens c w plan false component path l.opens d (entries_of sorted)
+  -- the names are enough
+  opened_names : (l : IsListedFor plan component false false) → IsNamesAnswer (list_result c path) (entries_of es)
+      → Opens c w plan false component path l.opens d (entries_of sorted)
   opened_names l answer = by_listing c w plan false component path l.opens d
       (λ xs is.
       let names = names_listed c w path xs is es sorted (subst (λ a. IsNamesAnswer a (entries_of es)) is answer) moved up in
-      let same_length : length (sorted_entries xs) ≡ length (entries_of sorted) = sym (names_length (sorted_entries xs)) ∙ ap length (sym names) ∙ names_length (entries_of sorted) in
-      opened_entries c w plan false component path l.opens d (sorted_entries xs) (subst (λ a. IsInOrder a (sorted_entries xs)) (sym is) refl)
-      ∙ ap (λ n. works (replicate (suc n) path) ++ cursor_marks c plan false component path (sorted_entries xs) (first_cursor (drop component plan.components.items))) same_length
-      ∙ ap (λ ms. works (replicate (suc (length (entries_of sorted))) path) ++ ms) (cursor_same c plan component path l.within (l.names refl) (sorted_entries xs) (entries_of sorted) (sym names)))
+      let same_length : length (sorted_entries xs) ≡ length (entries_of sorted) = sym
+      (names_length (sorted_entries xs)) ∙ ap length (sym names) ∙ names_length (entries_of sorted) in
+      opened_entries c w plan false component path l.opens d (sorted_entries xs)
+      (subst (λ a. IsInOrder a (sorted_entries xs)) (sym is) refl)
+      ∙ ap (λ n. works (replicate (suc n) path) ++ cursor_marks c plan false component path (sorted_entries xs)
+      (first_cursor (drop component plan.components.items))) same_length
+      ∙ ap (λ ms. works (replicate (suc (length (entries_of sorted))) path) ++ ms) (cursor_same c plan component path
+      l.within (l.names refl) (sorted_entries xs) (entries_of sorted) (sym names)))
       (λ kind is. absurd (subst (λ a. IsNamesAnswer a (entries_of es)) is answer))
 
-  pub opened_answer : (recursive kinds : Bool) (l : IsListedFor plan component recursive kinds) → IsEntriesAnswer kinds (list_result c path) (entries_of es)
+  pub opened_answer : (recursive kinds : Bool) (l : IsListedFor plan component recursive kinds) → IsEntriesAnswer kinds
+      (list_result c path) (entries_of es)
       → Opens c w plan recursive component path l.opens d (entries_of sorted)
-  opened_answer recursive true l answer = opened_entries c w plan recursive component path l.opens d (entries_of sorted) (in_order c w path es sorted answer moved up)
+  opened_answer recursive true l answer = opened_entries c w plan recursive component path l.opens d
+      (entries_of sorted) (in_order c w path es sorted answer moved up)
   opened_answer false false l answer = opened_names l answer
   opened_answer true false l answer = absurd (both_ways true (l.names refl).single refl)

@@ -1,12 +1,14 @@
--- Neighbouring `**` are read as one, which changes nothing of the written listing.
-use Rattle.std.proofs.Common.{◌≡◌, ℕ, zero, suc, ◌+◌, Bool, true, false, cond, not, ◌&&◌, List, [], ◌∷◌, ◌++◌, drop, refl, ap, sym, subst, ◌∙◌, arith}
+-- Adjacent `**` are read as one, which does not change the written listing.
+use Rattle.std.proofs.Common.{◌≡◌, ℕ, zero, suc, ◌+◌, Bool, true, false, cond, not, ◌&&◌, List, [], ◌∷◌, ◌++◌, drop}
+use Rattle.std.proofs.Common.{refl, ap, sym, subst, ◌∙◌, arith}
 use Rattle.std.proofs.lemmas.Bool.{and_parts, both_ways}
 use Rattle.std.proofs.lemmas.List.{append_assoc}
 use Rattle.std.proofs.Math.ListN.{drop_of_length-le}
 use Rattle.glob_text.specs.Text.{Text}
 use Rattle.glob_pattern.specs.declared.options.MatchOptions.{MatchOptions}
 use Rattle.glob_tree.specs.Content.{Content}
-use Rattle.glob_walk.specs.Components.{ComponentKind, Literal, Recursive, Wild, component_kind, components, is_literal, is_recursive, begins_recursive, has_root, start, wants_directories}
+use Rattle.glob_walk.specs.Components.{ComponentKind, Literal, Recursive, Wild, component_kind, components, is_literal}
+use Rattle.glob_walk.specs.Components.{is_recursive, begins_recursive, has_root, start, wants_directories}
 use Rattle.std.specs.Path.{root_dir, cur_dir}
 use Rattle.glob_walk.specs.Listing.{listing_of, by_name, by_match, descent, levels, enter, meet, match_at, look_up, listing}
 use Rattle.glob_walk.specs.declared.plan.Plan.{Plan}
@@ -48,8 +50,9 @@ are_merged-drop zero ts h = h
 are_merged-drop (suc n) [] h = ap are_merged (drop_of_length-le [] {i = suc n} (omega arith))
 are_merged-drop (suc n) (t ∷ ts) h = are_merged-drop n ts (and_parts (not (is_recursive t && begins_recursive ts)) (are_merged ts) h).1
 
--- so a `**` is the last of its run
-pub opened_run : (ts : List Text) (n : ℕ) (t : Text) → are_merged ts ≡ true → drop n ts ≡ t ∷ drop (n + 1) ts → component_kind t ≡ Recursive → IsOpened true (drop n ts)
+-- so each `**` is the last in its place
+pub opened_run : (ts : List Text) (n : ℕ) (t : Text) → are_merged ts ≡ true → drop n ts ≡ t ∷ drop (n + 1) ts
+    → component_kind t ≡ Recursive → IsOpened true (drop n ts)
 opened_run ts n t merged at kind = subst (IsOpened true) (sym at) (kind, last (begins_recursive (drop (n + 1) ts)) refl)
   where
     rest : are_merged (t ∷ drop (n + 1) ts) ≡ true
@@ -59,25 +62,31 @@ opened_run ts n t merged at kind = subst (IsOpened true) (sym at) (kind, last (b
     apart = (and_parts (not (is_recursive t && begins_recursive (drop (n + 1) ts))) (are_merged (drop (n + 1) ts)) rest).0
 
     last : (b : Bool) → begins_recursive (drop (n + 1) ts) ≡ b → b ≡ false
-    last true h = absurd (both_ways false refl (sym (ap (λ r. not (r && begins_recursive (drop (n + 1) ts))) (kind-Recursive t kind) ∙ ap not h) ∙ apart))
+    last true h = absurd (both_ways false refl (sym (ap (λ r. not (r && begins_recursive (drop (n + 1) ts)))
+        (kind-Recursive t kind) ∙ ap not h) ∙ apart))
     last false h = refl
 
--- what is no literal is listed for
+-- a component that is not literal is listed for
 pub opened_for : (ts : List Text) (n : ℕ) (t : Text) → are_merged ts ≡ true → drop n ts ≡ t ∷ drop (n + 1) ts → is_literal t ≡ false
     → (recursive : Bool) → recursive ≡ is_recursive t → IsOpened recursive (drop n ts)
 opened_for ts n t merged at other true is =
-    opened_run ts n t merged at (ap (λ b. cond b Literal (cond (is_recursive t) Recursive Wild)) other ∙ ap (λ b. cond b Recursive Wild) (sym is))
+    opened_run ts n t merged at (ap (λ b. cond b Literal (cond (is_recursive t) Recursive Wild)) other ∙ ap
+    (λ b. cond b Recursive Wild) (sym is))
 opened_for ts n t merged at other false is =
-    subst (IsOpened false) (sym at) (ap (λ b. cond b Literal (cond (is_recursive t) Recursive Wild)) other ∙ ap (λ b. cond b Recursive Wild) (sym is))
+    subst (IsOpened false) (sym at) (ap (λ b. cond b Literal (cond (is_recursive t) Recursive Wild)) other ∙ ap
+    (λ b. cond b Recursive Wild) (sym is))
 
 -- one more component
-pub merged-skip : (before : List Text) (parts rest : List Text) (run : Bool) (t : Text) → ((others : List Text) → merged (before ++ others) ≡ parts ++ merged_after run others)
+pub merged-skip : (before : List Text) (parts rest : List Text) (run : Bool) (t : Text) → ((others : List Text)
+    → merged (before ++ others) ≡ parts ++ merged_after run others)
     → (run && is_recursive t) ≡ true → merged ((before ++ t ∷ []) ++ rest) ≡ parts ++ merged_after (is_recursive t) rest
 merged-skip before parts rest run t so_far h =
     ap merged (append_assoc before (t ∷ []) rest) ∙ so_far (t ∷ rest)
-    ∙ ap (λ ts. parts ++ ts) (ap (λ b. cond b (merged_after true rest) (t ∷ merged_after (is_recursive t) rest)) h ∙ ap (λ b. merged_after b rest) (sym (and_parts run (is_recursive t) h).1))
+    ∙ ap (λ ts. parts ++ ts) (ap (λ b. cond b (merged_after true rest) (t ∷ merged_after (is_recursive t) rest)) h ∙ ap
+    (λ b. merged_after b rest) (sym (and_parts run (is_recursive t) h).1))
 
-pub merged-push : (before : List Text) (parts rest : List Text) (run : Bool) (t : Text) → ((others : List Text) → merged (before ++ others) ≡ parts ++ merged_after run others)
+pub merged-push : (before : List Text) (parts rest : List Text) (run : Bool) (t : Text) → ((others : List Text)
+    → merged (before ++ others) ≡ parts ++ merged_after run others)
     → (run && is_recursive t) ≡ false → merged ((before ++ t ∷ []) ++ rest) ≡ (parts ++ t ∷ []) ++ merged_after (is_recursive t) rest
 merged-push before parts rest run t so_far h =
     ap merged (append_assoc before (t ∷ []) rest) ∙ so_far (t ∷ rest)
@@ -85,18 +94,22 @@ merged-push before parts rest run t so_far h =
     ∙ sym (append_assoc parts (t ∷ []) (merged_after (is_recursive t) rest))
 
 module _ (c : Content) (o : MatchOptions) (directories : Bool) where
-  -- what comes after a component counts by what comes of it alone
+  -- what follows a component matters only by what it does
   after_other : (t : Text) (xs ys : List Text) → is_recursive t ≡ false → enter c o directories xs ≡ enter c o directories ys
       → enter c o directories (t ∷ xs) ≡ enter c o directories (t ∷ ys)
   after_other t xs ys other e = λ i path d. by_kind (component_kind t) refl path d i
     where
-      by_kind : (k : ComponentKind) → component_kind t ≡ k → (path : Text) (d : Bool) → enter c o directories (t ∷ xs) path d ≡ enter c o directories (t ∷ ys) path d
-      by_kind Literal k path d = enter-literal c o directories t xs path d k ∙ ap (λ f. by_name c f t path d) e ∙ sym (enter-literal c o directories t ys path d k)
-      by_kind Wild k path true = enter-wild c o directories t xs path k ∙ ap (λ f. by_match c o f t path) e ∙ sym (enter-wild c o directories t ys path k)
+      by_kind : (k : ComponentKind) → component_kind t ≡ k → (path : Text) (d : Bool) → enter c o directories
+          (t ∷ xs) path d ≡ enter c o directories (t ∷ ys) path d
+      by_kind Literal k path d = enter-literal c o directories t xs path d k ∙ ap (λ f. by_name c f t path d) e ∙ sym
+          (enter-literal c o directories t ys path d k)
+      by_kind Wild k path true = enter-wild c o directories t xs path k ∙ ap (λ f. by_match c o f t path) e ∙ sym
+          (enter-wild c o directories t ys path k)
       by_kind Wild k path false = enter_none c o directories t xs path k ∙ sym (enter_none c o directories t ys path k)
       by_kind Recursive k path d = absurd (both_ways (is_recursive t) other (kind-Recursive t k))
 
-  after_first_recursive : (t u : Text) (xs ys : List Text) → is_recursive t ≡ true → is_recursive u ≡ false → enter c o directories xs ≡ enter c o directories ys
+  after_first_recursive : (t u : Text) (xs ys : List Text) → is_recursive t ≡ true → is_recursive u ≡ false
+      → enter c o directories xs ≡ enter c o directories ys
       → enter c o directories (t ∷ u ∷ xs) ≡ enter c o directories (t ∷ u ∷ ys)
   unfolding meet
   after_first_recursive t u xs ys h other e = λ i path d. by_directory path d i
@@ -113,7 +126,7 @@ module _ (c : Content) (o : MatchOptions) (directories : Bool) where
           enter-recursive_none c o directories t (u ∷ xs) path (recursive-kind t h) other
           ∙ sym (enter-recursive_none c o directories t (u ∷ ys) path (recursive-kind t h) other)
 
-  -- merged components are entered in the same way, by themselves and after a `**`
+  -- merged components do the same, by themselves and after a `**`
   abbrev AreAsMerged : List Text → Type 0
   AreAsMerged ts =
       (enter c o directories (merged ts) ≡ enter c o directories ts)
@@ -123,7 +136,8 @@ module _ (c : Content) (o : MatchOptions) (directories : Bool) where
   as_merged [] = (refl, λ t h. refl)
   as_merged (u ∷ us) = let later = as_merged us in (alone later (is_recursive u) refl, λ t h. after later t h (is_recursive u) refl)
     where
-      alone : AreAsMerged us → (r : Bool) → is_recursive u ≡ r → enter c o directories (u ∷ merged_after r us) ≡ enter c o directories (u ∷ us)
+      alone : AreAsMerged us → (r : Bool) → is_recursive u ≡ r → enter c o directories (u ∷ merged_after r us) ≡ enter
+          c o directories (u ∷ us)
       alone later true h = later.1 u h
       alone later false h = after_other u (merged us) us h later.0
 
@@ -138,14 +152,17 @@ module _ (c : Content) (o : MatchOptions) (directories : Bool) where
   pub enter-merged : (ts : List Text) → enter c o directories (merged ts) ≡ enter c o directories ts
   enter-merged ts = (as_merged ts).0
 
--- entering the components that are read is what the listing does
+-- entering the merged components is what the listing does
 pub merged_listing : (c : Content) (o : MatchOptions) (pattern : Text)
     → look_up c (λ seen. true) (enter c o (wants_directories pattern) (merged (components pattern))) (start pattern) ≡ listing c o pattern
 unfolding listing
-merged_listing c o pattern = ap (λ next. look_up c (λ seen. true) next (start pattern)) (enter-merged c o (wants_directories pattern) (components pattern))
+merged_listing c o pattern = ap (λ next. look_up c (λ seen. true) next (start pattern)) (enter-merged c o
+    (wants_directories pattern) (components pattern))
 
 -- so the plan of a pattern looks for its listing
-pub aim_listing : {A : Type 0} (c : Content) (o : MatchOptions) (pattern : Text) (plan : Plan A) → plan.options ≡ o → plan.rooted ≡ has_root pattern → plan.directories ≡ wants_directories pattern
+pub aim_listing : {A : Type 0} (c : Content) (o : MatchOptions) (pattern : Text) (plan : Plan A) → plan.options ≡ o
+    → plan.rooted ≡ has_root pattern → plan.directories ≡ wants_directories pattern
     → plan.components.items ≡ merged (components pattern) → listing_of c (aim_of plan) ≡ listing c o pattern
 aim_listing c o pattern plan options rooted directories parts =
-    (λ i. look_up c (λ seen. true) (enter c (options i) (directories i) (parts i)) (cond (rooted i) root_dir cur_dir)) ∙ merged_listing c o pattern
+    (λ i. look_up c (λ seen. true) (enter c (options i) (directories i) (parts i)) (cond (rooted i) root_dir cur_dir))
+    ∙ merged_listing c o pattern

@@ -1,4 +1,4 @@
--- Components that stand for themselves, the end, and what is no directory.
+-- Literal components, the end of the pattern, and non-directories.
 use Rattle.std.proofs.Common.{◌≡◌, ℕ, ◌+◌, Bool, true, false, cond, not, ◌||◌, List, [], ◌∷◌, drop, ap, sym, ◌∙◌}
 use Rattle.glob_text.specs.Text.{Text}
 use Rattle.glob_walk.specs.Marks.{Give, Found}
@@ -21,15 +21,18 @@ pub literal_marks : {A : Type 0} (c : Content) (plan : Plan A) (component : ℕ)
     → enter_from c plan component path d ≡ look_up c (is_accepted w) (enter_from c plan (component + 1)) (child path t)
 literal_marks c plan component path d t w at kind same =
     ap (λ ts. enter c plan.options plan.directories ts path d) at
-    ∙ enter-literal c plan.options plan.directories t (drop (component + 1) plan.components.items) path d (ap (λ b. cond b Literal (cond (is_recursive t) Recursive Wild)) kind)
+    ∙ enter-literal c plan.options plan.directories t (drop (component + 1) plan.components.items) path d
+    (ap (λ b. cond b Literal (cond (is_recursive t) Recursive Wild)) kind)
     ∙ ap (λ f. look_up c f (enter_from c plan (component + 1)) (child path t)) (λ i seen. sym (same seen) i)
 
 pub ended : {A : Type 0} (c : Content) (plan : Plan A) (component : ℕ) (path : Text) (d : Bool) → drop component plan.components.items ≡ []
     → enter_from c plan component path d ≡ cond (not plan.directories || d) (Give (Found path) ∷ []) []
-ended c plan component path d at = ap (λ ts. enter c plan.options plan.directories ts path d) at ∙ enter-end c plan.options plan.directories path d
+ended c plan component path d at = ap (λ ts. enter c plan.options plan.directories ts path d) at
+    ∙ enter-end c plan.options plan.directories path d
 
--- nothing comes of what is no directory
-pub opened_none : (c : Content) (o : MatchOptions) (dirs : Bool) (recursive : Bool) (ts : List Text) (path : Text) → IsOpened recursive ts → enter c o dirs ts path false ≡ []
+-- nothing follows at a non-directory
+pub opened_none : (c : Content) (o : MatchOptions) (dirs : Bool) (recursive : Bool) (ts : List Text) (path : Text)
+    → IsOpened recursive ts → enter c o dirs ts path false ≡ []
 opened_none c o dirs recursive [] path h = absurd h
 opened_none c o dirs false (t ∷ ts) path h = enter_none c o dirs t ts path h
 opened_none c o dirs true (t ∷ ts) path h = enter-recursive_none c o dirs t ts path h.0 h.1

@@ -1,5 +1,6 @@
--- Texts that are the same, case-sensitively or not: by their bytes and by their characters.
-use Rattle.std.proofs.Common.{◌≡◌, ℕ, zero, suc, ◌+◌, ◌/◌, ◌<◌, ◌≤◌, Bool, true, false, ◌&&◌, ◌==◌, List, [], ◌∷◌, ◌++◌, length, map, slice_index, IsTrue, refl, ap, sym, ◌∙◌, ⊎_elim, arith, rules}
+-- Texts that are equal, case-sensitively or not, by bytes and by characters.
+use Rattle.std.proofs.Common.{◌≡◌, ℕ, zero, suc, ◌+◌, ◌/◌, ◌<◌, ◌≤◌, Bool, true, false, ◌&&◌, ◌==◌, List, [], ◌∷◌, ◌++◌}
+use Rattle.std.proofs.Common.{length, map, slice_index, IsTrue, refl, ap, sym, ◌∙◌, ⊎_elim, arith, rules}
 use Rattle.std.specs.Bool.{Decides}
 use Rattle.std.specs.Char.{is_ascii, to_ascii_lowercase}
 use Rattle.std.specs.Str.{chars, IsUtf8}
@@ -16,7 +17,7 @@ use Rattle.glob_pattern.specs.Laws.{SameTexts}
 use Rattle.glob_pattern.proofs.MatchingLemmas.PlainPatterns.{SameTexts-with_case, SameTexts-itself}
 use Rattle.glob_walk.specs.Private.Forms.{same_texts}
 
--- no byte is a letter of ASCII
+-- no byte is an ASCII letter
 abbrev AreHigh : List ℕ → Type 0
 AreHigh [] = Unit {0}
 AreHigh (b ∷ bs) = (90 < b) × AreHigh bs
@@ -25,17 +26,19 @@ high_stays : (bs : List ℕ) → AreHigh bs → map to_ascii_lowercase bs ≡ bs
 high_stays [] h = refl
 high_stays (b ∷ bs) (h, hs) = ap (λ x. x ∷ map to_ascii_lowercase bs) ((lowercase_is b).2 h) ∙ ap (λ xs. b ∷ xs) (high_stays bs hs)
 
--- nor is one of a character beyond ASCII
+-- no byte of a non-ASCII character is an ASCII letter
 encode_high : (c : ℕ) → 128 ≤ c → AreHigh (encode c)
 unfolding encode
 encode_high c high =
     let one : AreHigh (c ∷ []) = (omega (arith, high), tt) in
     let two : AreHigh ((192 + c / 64) ∷ next c ∷ []) = (omega arith, (omega arith, tt)) in
     let three : AreHigh ((224 + c / 4096) ∷ next (c / 64) ∷ next c ∷ []) = (omega arith, (omega arith, (omega arith, tt))) in
-    let four : AreHigh ((240 + c / 262144) ∷ next (c / 4096) ∷ next (c / 64) ∷ next c ∷ []) = (omega arith, (omega arith, (omega arith, (omega arith, tt)))) in
-    cond_both (ltb c 128) _ _ AreHigh (λ _. one) (λ _. cond_both (ltb c 2048) _ _ AreHigh (λ _. two) (λ _. cond_both (ltb c 65536) _ _ AreHigh (λ _. three) (λ _. four)))
+    let four : AreHigh ((240 + c / 262144) ∷ next (c / 4096) ∷ next (c / 64) ∷ next c ∷ []) =
+    (omega arith, (omega arith, (omega arith, (omega arith, tt)))) in
+    cond_both (ltb c 128) _ _ AreHigh (λ _. one) (λ _. cond_both (ltb c 2048) _ _ AreHigh (λ _. two) (λ _. cond_both
+    (ltb c 65536) _ _ AreHigh (λ _. three) (λ _. four)))
 
--- letters are made small in the bytes as in the characters
+-- lowering the bytes lowers the characters
 encode_lower : (c : ℕ) → map to_ascii_lowercase (encode c) ≡ encode (to_ascii_lowercase c)
 encode_lower c =
     ⊎_elim (λ low. ap (map to_ascii_lowercase) (encode_ascii c low) ∙ sym (encode_ascii (to_ascii_lowercase c) (lowercase_ascii c low)))
@@ -52,7 +55,7 @@ encodes_lower (c ∷ cs) =
 bytes_lower : (text : Text) → IsUtf8 text → map to_ascii_lowercase text ≡ encodes (map to_ascii_lowercase (chars text))
 bytes_lower text utf8 = ap (map to_ascii_lowercase) (sym (encodes-chars text utf8)) ∙ encodes_lower (chars text)
 
--- characters are the same case-insensitively exactly if they are equal once letters are made small
+-- characters are the same case-insensitively exactly if they are equal in lower case
 small_from_same : (c x : ℕ) → IsTrue (is_same false c x) → to_ascii_lowercase c ≡ to_ascii_lowercase x
 small_from_same c x h =
     ⊎_elim (λ e. ap to_ascii_lowercase (eqb-true c x e))
@@ -85,11 +88,13 @@ SameTexts-from_small (x ∷ xs) (y ∷ ys) e =
     at first later zero b = first
     at first later (suc k) b = later k (omega (arith, b))
 
--- the comparison of the bytes decides whether the characters are the same
-pub Decides-same_texts : (case : Bool) (xs ys : Text) → IsUtf8 xs → IsUtf8 ys → Decides (same_texts case xs ys) (SameTexts case (chars xs) (chars ys))
+-- comparing bytes decides whether the characters are the same
+pub Decides-same_texts : (case : Bool) (xs ys : Text) → IsUtf8 xs → IsUtf8 ys → Decides (same_texts case xs ys)
+    (SameTexts case (chars xs) (chars ys))
 Decides-same_texts true xs ys u v = (
   (λ h. SameTexts-itself true (chars xs) (chars ys) (ap chars ((bytes_eq-Decides xs ys).0 h))),
-  (λ s. (bytes_eq-Decides xs ys).1 (sym (encodes-chars xs u) ∙ ap encodes (SameTexts-with_case (chars xs) (chars ys) s) ∙ encodes-chars ys v)),
+  (λ s. (bytes_eq-Decides xs ys).1 (sym (encodes-chars xs u) ∙ ap encodes (SameTexts-with_case (chars xs) (chars ys) s)
+      ∙ encodes-chars ys v)),
 )
 Decides-same_texts false xs ys u v =
     let decides = bytes_eq-Decides (map to_ascii_lowercase xs) (map to_ascii_lowercase ys) in (

@@ -1,5 +1,6 @@
 -- The last directory of a walk.
-use Rattle.std.proofs.Common.{◌≡◌, ℕ, suc, ◌+◌, ◌≤◌, true, false, Option, None, List, [], ◌∷◌, ◌++◌, length, drop, take, get_or, set, subst, refl, ap, sym, ◌∙◌, arith, append_assoc}
+use Rattle.std.proofs.Common.{◌≡◌, ℕ, suc, ◌+◌, ◌≤◌, true, false, Option, None, List, [], ◌∷◌, ◌++◌, length, drop, take}
+use Rattle.std.proofs.Common.{get_or, set, subst, refl, ap, sym, ◌∙◌, arith, append_assoc}
 use Rattle.std.specs.Prelude.{flat_map, nat_le, string_bytes}
 use Rattle.std.specs.List.{All}
 use Rattle.std.proofs.lemmas.List.{take-append-drop, drop_more, set_split, take-set, reverse-append}
@@ -38,13 +39,14 @@ set_last xs n y h = set_split xs n y (omega (arith, h)) ∙ ap (λ ys. take n xs
 pub front_last : {X : Type 0} (xs : List X) (n : ℕ) (y : X) → n + 1 ≡ length xs → take n (set xs n y) ≡ take n xs
 front_last xs n y h = take-set xs n y
 
-pub All-front : {X : Type 0} (P : X → Type 0) (xs ys : List X) (n : ℕ) (y : X) → n + 1 ≡ length xs → ys ≡ take n (set xs n y) → All P xs → All P ys
+pub All-front : {X : Type 0} (P : X → Type 0) (xs ys : List X) (n : ℕ) (y : X) → n + 1 ≡ length xs → ys ≡ take n
+    (set xs n y) → All P xs → All P ys
 All-front P xs ys n y h is all = subst (All P) (sym (is ∙ front_last xs n y h)) (All-take P n xs all)
 
 test_le : (n i : ℕ) → nat_le n i ≡ true → n ≤ i
 test_le n i h = grind (arith, nat_tests)
 
--- a directory that is done leaves nothing
+-- a finished directory leaves nothing
 pub done_marks : {A : Type 0} (c : Content) (plan : Plan A) (f : Frame A) → is_done f ≡ true → frame_marks c plan f ≡ []
 done_marks {A} c plan f h = of_place f.cursor h
   where
@@ -54,21 +56,23 @@ done_marks {A} c plan f h = of_place f.cursor h
     past : (i : ℕ) → nat_le (length f.entries.items) i ≡ true → drop i (entries_of f.entries.items) ≡ []
     past i t = nothing_past (entries_of f.entries.items) i (simp length-map (test_le (length f.entries.items) i t))
 
-    of_place : (p : Cursor) → is_done_at (length f.entries.items) p ≡ true → cursor_marks c plan f.recursive f.component (string_bytes f.path) (entries_of f.entries.items) p ≡ []
+    of_place : (p : Cursor) → is_done_at (length f.entries.items) p ≡ true → cursor_marks c plan f.recursive
+        f.component (string_bytes f.path) (entries_of f.entries.items) p ≡ []
     of_place Parent t = absurd (both_ways false refl t)
     of_place Current t = absurd (both_ways false refl t)
     of_place (At i) t = ap (entries_marks c plan f.recursive f.component (string_bytes f.path)) (past i t)
     of_place (Inside i) t = ap (inside_marks c plan f.recursive f.component (string_bytes f.path)) (past i t)
 
--- with no task, what is left is that of the directories
+-- without a task, what is left is in the directories
 pub left_none : {A : Type 0} (c : Content) (s : Stack A) → s.next ≡ None → frames_marks c s.plan s.frames.items ≡ left c s
 left_none c s none = ap (λ n. next_marks c s.plan n ++ frames_marks c s.plan s.frames.items) (sym none)
 
--- and with no question, what is left is that of the stack
-pub left_free : {A : Type 0} (c : Content) (plan : Plan A) (q : Option (Query A)) (ms : List Mark) → q ≡ None → ms ≡ query_marks c plan q ++ ms
+-- without an open question, what is left is in the stack
+pub left_free : {A : Type 0} (c : Content) (plan : Plan A) (q : Option (Query A)) (ms : List Mark) → q ≡ None
+    → ms ≡ query_marks c plan q ++ ms
 left_free c plan q ms free = ap (λ x. query_marks c plan x ++ ms) (sym free)
 
--- with no task, the directories are sound
+-- without a task, the directories are sound
 pub sound_none : {A : Type 0} (c : Content) (s : Stack A) → s.next ≡ None → All (IsFrameSound c) s.frames.items → IsSound c s
 sound_none c s none frames = record { next = subst (IsNextSound c) (sym none) tt; frames = frames }
 
@@ -76,7 +80,8 @@ pub sound_free : {A : Type 0} (c : Content) (w : Walker A) → w.query ≡ None 
 sound_free c w free stack = record { query = subst (IsQuerySound c) (sym free) tt; stack = stack }
 
 module _ {A : Type 0} (c : Content) (plan : Plan A) where
-  pub frames_last : (fs : List (Frame A)) (f : Frame A) → frames_marks c plan (fs ++ f ∷ []) ≡ frame_marks c plan f ++ frames_marks c plan fs
+  pub frames_last : (fs : List (Frame A)) (f : Frame A) → frames_marks c plan (fs ++ f ∷ []) ≡ frame_marks c plan f ++
+      frames_marks c plan fs
   frames_last fs f = ap (flat_map (frame_marks c plan)) (reverse-append fs (f ∷ []))
 
   pub step_left : (fs : List (Frame A)) (n : ℕ) (f g : Frame A) (next : List Mark) → n + 1 ≡ length fs → f ≡ get_or fs n f
@@ -90,7 +95,8 @@ module _ {A : Type 0} (c : Content) (plan : Plan A) where
 
   -- the last directory takes its last step
   pub last_step_left : (fs rest : List (Frame A)) (n : ℕ) (f g : Frame A) (next : List Mark) → n + 1 ≡ length fs → f ≡ get_or fs n f
-      → frame_marks c plan f ≡ next ++ frame_marks c plan g → is_done g ≡ true → rest ≡ take n (set fs n g) → frames_marks c plan fs ≡ next ++ frames_marks c plan rest
+      → frame_marks c plan f ≡ next ++ frame_marks c plan g → is_done g ≡ true → rest ≡ take n (set fs n g)
+      → frames_marks c plan fs ≡ next ++ frames_marks c plan rest
   last_step_left fs rest n f g next h is went done popped =
       step_left fs n f g next h is went
       ∙ ap (λ ms. next ++ ms)

@@ -11,7 +11,7 @@ use Rattle.glob_walk.specs.Components.{ComponentKind, Literal, Recursive, Wild, 
 use Rattle.glob_walk.specs.declared.component.Form.{Form}
 use Rattle.glob_walk.specs.declared.component.Form.TheVariants as form
 
--- the component's text
+-- the text of the component
 abbrev pub form_text : {A : Type 0} → Form A → Text
 form_text (form.Literal text) = string_bytes text
 form_text form.Recursive = star ∷ star ∷ []
@@ -22,11 +22,11 @@ form_kind (form.Literal text) = Literal
 form_kind form.Recursive = Recursive
 form_kind (form.Wild pattern) = Wild
 
--- the kind that is kept is that of the text
+-- the form has the kind of its text
 abbrev pub KeepsKind : {A : Type 0} → Form A → Type 0
 KeepsKind f = component_kind (form_text f) ≡ form_kind f
 
--- a component that is no `**` matches the name
+-- the component matches the name; `**` matches none
 abbrev pub takes_name : MatchOptions → (component name : Text) → Bool
 takes_name o component name = not (is_recursive component) && matches_name o component name
 
@@ -34,6 +34,6 @@ takes_name o component name = not (is_recursive component) && matches_name o com
 abbrev pub text_fault : Text → Option Fault
 text_fault t = result_err (reading_of (chars t))
 
--- the texts are the same, case-sensitively or not
+-- the texts are equal, case-sensitively or not
 abbrev pub same_texts : (case : Bool) → Text → Text → Bool
 same_texts case text other = if case then bytes_eq text other else str_eq_ignore_ascii_case text other

@@ -1,4 +1,4 @@
--- What the frames of a walk leave of the written listing.
+-- What is left of the written listing in the frames of a walk.
 use Rattle.std.specs.Prelude.{◌≡◌, ℕ, ◌+◌, ◌-◌, ◌*◌, Bool, true, false, if◌then◌else◌, List, [], ◌∷◌, ◌++◌, length, drop, flat_map, Option, Some, None, string_bytes, nat_le, Contains}
 use Rattle.std.specs.Path.{cur_dir, parent_dir}
 use Rattle.glob_text.specs.Text.{Text}
@@ -16,16 +16,16 @@ use Rattle.glob_walk.specs.declared.frame.Cursor.TheVariants as cursor
 use Rattle.glob_walk.specs.Private.Forms.{takes_name}
 use Rattle.glob_walk.specs.Private.Tasks.{enter_from, is_dotted}
 
--- what is made of an entry that is met: the components from number `at` on follow
+-- what follows at an entry that is met: the components from number `at` on
 abbrev pub met_marks : {A : Type 0} → Content → Plan A → Text → DirEntry → Option ℕ → List Mark
 met_marks c plan path e None = []
 met_marks c plan path e (Some at) = enter_from c plan at (child path e.0) e.1
 
--- what comes of an entry that the component takes
+-- what follows at an entry, if the component takes its name
 abbrev pub take_at : MatchOptions → (next : Next) → (component path name : Text) → Bool → List Mark
 take_at o next component path name d = if takes_name o component name then next path d else []
 
--- an entry is met: by the component, or under `**` by what follows it
+-- an entry is met by the component, or under `**` by the one after it
 abbrev pub first_of : Content → MatchOptions → Bool → Bool → List Text → Text → DirEntry → List Mark
 first_of c o dirs recursive [] path e = []
 first_of c o dirs false (t ∷ ts) path e = take_at o (enter c o dirs ts) t (child path e.0) e.0 e.1
@@ -41,14 +41,14 @@ second_part c plan false component path e = []
 second_part c plan true component path e =
     if is_entered plan.options e.0 e.1 then enter_from c plan component (child path e.0) true else []
 
--- the two parts, of an entry of a directory
+-- the two parts, for an entry of a directory
 abbrev pub first_marks : {A : Type 0} → Content → Plan A → Frame A → DirEntry → List Mark
 first_marks c plan f e = first_part c plan f.recursive f.component (string_bytes f.path) e
 
 abbrev pub second_marks : {A : Type 0} → Content → Plan A → Frame A → DirEntry → List Mark
 second_marks c plan f e = second_part c plan f.recursive f.component (string_bytes f.path) e
 
--- all that comes of an entry
+-- all that follows at an entry
 abbrev pub entry_marks : {A : Type 0} → Content → Plan A → Bool → ℕ → Text → DirEntry → List Mark
 entry_marks c plan recursive component path e = first_part c plan recursive component path e ++ second_part c plan recursive component path e
 
@@ -64,7 +64,7 @@ special_marks c plan component path name =
 abbrev pub entries_marks : {A : Type 0} → Content → Plan A → Bool → ℕ → Text → List DirEntry → List Mark
 entries_marks c plan recursive component path es = flat_map (entry_marks c plan recursive component path) es
 
--- what is left after an entry was met: `**` enters it, and the entries after it follow
+-- what is left after an entry was met: `**` enters it, and then come the entries after it
 abbrev pub inside_marks : {A : Type 0} → Content → Plan A → Bool → ℕ → Text → List DirEntry → List Mark
 inside_marks c plan recursive component path [] = []
 inside_marks c plan recursive component path (e ∷ es) =
@@ -80,11 +80,11 @@ cursor_marks c plan recursive component path es cursor.Current =
 cursor_marks c plan recursive component path es (cursor.At i) = entries_marks c plan recursive component path (drop i es)
 cursor_marks c plan recursive component path es (cursor.Inside i) = inside_marks c plan recursive component path (drop i es)
 
--- what is left of a directory
+-- what is left in a directory
 abbrev pub frame_marks : {A : Type 0} → Content → Plan A → Frame A → List Mark
 frame_marks c plan f = cursor_marks c plan f.recursive f.component (string_bytes f.path) (entries_of f.entries.items) f.cursor
 
--- the steps that are left in a directory: at most two for each entry, and one for each of `..` and `.`
+-- the number of steps left in a directory: at most two for each entry, and one each for `..` and `.`
 abbrev pub cursor_steps : ℕ → Cursor → ℕ
 cursor_steps n cursor.Parent = 2 * n + 2
 cursor_steps n cursor.Current = 2 * n + 1
@@ -94,7 +94,7 @@ cursor_steps n (cursor.Inside i) = 2 * (n - i) - 1
 abbrev pub steps_left : {A : Type 0} → Frame A → ℕ
 steps_left f = cursor_steps (length f.entries.items) f.cursor
 
--- the entries that are not met
+-- the number of entries not met yet
 abbrev pub cursor_unmet : ℕ → Cursor → ℕ
 cursor_unmet n cursor.Parent = n
 cursor_unmet n cursor.Current = n
@@ -111,17 +111,17 @@ is_done_at n cursor.Current = false
 is_done_at n (cursor.At i) = nat_le n i
 is_done_at n (cursor.Inside i) = nat_le n i
 
--- nothing is left of a directory
+-- nothing is left in a directory
 abbrev pub is_done : {A : Type 0} → Frame A → Bool
 is_done f = is_done_at (length f.entries.items) f.cursor
 
--- an entry that is said to be a directory is looked at as one
+-- an entry reported as a directory is one
 abbrev pub IsEntrySound : Content → Text → DirEntry → Type 0
 IsEntrySound c path e = e.1 ≡ true → is_directory (look_result c (child path e.0)) ≡ true
 
 pub record IsFrameSound {A : Type 0} (c : Content) (f : Frame A) : Type 0 where
   pub entries : (e : DirEntry) → Contains (entries_of f.entries.items) e → IsEntrySound c (string_bytes f.path) e
 
--- the cursor at which a directory begins: before `..` for a component that begins with a dot, as `**` never does
+-- the first cursor in a directory: before `..` if the component begins with a dot, which `**` never does
 abbrev pub first_cursor : List Text → Cursor
 first_cursor ts = if is_dotted ts then cursor.Parent else cursor.At 0

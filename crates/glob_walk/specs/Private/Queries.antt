@@ -1,4 +1,4 @@
--- What an open question stands for in the written listing. Its unit is charged.
+-- What is left of the written listing for an open question. Its unit is charged.
 use Rattle.std.specs.Prelude.{◌≡◌, ℕ, true, if◌then◌else◌, List, [], drop, Option, Some, None, string_bytes}
 use Rattle.glob_text.specs.Text.{Text}
 use Rattle.glob_tree.specs.Content.{Content, look_result}
@@ -12,7 +12,7 @@ use Rattle.glob_walk.specs.declared.query.QueryKind.{QueryKind}
 use Rattle.glob_walk.specs.declared.query.QueryKind.TheVariants as kind
 use Rattle.glob_walk.specs.declared.stack.Stack.{Stack}
 
--- what contracts see of it
+-- what contracts see of the question
 abbrev pub asked_of : Text → QueryKind → Question
 asked_of path (kind.Look w) = LookAt path
 asked_of path (kind.List recursive kinds) = ListAt kinds path
@@ -21,7 +21,7 @@ abbrev pub question_of : {A : Type 0} → Option (Query A) → Option Question
 question_of None = None
 question_of (Some q) = Some (asked_of (string_bytes q.path) q.kind)
 
--- what comes of the path once the question is answered
+-- what follows at the path after the answer
 abbrev pub kind_marks : {A : Type 0} → Content → Plan A → ℕ → Text → QueryKind → List Mark
 kind_marks c plan component path (kind.Look w) =
     if is_accepted w (look_result c path) then enter_from c plan component path (is_directory (look_result c path)) else []
@@ -31,7 +31,7 @@ abbrev pub query_marks : {A : Type 0} → Content → Plan A → Option (Query A
 query_marks c plan None = []
 query_marks c plan (Some q) = kind_marks c plan q.component (string_bytes q.path) q.kind
 
--- what is listed is looked at as a directory
+-- a path that is listed is a directory
 abbrev pub IsKindSound : Content → Text → QueryKind → Type 0
 IsKindSound c path (kind.Look w) = Unit {0}
 IsKindSound c path (kind.List recursive kinds) = is_directory (look_result c path) ≡ true
@@ -40,7 +40,7 @@ abbrev pub IsQuerySound : {A : Type 0} → Content → Option (Query A) → Type
 IsQuerySound c None = Unit {0}
 IsQuerySound c (Some q) = IsKindSound c (string_bytes q.path) q.kind
 
--- what is listed is listed for a component, and nothing else is to do first
+-- a listing is for a component, and nothing else has to be done first
 abbrev pub IsKindOpened : {A : Type 0} → Plan A → ℕ → QueryKind → Type 0
 IsKindOpened plan component (kind.Look w) = Unit {0}
 IsKindOpened plan component (kind.List recursive kinds) = IsListedFor plan component recursive kinds
@@ -49,7 +49,7 @@ abbrev pub IsQueryOpened : {A : Type 0} → Stack A → Option (Query A) → Typ
 IsQueryOpened s None = Unit {0}
 IsQueryOpened s (Some q) = (s.next ≡ None) × IsKindOpened s.plan q.component q.kind
 
--- how many items may come before the next unit
+-- how many items can come before the next unit
 abbrev pub query_ready : {A : Type 0} → Option (Query A) → ℕ
 query_ready None = 0
 query_ready (Some q) = 1

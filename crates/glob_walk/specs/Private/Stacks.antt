@@ -1,4 +1,4 @@
--- What a walk has still to do, as a part of the written listing.
+-- What a walk still has to do, as a part of the written listing.
 use Rattle.std.specs.Prelude.{ℕ, ◌+◌, ◌*◌, List, ◌++◌, reverse, flat_map, Option, Some, None, sum_by}
 use Rattle.std.specs.List.{All}
 use Rattle.glob_walk.specs.Listing.{Aim}
@@ -13,7 +13,7 @@ use Rattle.glob_walk.specs.declared.stack.Stack.{Stack}
 use Rattle.glob_walk.specs.Private.Tasks.{next_marks, next_ready, IsNextSound}
 use Rattle.glob_walk.specs.Private.Frames.{frame_marks, steps_left, unmet, IsFrameSound}
 
--- what a walk by the plan looks for
+-- what a walk of the plan looks for
 abbrev pub aim_of : {A : Type 0} → Plan A → Aim
 aim_of plan = record {
   options = plan.options;
@@ -22,7 +22,7 @@ aim_of plan = record {
   directories = plan.directories;
 }
 
--- the last directory first
+-- from the last directory to the first
 abbrev pub frames_marks : {A : Type 0} → Content → Plan A → List (Frame A) → List Mark
 frames_marks c plan frames = flat_map (frame_marks c plan) (reverse frames)
 
@@ -45,11 +45,11 @@ frame_weight f = 3 * steps_left f + 1
 abbrev pub weight : {A : Type 0} → Stack A → ℕ
 weight s = next_weight s.next + sum_by frame_weight s.frames.items
 
--- how many items may come before the next unit
+-- how many items can come before the next unit
 abbrev pub ready : {A : Type 0} → Stack A → ℕ
 ready s = next_ready s.plan s.next + sum_by unmet s.frames.items
 
--- what is said to be a directory is looked at as one
+-- what is reported as a directory is one
 pub record IsSound {A : Type 0} (c : Content) (s : Stack A) : Type 0 where
   pub next : IsNextSound c s.next
   pub frames : All (IsFrameSound c) s.frames.items

@@ -1,4 +1,4 @@
--- What a task stands for in the written listing.
+-- What is left of the written listing for a task.
 use Rattle.std.specs.Prelude.{◌≡◌, ℕ, ◌+◌, ◌<◌, Bool, true, false, if◌then◌else◌, List, [], ◌∷◌, length, drop, Option, Some, None, string_bytes, nat_le}
 use Rattle.glob_text.specs.Text.{Text}
 use Rattle.glob_walk.specs.Marks.{Mark}
@@ -16,17 +16,17 @@ use Rattle.glob_walk.specs.declared.task.TaskState.{TaskState}
 use Rattle.glob_walk.specs.declared.task.TaskState.TheVariants as state
 use Rattle.glob_walk.specs.declared.task.Task.{Task}
 
--- the walk goes on after this answer to a look
+-- the walk goes on after this look
 abbrev pub is_accepted : Accepted → Look → Bool
 is_accepted accepted.Any seen = true
 is_accepted accepted.Present seen = is_there seen
 is_accepted accepted.Nothing seen = false
 
--- what comes of a path, with the components from a number on left
+-- what follows at a path, with the components from a number on
 abbrev pub enter_from : {A : Type 0} → Content → Plan A → ℕ → Text → Bool → List Mark
 enter_from c plan component = enter c plan.options plan.directories (drop component plan.components.items)
 
--- what comes of a path that is looked up, or that is known to be there
+-- what follows at a path that has to be looked up, or that is known to be there
 abbrev pub state_marks : {A : Type 0} → Content → Plan A → ℕ → Text → TaskState → List Mark
 state_marks c plan component path (state.Unseen w) = look_up c (is_accepted w) (enter_from c plan component) path
 state_marks c plan component path (state.Seen d) = enter_from c plan component path d
@@ -38,7 +38,7 @@ abbrev pub next_marks : {A : Type 0} → Content → Plan A → Option (Task A) 
 next_marks c plan None = []
 next_marks c plan (Some t) = task_marks c plan t
 
--- what is said to be a directory is looked at as one
+-- what is reported as a directory is one
 abbrev pub IsStateSound : Content → Text → TaskState → Type 0
 IsStateSound c path (state.Unseen w) = Unit {0}
 IsStateSound c path (state.Seen d) = d ≡ true → is_directory (look_result c path) ≡ true
@@ -47,7 +47,7 @@ abbrev pub IsNextSound : {A : Type 0} → Content → Option (Task A) → Type 0
 IsNextSound c None = Unit {0}
 IsNextSound c (Some t) = IsStateSound c (string_bytes t.path) t.state
 
--- how many items may come before the next unit
+-- how many items can come before the next unit
 abbrev pub state_ready : Bool → TaskState → ℕ
 state_ready last (state.Unseen w) = 0
 state_ready last (state.Seen d) = if last then 1 else 0
@@ -56,19 +56,19 @@ abbrev pub next_ready : {A : Type 0} → Plan A → Option (Task A) → ℕ
 next_ready plan None = 0
 next_ready plan (Some t) = state_ready (nat_le (length plan.components.items) t.component) t.state
 
--- a directory is listed for the first component: one that is matched, or a `**` with none right after it
+-- a directory is listed for the first component: one with wildcards, or a `**` that has no `**` right after it
 abbrev pub IsOpened : Bool → List Text → Type 0
 IsOpened recursive [] = ⊥
 IsOpened false (t ∷ ts) = component_kind t ≡ Wild
 IsOpened true (t ∷ ts) = (component_kind t ≡ Recursive) × (begins_recursive ts ≡ false)
 
--- No entry's kind changes what follows: the component is no `**` and the last, and directories are not wanted.
+-- The kinds of the entries do not matter: the component is the last and not `**`, and not only directories are wanted.
 pub record IgnoresKinds {A : Type 0} (plan : Plan A) (component : ℕ) (recursive : Bool) : Type 0 where
   pub single : recursive ≡ false
   pub last : drop (component + 1) plan.components.items ≡ []
   pub any : plan.directories ≡ false
 
--- A directory is listed for the component with the number: with the kinds of its entries, or for their names alone.
+-- A directory is listed for the component of this number, with the kinds of its entries or only their names.
 pub record IsListedFor {A : Type 0} (plan : Plan A) (component : ℕ) (recursive kinds : Bool) : Type 0 where
   pub within : component < length plan.components.items
   pub opens : IsOpened recursive (drop component plan.components.items)

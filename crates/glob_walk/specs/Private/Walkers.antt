@@ -1,4 +1,4 @@
--- What a walk has still to do, of the open question and then of the stack, and what is true of it between two steps.
+-- What a walk still has to do: the open question, and then the stack; and what holds between two steps.
 use Rattle.std.specs.Prelude.{◌≡◌, ℕ, ◌+◌, ◌≤◌, ◌<◌, ◌^◌, Bool, true, false, None, List, ◌++◌}
 use Rattle.glob_walk.specs.Marks.{Mark}
 use Rattle.glob_tree.specs.Content.{Content}
@@ -11,11 +11,11 @@ use Rattle.glob_walk.specs.Private.Stacks.{left, ready, IsSound}
 abbrev pub walk_left : {A : Type 0} → Content → Walker A → List Mark
 walk_left c w = query_marks c w.stack.plan w.query ++ left c w.stack
 
--- how many items may come before the next unit
+-- how many items can come before the next unit
 abbrev pub walk_ready : {A : Type 0} → Walker A → ℕ
 walk_ready w = query_ready w.query + ready w.stack
 
--- what is said to be a directory is looked at as one
+-- what is reported as a directory is one
 pub record IsWalkSound {A : Type 0} (c : Content) (w : Walker A) : Type 0 where
   pub query : IsQuerySound c w.query
   pub stack : IsSound c w.stack
@@ -24,12 +24,12 @@ pub record IsWalkSound {A : Type 0} (c : Content) (w : Walker A) : Type 0 where
 abbrev pub Walk : Type 0 → Progress
 Walk A = record { State = Walker A; left = walk_left; Agrees = IsWalkSound }
 
--- what is true of a walk that is not over
+-- what holds of a walk that is not over
 pub record IsUnderWay {A : Type 0} (w : Walker A) (given : ℕ) : Type 0 where
   pub ready : given + walk_ready w ≤ w.meter.spent
   pub opened : IsQueryOpened w.stack w.query
 
--- what is true of a walk between two steps, over or not
+-- what holds of every walk between two steps
 pub record IsGood {A : Type 0} (w : Walker A) (given : ℕ) (over : Bool) : Type 0 where
   pub fits : w.meter.limit < 2 ^ 64
   pub few : given ≤ w.meter.spent + 1

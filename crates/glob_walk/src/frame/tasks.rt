@@ -1,6 +1,6 @@
-//! The tasks that come of a directory's entries, and of `.` and `..` in it.
+//! The tasks that follow from a directory's entries, and from `.` and `..` in it.
 //!
-//! Each step leaves at most one task, and a child's path is made only with its task.
+//! Each step makes at most one task, and builds a child's path only for its task.
 ghost use Rattle.std.specs.Prelude.{◌≡◌, ◌+◌, ◌<◌, None, IfOk, string_bytes, if◌then◌else◌, vec_len};
 ghost use Rattle.glob_tree.specs.Content.{Content};
 ghost use Rattle.glob_walk.specs.Listing.{is_entered as is_entered_entry};
@@ -18,7 +18,8 @@ use glob_tree::{Entry, child, join};
 use std::alloc::{AllocError, Allocator};
 
 impl<A: Allocator + Copy> Frame<A> {
-    /// The look at `..` or `.` in the directory (joined also to `.`: `./..`), if the component matches that name.
+    /// The look at `..` or `.` in the directory, if the component matches that name. The name is joined even to `.`:
+    /// `./..`.
     pub(super) fn special_task(
         &self,
         plan: &Plan<A>,
@@ -44,7 +45,7 @@ impl<A: Allocator + Copy> Frame<A> {
         }))
     }
 
-    /// The task to go on at an entry, if its name is met. It makes the child's path only then.
+    /// The task that goes on at an entry, if its name is met. The child's path is built only then.
     pub(super) fn met_task(
         &self,
         plan: &Plan<A>,
@@ -72,7 +73,7 @@ impl<A: Allocator + Copy> Frame<A> {
         }))
     }
 
-    /// The task to go on with the same `**` in an entry, if it enters it.
+    /// The task that goes on with the same `**` in an entry, if the `**` enters it.
     pub(super) fn entered_task(
         &self,
         plan: &Plan<A>,
@@ -101,8 +102,8 @@ impl<A: Allocator + Copy> Frame<A> {
     }
 }
 
-/// The number of the component from which the walk goes on at an entry, if the entry is met: by the component with the
-/// number, or under `**` by the one after it. A `**` at the pattern's end meets each entry that it enters.
+/// The number of the component with which the walk goes on at an entry, if the entry is met: by the component of this
+/// number, or under `**` by the next one. A `**` at the pattern's end meets each entry that it enters.
 fn meet<A: Allocator + Copy>(
     plan: &Plan<A>,
     recursive: bool,
@@ -124,7 +125,7 @@ fn meet<A: Allocator + Copy>(
     }
 }
 
-/// The number `next`, if the component matches the name.
+/// `next`, if the component matches the name.
 fn match_at<A: Allocator + Copy>(
     plan: &Plan<A>,
     component: &Component<A>,
@@ -142,7 +143,7 @@ fn match_at<A: Allocator + Copy>(
     }
 }
 
-/// Whether `**` enters an entry: a directory whose name it may take.
+/// Whether `**` enters an entry: a directory whose name the dot rule lets it take.
 fn is_entered(options: MatchOptions, name: &str, is_dir: bool) -> bool
     ensures { result ≡ is_entered_entry options name.now is_dir }
 {

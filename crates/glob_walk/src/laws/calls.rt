@@ -1,4 +1,4 @@
-//! Laws that tie calls of patterns.
+//! Laws that relate calls of patterns.
 ghost use Rattle.std.specs.Prelude.{◌≡◌, IsTrue, IfErr, IfOk};
 
 use crate::laws::patterns::accepted_has_no_fault;
@@ -6,7 +6,7 @@ use glob_pattern::{MatchOptions, Pattern, PatternRefusal};
 use std::alloc::{AllocError, Allocator};
 use std::path::Path;
 
-/// Parses a pattern's text, which gives an equal pattern: `new` of the text of `a*` is again `a*`. The error is a
+/// Parses a pattern's text. The result is an equal pattern: `new` of the text of `a*` is `a*` again. The error is a
 /// failed allocation.
 pub fn text_is_an_equal_pattern<A: Allocator + Copy, B: Allocator>(
     alloc: A,
@@ -19,8 +19,8 @@ pub fn text_is_an_equal_pattern<A: Allocator + Copy, B: Allocator>(
     Pattern::new(alloc, pattern.as_str())
 }
 
-/// Whether `matches_path_with` answers on a path as `matches_with` does on its text. It always does. The error is a
-/// failed allocation.
+/// Whether `matches_path_with` returns for a path what `matches_with` returns for its text. It always does. The error
+/// is a failed allocation.
 pub fn path_matches_as_its_text<A: Allocator + Copy>(
     pattern: &Pattern<A>,
     path: Path<'_>,

@@ -10,5 +10,6 @@ returns g c =
     map_from_collect _ c.collect.ensures.ran
     (YieldsList-from_filter _ is_listed
     (YieldsList-at c.filter.ensures.source
-    (YieldsList-from_slice_split _ _ c.args.bytes.now c.split.ensures.rest c.split.ensures.done c.split.ensures.closure (λ x r q k. search (rules, tests))))
+    (YieldsList-from_slice_split _ _ c.args.bytes.now c.split.ensures.rest c.split.ensures.done c.split.ensures.closure
+    (λ x r q k. search (rules, tests))))
     c.filter.ensures.closure (λ x r q k. search (rules, tests)))

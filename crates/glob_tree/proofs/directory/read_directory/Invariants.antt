@@ -1,4 +1,4 @@
--- What was read so far was gathered.
+-- The bytes read so far are gathered.
 use Rattle.std.proofs.Common.{◌≡◌, [], ◌<◌, length}
 use Rattle.std.specs.Prelude.{IsSome}
 use Rattle.glob_tree.specs.Private.Gathering.{Gathers}

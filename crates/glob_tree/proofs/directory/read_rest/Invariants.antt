@@ -1,4 +1,4 @@
--- The block has room, and what was read so far was gathered.
+-- The block is not empty, and the bytes read so far are gathered.
 use Rattle.std.proofs.Common.{◌≡◌, ◌<◌, ◌-◌, ◌^◌, length, vec_len}
 use Rattle.std.specs.Prelude.{IsSome}
 use Rattle.glob_tree.specs.Private.Gathering.{Gathers}

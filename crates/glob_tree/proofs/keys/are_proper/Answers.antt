@@ -7,4 +7,5 @@ use Rattle.glob_tree.proofs.keys.are_proper.Goals as goal
 pub returns : goal.returns
 returns c =
     let split = c.split.ensures in
-    all_from_yields_List is_proper _ _ c.all.result c.all.ensures.ran (YieldsList-from_str_split 47 c.args.names.now (lit< tt) split.text split.has_more split.pattern) (λ x b q k. search rules)
+    all_from_yields_List is_proper _ _ c.all.result c.all.ensures.ran (YieldsList-from_str_split 47 c.args.names.now
+    (lit< tt) split.text split.has_more split.pattern) (λ x b q k. search rules)

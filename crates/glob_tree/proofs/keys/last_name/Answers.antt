@@ -8,7 +8,8 @@ pub returns-in-Some : goal.returns-in-Some
 returns-in-Some c =
     let h = c.in-Some.ensures.cases in
     record {
-      names = pieces_last c.args.names.now c.in-Some.directory.now c.in-Some.name.now _ (cut_at_slash c.args.names.now c.in-Some.directory.now c.in-Some.name.now h.0 h.1 h.3 h.4 h.2.1) h.4 h.2.0;
+      names = pieces_last c.args.names.now c.in-Some.directory.now c.in-Some.name.now _ (cut_at_slash c.args.names.now
+          c.in-Some.directory.now c.in-Some.name.now h.0 h.1 h.3 h.4 h.2.1) h.4 h.2.0;
       utf8 = utf8_after c.args.names.now c.in-Some.name.now h.0 h.1 c.utf8.names h.4 h.2.1;
     }
 

@@ -15,9 +15,11 @@ loop-component-init c = λ rest. refl
 pub returns-then-not-is_plain_component : goal.returns-then-not-is_plain_component
 returns-then-not-is_plain_component c =
     let parts = YieldsList-from_str_split slash c.args.text.now (lit< tt) (cc) (cc) (cc) in
-    let (others, whole) = split_at_turn parts c.loop-component.yielded _ c.loop-component.yielded_by _ _ c.in-Some.component c.in-Some.is c.next.ensures.steps in
+    let (others, whole) = split_at_turn parts c.loop-component.yielded _ c.loop-component.yielded_by _ _
+    c.in-Some.component c.in-Some.is c.next.ensures.steps in
     sym (ap (are_plain false) whole ∙ c.loop-component.invariant (c.in-Some.component.now ∷ others)
-    ∙ ap (λ b. b && are_plain (is_recursive c.in-Some.component.now) others) (sym c.is_plain_component.ensures ∙ c.if-not-is_plain_component.true))
+    ∙ ap (λ b. b && are_plain (is_recursive c.in-Some.component.now) others) (sym c.is_plain_component.ensures
+    ∙ c.if-not-is_plain_component.true))
 
 -- one more plain component
 pub loop-component-preserved : goal.loop-component-preserved
@@ -30,7 +32,7 @@ loop-component-preserved c = λ rest.
     ∙ ap (λ b. b && are_plain (is_recursive component.now) rest) (sym c.is_plain_component.ensures ∙ c.if-not-is_plain_component.false)
     ∙ ap (λ run. are_plain run rest) (sym c.is_recursive-after_recursive.ensures)
 
--- the components have come to their end
+-- there are no more components
 pub returns : goal.returns
 returns c =
     let parts = YieldsList-from_str_split slash c.args.text.now (lit< tt) (cc) (cc) (cc) in

@@ -24,7 +24,8 @@ loop-piece-preserved-then-is_recursive g c =
     let recursive : is_recursive piece.now ≡ true = search rules in
     record {
       read = λ rest. ap (λ ts. merged (ts ++ rest)) yielded
-          ∙ merged-skip before c.loop-piece.components.items rest c.loop-piece.after_recursive piece.now i.read (ap (λ b. b && is_recursive piece.now) after ∙ recursive)
+          ∙ merged-skip before c.loop-piece.components.items rest c.loop-piece.after_recursive piece.now i.read
+          (ap (λ b. b && is_recursive piece.now) after ∙ recursive)
           ∙ ap (λ b. c.loop-piece.components.items ++ merged_after b rest) (recursive ∙ sym after);
       accepted = ap first_fault yielded ∙ first_fault-push before piece.now i.accepted (text_fault-recursive piece.now recursive);
     }
@@ -50,9 +51,11 @@ pub returns-in_err-component-clause-refused : goal.returns-in_err-component-clau
 returns-in_err-component-clause-refused g c =
     let parts = c.split-piece-items.ensures in
     let same = c.into_iter-piece-iterator.ensures.into_iter_gives in
-    let split = YieldsList-from_str_split slash c.args.text.now (lit< tt) (ap split_text same ∙ parts.text) (ap split_has_more same ∙ parts.has_more) (ap split_pattern same ∙ parts.pattern) in
+    let split = YieldsList-from_str_split slash c.args.text.now (lit< tt) (ap split_text same ∙ parts.text)
+    (ap split_has_more same ∙ parts.has_more) (ap split_pattern same ∙ parts.pattern) in
     let i = c.loop-piece.invariant in
-    let (others, whole) = split_at_turn split c.loop-piece.yielded _ c.loop-piece.yielded_by _ _ c.in-Some.piece c.in-Some.is c.next.ensures.steps in
+    let (others, whole) = split_at_turn split c.loop-piece.yielded _ c.loop-piece.yielded_by _ _ c.in-Some.piece
+    c.in-Some.is c.next.ensures.steps in
     IfErr-from_known _ _ _
     (λ e is. RefusesWith-first (pieces c.args.text.now) (map (λ x. x.now) c.loop-piece.yielded) others c.in-Some.piece.now e
     whole i.accepted (subst (RefusesWith (text_fault c.in-Some.piece.now)) (sym is) c.in_err-component.ensures.refused))
@@ -62,14 +65,17 @@ pub returns-clause-components : goal.returns-clause-components
 returns-clause-components g c =
     let parts = c.split-piece-items.ensures in
     let same = c.into_iter-piece-iterator.ensures.into_iter_gives in
-    let split = YieldsList-from_str_split slash c.args.text.now (lit< tt) (ap split_text same ∙ parts.text) (ap split_has_more same ∙ parts.has_more) (ap split_pattern same ∙ parts.pattern) in
+    let split = YieldsList-from_str_split slash c.args.text.now (lit< tt) (ap split_text same ∙ parts.text)
+    (ap split_has_more same ∙ parts.has_more) (ap split_pattern same ∙ parts.pattern) in
     let all = YieldsList-end split c.loop-piece.yielded _ c.loop-piece.yielded_by _ _ c.in-None.is c.next.ensures.steps in
-    sym (append-nil c.loop-piece.components.items) ∙ sym (c.loop-piece.invariant.read []) ∙ ap merged (append-nil (map (λ x. x.now) c.loop-piece.yielded) ∙ all.0)
+    sym (append-nil c.loop-piece.components.items) ∙ sym (c.loop-piece.invariant.read []) ∙ ap merged
+    (append-nil (map (λ x. x.now) c.loop-piece.yielded) ∙ all.0)
 
 pub returns-clause-accepted : goal.returns-clause-accepted
 returns-clause-accepted g c =
     let parts = c.split-piece-items.ensures in
     let same = c.into_iter-piece-iterator.ensures.into_iter_gives in
-    let split = YieldsList-from_str_split slash c.args.text.now (lit< tt) (ap split_text same ∙ parts.text) (ap split_has_more same ∙ parts.has_more) (ap split_pattern same ∙ parts.pattern) in
+    let split = YieldsList-from_str_split slash c.args.text.now (lit< tt) (ap split_text same ∙ parts.text)
+    (ap split_has_more same ∙ parts.has_more) (ap split_pattern same ∙ parts.pattern) in
     let all = YieldsList-end split c.loop-piece.yielded _ c.loop-piece.yielded_by _ _ c.in-None.is c.next.ensures.steps in
     ap first_fault (sym all.0) ∙ c.loop-piece.invariant.accepted

@@ -1,5 +1,10 @@
-use Rattle.std.proofs.Common.{[], sym}
+use Rattle.std.proofs.Common.{[], refl}
+use Rattle.glob_walk.specs.Listing.{listing_of}
+use Rattle.glob_walk.proofs.WalkLemmas.Giving.{given_fresh}
 use Rattle.glob.proofs.paths.Paths.new.Goals as goal
 
 pub invariant_of-result : goal.invariant_of-result
-invariant_of-result g c = record { free = c.requires.asked; agrees = λ x told going. c.requires.agrees x; upto = λ x told going. record { done = []; whole = sym (c.requires.whole x); units = c.requires.spent } }
+invariant_of-result g c = record {
+  free = c.requires.asked;
+  gave = λ x told going. ([], given_fresh _ (listing_of x c.args.machine.aim) x c.args.machine c.requires refl);
+}

@@ -1,4 +1,4 @@
--- `plus` makes the empty struct, with the number that its clause names.
+-- `plus` makes the empty struct with the number in its clause.
 use mathlib.Core.Path.{refl}
 use mathlib.Core.List.{[], ◌∷◌}
 use Prim.Native.Nat.{◌+◌}
@@ -38,7 +38,7 @@ use Rattle.glob_tree.specs.contracts.asks.Count.plus.Key.{name}
 use Rattle.glob_tree.proofs.asks.Count.plus.Statement as stated
 use Rattle.glob_tree.proofs.asks.Count.plus.Code as code
 
--- nothing is left of the parameters
+-- after the call nothing is left of the parameters
 abbrev stayed : Stays (f.ended).signature.params (f.ended).kept
 stayed = (stay_dropped (RefOf (0 ∷ []) tt (plain (λ _. count.the_row)) (λ _. tt)) yes, (stay_dropped (plain (λ _. usize)) yes, tt))
 
@@ -46,29 +46,31 @@ module _ {M : Type 1} {𝓤 : Ura M} (𝓛 : Logic 𝓤) (mem : Memory → SProp
   open 𝓛 use {H}
 
   module _ (κs : Lfts 1) (qs : Shares 1) (a : Args f.signature κs) (fits : Fits w64 a.1.0) where
-    -- the parameters as the machine has them
+    -- the parameters in the machine's form
     abbrev before : Val
     before = vptr a.0.ref_ptr.0 a.0.ref_ptr.1
 
     abbrev more : Val
     more = vint w64 a.1.0
 
-    -- the values that the contract speaks of
+    -- the values in the contract
     abbrev bound : (walk_of 𝓛 f.ended stayed (f.clauses 𝓛 mem run)).Ghost
     bound = ((κs, qs, tt, a, (before ∷ [], (more ∷ [], tt))), tt)
 
     abbrev passed : Fml
     passed = owns (types_at f.signature.params κs) a (before ∷ [], (more ∷ [], tt))
 
-    -- the code, statement by statement
+    -- the code, one statement after another
     walk : ent 𝓤 (on_entry 𝓛 f.signature κs qs a (before ∷ [], (more ∷ [], tt)))
         (WpFn 𝓤 H C Λ code.function (before ∷ more ∷ []) ((walk_of 𝓛 f.ended stayed (f.clauses 𝓛 mem run)).post bound))
     walk =
         qed 𝓛 (raw (alive 𝓛 f.signature κs qs) ∷ ‵ passed ∷ []) ∵ enter ! C Λ code.function (before ∷ more ∷ []) _ $
         alloc_all ! (λ l. pass_all ! refl ((tt, tt), ((tt, record { fits = fits.fits }), tt)) $ sets ! (agg ! (no_more !)) refl (tt, tt) $
         returns ! (look_at ! 0 refl) $ free_all ! refl $
-        suffices ! _ (ends_at 𝓛 f.ended stayed (f.clauses 𝓛 mem run) bound (vstruct vnil) (record { number = a.0.now.number + a.1.0 }) (tt, (tt, tt)) (tt, (tt, tt))) $
-        says ! refl $ pure_i ! (count.the_row.own_val (record { number = a.0.now.number + a.1.0 }) (vstruct vnil ∷ [])) ((λ vss. (tt, tt)), tt) ((tt, (refl, tt)), tt) $
+        suffices ! _ (ends_at 𝓛 f.ended stayed (f.clauses 𝓛 mem run) bound (vstruct vnil)
+        (record { number = a.0.now.number + a.1.0 }) (tt, (tt, tt)) (tt, (tt, tt))) $
+        says ! refl $ pure_i ! (count.the_row.own_val (record { number = a.0.now.number + a.1.0 }) (vstruct vnil ∷ []))
+        ((λ vss. (tt, tt)), tt) ((tt, (refl, tt)), tt) $
         move ! (2 ∷ 0 ∷ 1 ∷ []) $ drop ! $ nothing ! $ nothing ! $ join ! $ nothing ! $ join ! $ move ! (2 ∷ 0 ∷ 1 ∷ []) $ done !)
 
   walks : Walks 𝓛 f.ended stayed (WpFn 𝓤 H C Λ code.function) (f.clauses 𝓛 mem run)
@@ -80,7 +82,11 @@ module _ {M : Type 1} {𝓤 : Ura M} (𝓛 : Logic 𝓤) (mem : Memory → SProp
 meets : {M : Type 1} {𝓤 : Ura M} (𝓛 : Logic 𝓤) (mem : Memory → SProp 𝓤) (run : Routine → Fun 𝓤) (𝓣 : Tables 𝓤 𝓛.H)
     → Meets 𝓛 f.signature (WpFn 𝓤 𝓛.H 𝓣.C 𝓣.Λ code.function) (f.spec 𝓛 mem run)
 meets {𝓤 = 𝓤} 𝓛 mem run 𝓣 =
-    walk_Meets 𝓛 f.ended stayed (Goes-dropped 𝓛 1 (RefOf (0 ∷ []) tt (plain (λ _. count.the_row)) (λ _. tt)) yes (λ κs x w. refl), (Goes-dropped 𝓛 1 (plain (λ _. usize)) yes (λ κs x w. refl), tt))
+    walk_Meets 𝓛 f.ended stayed (
+      Goes-dropped 𝓛 1 (RefOf (0 ∷ []) tt (plain (λ _. count.the_row)) (λ _. tt)) yes
+          (λ κs x w. refl),
+      (Goes-dropped 𝓛 1 (plain (λ _. usize)) yes (λ κs x w. refl), tt),
+    )
     (f.clauses 𝓛 mem run) (WpFn 𝓤 𝓛.H 𝓣.C 𝓣.Λ code.function)
     (WpFn-mono 𝓤 𝓛.H 𝓛.laws 𝓣 code.function) (walks 𝓛 mem run 𝓣.C 𝓣.Λ)
 

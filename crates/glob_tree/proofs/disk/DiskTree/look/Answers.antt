@@ -7,5 +7,5 @@ use Rattle.glob_tree.proofs.disk.DiskTree.look.Goals as goal
 
 pub returns-clause-seen : goal.returns-clause-seen
 returns-clause-seen g c = λ x told.
-    look_of_content c.args.self.now.files x told c.args.path.now (λ look. IfOk c.seen.result (λ seen. seen ≡ look))
-    (λ f held direct. c.seen.ensures f (subst (λ (d : DiskModel). IsHeld d.files f) (sym c.self.view_is) held) direct)
+    look_of_content c.args.self.now.files x told c.args.path.now (λ look. IfOk c.look.result (λ seen. seen ≡ look))
+    (λ f held direct. c.look.ensures f (subst (λ (d : DiskModel). IsHeld d.files f) (sym c.self.view_is) held) direct)

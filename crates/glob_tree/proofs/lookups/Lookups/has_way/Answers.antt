@@ -1,7 +1,7 @@
-use Rattle.std.proofs.Common.{rules, ◌≡◌, true, false, refl, ap, subst, ◌∙◌}
+use Rattle.std.proofs.Common.{rules, ◌≡◌, true, false, refl, subst}
 use Rattle.glob_tree.specs.FileSystems.{is_direct}
-use Rattle.glob_tree.specs.Private.Looking.{HasWay, IsReasoned, LeadsOn, LookupsModel}
-use Rattle.glob_tree.proofs.SystemLemmas.Looking.{reasoned, way_of_one, way_below}
+use Rattle.glob_tree.specs.Private.Looking.{LeadsOn}
+use Rattle.glob_tree.proofs.SystemLemmas.Looking.{way_of_one, way_below}
 use Rattle.glob_tree.proofs.SystemLemmas.Ways.{direct_above}
 use Rattle.glob_tree.proofs.lookups.Lookups.has_way.Goals as goal
 
@@ -10,7 +10,8 @@ returns-in_default-clause-way g c = λ f seen. way_of_one f seen.0.1 c.args.path
 
 pub returns-then-is_known-clause-way : goal.returns-then-is_known-clause-way
 returns-then-is_known-clause-way g c = λ f seen.
-    way_below f seen.0.1 c.args.path.now c.in-Some.above.now c.in-Some.field-0-1.now c.in-Some.ensures.0 c.in-Some.ensures.1 true (c.if-is_known.ensures.known refl f seen)
+    way_below f seen.0.1 c.args.path.now c.in-Some.above.now c.in-Some.field-0-1.now c.in-Some.ensures.0
+    c.in-Some.ensures.1 true (c.if-is_known.ensures.known refl f seen)
 
 pub returns-then-not-branch-clause-way : goal.returns-then-not-branch-clause-way
 returns-then-not-branch-clause-way g c = λ f seen.
@@ -25,18 +26,9 @@ returns-clause-way g c = λ f seen.
     (subst (LeadsOn f c.in-Some.above.now) yes (c.in_ok-leads.ensures.leads f seen))
 
 pub returns-then-not-branch-clause-followed : goal.returns-then-not-branch-clause-followed
-returns-then-not-branch-clause-followed g c = λ f held direct links.
+returns-then-not-branch-clause-followed g c = λ f held direct links told.
     let none : c.in_ok-leads.field-0 ≡ false = search rules in
     let above = direct_above f held.1 c.in-Some.above.now c.in-Some.field-0-1.now
     (subst (λ p. is_direct f p ≡ true) c.in-Some.ensures.0 direct) in
-    reasoned f _ _ _ refl (LeadsOn f c.in-Some.above.now false) (HasWay f c.args.path.now false)
-    (way_below f held.1 c.args.path.now c.in-Some.above.now c.in-Some.field-0-1.now c.in-Some.ensures.0 c.in-Some.ensures.1 false)
-    c.in_ok-leads.field-0 none (c.in_ok-leads.ensures.followed f held above links)
-
-pub returns-clause-followed : goal.returns-clause-followed
-returns-clause-followed g c = λ f held direct links.
-    let yes : c.in_ok-leads.field-0 ≡ true = search rules in
-    let above = direct_above f held.1 c.in-Some.above.now c.in-Some.field-0-1.now
-    (subst (λ p. is_direct f p ≡ true) c.in-Some.ensures.0 direct) in
-    ap (λ (d : LookupsModel _). g.S.Strays.paths d.strays) c.self.view_is
-    ∙ subst (IsReasoned f _ _ (LeadsOn f c.in-Some.above.now false)) yes (c.in_ok-leads.ensures.followed f held above links)
+    way_below f held.1 c.args.path.now c.in-Some.above.now c.in-Some.field-0-1.now c.in-Some.ensures.0 c.in-Some.ensures.1 false
+    (c.in_ok-leads.ensures.followed f held above links none)

@@ -1,27 +1,26 @@
-use Rattle.std.proofs.Common.{rules, ◌≡◌, true, false, inl, inr, ⊎_elim, refl, sym, subst, ◌∙◌}
+use Rattle.std.proofs.Common.{rules, ◌≡◌, true, false, refl, sym, subst, ◌∙◌}
 use Rattle.glob_tree.specs.FileSystems.{IsHeld, is_direct}
 use Rattle.glob_tree.specs.Private.Looking.{IsSeen}
-use Rattle.glob_tree.proofs.StraysLemmas.{grows_same}
-use Rattle.glob_tree.proofs.SystemLemmas.Looking.{no_directory_followed, received_after, step_way, last_way, step_none, no_way}
+use Rattle.glob_tree.proofs.SystemLemmas.Looking.{none_said, step_way, last_way, step_none, no_way}
 use Rattle.glob_tree.proofs.SystemLemmas.Ways.{direct_above}
 use Rattle.glob_tree.proofs.lookups.Lookups.leads.Goals as goal
 
 pub returns-then-not-branch-clause-leads : goal.returns-then-not-branch-clause-leads
 returns-then-not-branch-clause-leads g c = λ f seen.
     let kept = c.loop-directory.invariant in
-    let still = subst (λ l. IsSeen l c.loop-directory.self.files f) (sym kept.2) (subst (λ o. IsSeen c.args.self.now.links o f) (sym kept.1) seen) in
+    let still = subst (λ l. IsSeen l c.loop-directory.self.files f) (sym kept.2)
+    (subst (λ o. IsSeen c.args.self.now.links o f) (sym kept.1) seen) in
     let none : c.in_ok-is_dir.field-0 ≡ false = search rules in
     kept.4 f (c.loop-directory-test.ensures.some refl)
     (no_way f c.loop-directory.directory.now c.in_ok-is_dir.field-0 none (λ direct. c.in_ok-is_dir.ensures.directory f still direct))
 
 pub returns-then-not-branch-clause-followed : goal.returns-then-not-branch-clause-followed
-returns-then-not-branch-clause-followed g c = λ f held direct links.
+returns-then-not-branch-clause-followed g c = λ f held direct links told.
     let kept = c.loop-directory.invariant in
     let none : c.in_ok-is_dir.field-0 ≡ false = search rules in
-    ⊎_elim
-    (λ is. inl (kept.4 f (c.loop-directory-test.ensures.some refl) (no_directory_followed f c.loop-directory.directory.now (sym is ∙ none))))
-    (λ r. inr (received_after f _ _ _ (grows_same _ _ kept.6) r))
-    (c.in_ok-is_dir.ensures.followed f (subst (λ o. IsHeld o f) (sym kept.1) held) (kept.5 f held direct) (kept.2 ∙ links))
+    kept.4 f (c.loop-directory-test.ensures.some refl)
+    (none_said f c.loop-directory.directory.now c.in_ok-is_dir.field-0 none _ _
+    (c.in_ok-is_dir.ensures.followed f (subst (λ o. IsHeld o f) (sym kept.1) held) (kept.5 f held direct) (kept.2 ∙ links)))
 
 pub loop-directory-preserved : goal.loop-directory-preserved
 loop-directory-preserved g c =
@@ -31,8 +30,10 @@ loop-directory-preserved g c =
       c.in_ok-is_dir.ensures.files ∙ kept.1,
       c.in_ok-is_dir.ensures.links ∙ kept.2,
       λ f seen way.
-          let still = subst (λ l. IsSeen l c.loop-directory.self.files f) (sym kept.2) (subst (λ o. IsSeen c.args.self.now.links o f) (sym kept.1) seen) in
-          kept.3 f seen (step_way f seen.0.1 c.loop-directory.directory.now c.in-Some.further.now c.in-Some.field-0-1.now c.in-Some.ensures.0 c.in-Some.ensures.1
+          let still = subst (λ l. IsSeen l c.loop-directory.self.files f) (sym kept.2)
+          (subst (λ o. IsSeen c.args.self.now.links o f) (sym kept.1) seen) in
+          kept.3 f seen (step_way f seen.0.1 c.loop-directory.directory.now c.in-Some.further.now
+          c.in-Some.field-0-1.now c.in-Some.ensures.0 c.in-Some.ensures.1
           c.in_ok-is_dir.field-0 yes (λ direct. c.in_ok-is_dir.ensures.directory f still direct) way),
       λ f some none. kept.4 f (c.loop-directory-test.ensures.some refl)
           (step_none f.content c.loop-directory.directory.now c.in-Some.further.now c.in-Some.field-0-1.now c.in-Some.ensures.0 some none),
@@ -44,11 +45,13 @@ loop-directory-preserved g c =
 pub returns-in_default-clause-leads : goal.returns-in_default-clause-leads
 returns-in_default-clause-leads g c = λ f seen.
     let kept = c.loop-directory.invariant in
-    let still = subst (λ l. IsSeen l c.loop-directory.self.files f) (sym kept.2) (subst (λ o. IsSeen c.args.self.now.links o f) (sym kept.1) seen) in
+    let still = subst (λ l. IsSeen l c.loop-directory.self.files f) (sym kept.2)
+    (subst (λ o. IsSeen c.args.self.now.links o f) (sym kept.1) seen) in
     let yes : c.in_ok-is_dir.field-0 ≡ true = search rules in
-    kept.3 f seen (last_way f seen.0.1 c.loop-directory.directory.now c.in_default.ensures c.in_ok-is_dir.field-0 yes (λ direct. c.in_ok-is_dir.ensures.directory f still direct))
+    kept.3 f seen (last_way f seen.0.1 c.loop-directory.directory.now c.in_default.ensures c.in_ok-is_dir.field-0 yes
+    (λ direct. c.in_ok-is_dir.ensures.directory f still direct))
 
-pub returns-in_default-clause-followed : goal.returns-in_default-clause-followed
-returns-in_default-clause-followed g c = λ f held direct links.
+pub returns-in_default-clause-settled : goal.returns-in_default-clause-settled
+returns-in_default-clause-settled g c = λ told.
     let yes : c.in_ok-is_dir.field-0 ≡ true = search rules in
     c.in_ok-is_dir.ensures.settled yes ∙ c.loop-directory.invariant.6

@@ -1,4 +1,4 @@
--- The way to the whole path goes through the directory, whose directories are left to look at.
+-- The whole path is reached through this directory; the directories above it are still to be looked at.
 use Rattle.std.proofs.Common.{◌≡◌, ◌≢◌, true, false, [], length}
 use denote.Shadow.{shadow}
 use denote.Text.{Utf8}

@@ -12,10 +12,14 @@ returns-in_default g c =
 
 pub returns-then-is_dir : goal.returns-then-is_dir
 returns-then-is_dir g c =
-    let answers = kind_there c.self.inside.nodes c.self.inside.current c.args.path.now c.find.result c.in-Some.number c.kind.result c.find.ensures c.in-Some.is c.kind.ensures.stands in
-    subst (λ (t : MemoryTree). look.Dir ≡ look_result t.content c.args.path.now) c.self.view_is (sym (answers.look ∙ look_of-directory c.kind.result (sym c.if-is_dir.ensures)))
+    let answers = kind_there c.self.inside.nodes c.self.inside.current c.args.path.now c.find.result c.in-Some.number
+    c.kind.result c.find.ensures c.in-Some.is c.kind.ensures.stands in
+    subst (λ (t : MemoryTree). look.Dir ≡ look_result t.content c.args.path.now) c.self.view_is
+    (sym (answers.look ∙ look_of-directory c.kind.result (sym c.if-is_dir.ensures)))
 
 pub returns : goal.returns
 returns g c =
-    let answers = kind_there c.self.inside.nodes c.self.inside.current c.args.path.now c.find.result c.in-Some.number c.kind.result c.find.ensures c.in-Some.is c.kind.ensures.stands in
-    subst (λ (t : MemoryTree). look.Other ≡ look_result t.content c.args.path.now) c.self.view_is (sym (answers.look ∙ look_of-other c.kind.result (sym c.if-is_dir.ensures)))
+    let answers = kind_there c.self.inside.nodes c.self.inside.current c.args.path.now c.find.result c.in-Some.number
+    c.kind.result c.find.ensures c.in-Some.is c.kind.ensures.stands in
+    subst (λ (t : MemoryTree). look.Other ≡ look_result t.content c.args.path.now) c.self.view_is
+    (sym (answers.look ∙ look_of-other c.kind.result (sym c.if-is_dir.ensures)))

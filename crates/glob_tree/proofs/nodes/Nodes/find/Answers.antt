@@ -15,5 +15,8 @@ returns-then-is_empty g c =
 
 pub returns : goal.returns
 returns g c =
-    let some = not_zero _ (eqb-false _ 0 (sym c.if-is_empty.ensures)) in
-    (c.follow.ensures.0 ∙ sym (resolve_from c.args.self.now c.args.current c.origin.result c.args.path.now some c.origin.ensures.key), c.follow.ensures.1)
+    let some = not_zero _ (eqb-false _ 0 (sym c.if-is_empty.ensures)) in (
+      c.follow.ensures.0 ∙ sym (resolve_from c.args.self.now c.args.current c.origin.result c.args.path.now some
+          c.origin.ensures.key),
+      c.follow.ensures.1,
+    )

@@ -9,4 +9,5 @@ pub returns-in-Some : goal.returns-in-Some
 returns-in-Some g c =
     let root = c.root-in-Some.ensures in
     let proper = ap (λ names. list_all is_proper (directory_names names)) (sym c.in-Some.is) ∙ c.requires in
-    rw c.in-Some.is (find_directory c.args.self.now c.root-in-Some.result root.content root.root c.in-Some.names.now proper c.find.result c.find.ensures)
+    rw c.in-Some.is (find_directory c.args.self.now c.root-in-Some.result root.content root.root c.in-Some.names.now
+    proper c.find.result c.find.ensures)

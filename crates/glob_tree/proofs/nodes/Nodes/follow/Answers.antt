@@ -16,24 +16,40 @@ loop-piece-init g c =
     let left = (YieldsList-from_str_split 47 c.args.path.now (lit< tt) split.text split.has_more split.pattern).runs in
     record {
       inside = c.requires;
-      left = (pieces c.args.path.now, subst (λ s. AlwaysYields (split_steps FindsChar (λ a b. b ≡ a)) (λ x. x.now) s (pieces c.args.path.now)) (sym c.into_iter-piece-iterator.ensures.into_iter_gives) left, refl);
+      left = (
+        pieces c.args.path.now,
+        subst (λ s. AlwaysYields (split_steps FindsChar (λ a b. b ≡ a)) (λ x. x.now) s
+            (pieces c.args.path.now)) (sym c.into_iter-piece-iterator.ensures.into_iter_gives) left,
+        refl,
+      );
     }
 
 pub returns-in_err-number : goal.returns-in_err-number
 returns-in_err-number g c =
     let (rest, left, on) = c.loop-piece.invariant.left in
-    let (ys, first, more) = left_after (split_steps FindsChar (λ a b. b ≡ a)) (λ x. x.now) c.loop-piece.piece-iterator c.next.new.self c.next.result c.in-Some.piece c.next.ensures.steps c.in-Some.is rest left in
-    rw c.from_residual.ensures (sym (follows_none c.args.self.now _ c.loop-piece.number c.in-Some.piece.now c.step.result rest ys on first c.step.ensures c.in_err-number.was), tt)
+    let (ys, first, more) = left_after (split_steps FindsChar (λ a b. b ≡ a)) (λ x. x.now) c.loop-piece.piece-iterator
+    c.next.new.self c.next.result c.in-Some.piece c.next.ensures.steps c.in-Some.is rest left in
+    rw c.from_residual.ensures (
+      sym (follows_none c.args.self.now _ c.loop-piece.number c.in-Some.piece.now
+          c.step.result rest ys on first c.step.ensures c.in_err-number.was),
+      tt,
+    )
 
 pub loop-piece-preserved : goal.loop-piece-preserved
 loop-piece-preserved g c =
     let (rest, left, on) = c.loop-piece.invariant.left in
-    let (ys, first, more) = left_after (split_steps FindsChar (λ a b. b ≡ a)) (λ x. x.now) c.loop-piece.piece-iterator c.next.new.self c.next.result c.in-Some.piece c.next.ensures.steps c.in-Some.is rest left in
-    let (inside, further) = follows_some c.args.self.now _ c.loop-piece.number c.in_ok-number.number c.in-Some.piece.now c.step.result rest ys on first c.step.ensures c.in_ok-number.was in
+    let (ys, first, more) = left_after (split_steps FindsChar (λ a b. b ≡ a)) (λ x. x.now) c.loop-piece.piece-iterator
+    c.next.new.self c.next.result c.in-Some.piece c.next.ensures.steps c.in-Some.is rest left in
+    let (inside, further) = follows_some c.args.self.now _ c.loop-piece.number c.in_ok-number.number
+    c.in-Some.piece.now c.step.result rest ys on first c.step.ensures c.in_ok-number.was in
     record { inside = inside; left = (ys, more, further) }
 
 pub returns : goal.returns
 returns g c =
     let (rest, left, on) = c.loop-piece.invariant.left in
-    let none = none_left (split_steps FindsChar (λ a b. b ≡ a)) (λ x. x.now) c.loop-piece.piece-iterator c.next.new.self c.next.result c.next.ensures.steps c.in-None.is rest left in
-    (sym (on ∙ ap (steps (rooted_content c.args.self.now) (Some (key_numbered c.args.self.now c.loop-piece.number))) none), c.loop-piece.invariant.inside)
+    let none = none_left (split_steps FindsChar (λ a b. b ≡ a)) (λ x. x.now) c.loop-piece.piece-iterator
+    c.next.new.self c.next.result c.next.ensures.steps c.in-None.is rest left in (
+      sym (on ∙ ap (steps (rooted_content c.args.self.now) (Some (key_numbered c.args.self.now c.loop-piece.number)))
+          none),
+      c.loop-piece.invariant.inside,
+    )

@@ -21,5 +21,6 @@ returns-in-Wild g c =
     let kind : component_kind (form_text c.self.inside.form) ≡ Wild = c.self.invariant ∙ ap form_kind c.in-Wild.is in
     let other : is_recursive c.in-Wild.pattern ≡ false = ap is_recursive (sym text) ∙ (kind-Wild (form_text c.self.inside.form) kind).1 in
     subst (λ b. IfOk c.matches_with.result (λ yes. yes ≡ b))
-    (takes_same c.args.options c.in-Wild.pattern c.args.name.now other ∙ ap (λ t. takes_name c.args.options t c.args.name.now) (sym text ∙ c.self.view_is))
+    (takes_same c.args.options c.in-Wild.pattern c.args.name.now other ∙ ap (λ t. takes_name c.args.options t
+    c.args.name.now) (sym text ∙ c.self.view_is))
     (matches_name-result c.args.options c.in-Wild.pattern c.args.name.now c.matches_with.result c.matches_with.ensures.answer)

@@ -1,7 +1,9 @@
 use Rattle.std.proofs.Common.{sym, ◌∙◌}
 use Rattle.glob_walk.proofs.WalkLemmas.Reading.{text_fault-literal}
 use Rattle.glob_walk.proofs.WalkLemmas.Literals.{text_fault-recursive}
-use Rattle.glob_walk.proofs.component.Component.read.Goals.{then-is_literal+in_ok-from_str, else-is_literal+then-is_recursive, else-is_literal+else-is_recursive+in_ok-compile}
+use Rattle.glob_walk.proofs.component.Component.read.Goals.{then-is_literal+in_ok-from_str}
+use Rattle.glob_walk.proofs.component.Component.read.Goals.{else-is_literal+then-is_recursive}
+use Rattle.glob_walk.proofs.component.Component.read.Goals.{else-is_literal+else-is_recursive+in_ok-compile}
 use Rattle.glob_walk.proofs.component.Component.read.Goals as goal
 
 pub returns-clause-accepted : goal.returns-clause-accepted

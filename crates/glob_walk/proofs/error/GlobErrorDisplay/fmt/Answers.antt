@@ -17,4 +17,5 @@ pub returns-in-Limit-clause-writes : goal.returns-in-Limit-clause-writes
 returns-in-Limit-clause-writes g c = rw c.in-Limit.is (λ plain ok.
     let before = c.in_ok-write.ensures.writes plain refl in
     put_two g.W.Write.write_str_gives _ _ _ _ (codes "walk limit reached") _ before (c.write_str-in-Limit.ensures.writes before.plain ok)
-    (ap (λ path. codes "attempting to read `" ++ path ++ codes "` resulted in an error: " ++ codes "walk limit reached") c.display-path.ensures))
+    (ap (λ path. codes "attempting to read `" ++ path ++ codes "` resulted in an error: " ++ codes
+    "walk limit reached") c.display-path.ensures))

@@ -13,7 +13,7 @@ use Rattle.glob_walk.proofs.WalkLemmas.Stepping.{contained_at, at_step, inside_s
 use Rattle.glob_walk.proofs.frame.Frame.step.Goals.{then-self, else-self}
 use Rattle.glob_walk.proofs.frame.Frame.step.Goals as goal
 
--- a task is at most one item before the next unit
+-- a task gives at most one item before the next unit
 one_ready : (last : Bool) (s : TaskState) → state_ready last s ≤ 1
 one_ready last (state.Unseen w) = omega arith
 one_ready true (state.Seen d) = omega arith
@@ -31,39 +31,54 @@ pub returns-in-Parent-clause-sound : goal.returns-in-Parent-clause-sound
 returns-in-Parent-clause-sound g c = IfOk-weaker c.special_task.result _ _ (λ task sound c' h. sound c') c.special_task.ensures.sound
 
 pub returns-in-Current-clause-sound : goal.returns-in-Current-clause-sound
-returns-in-Current-clause-sound g c = IfOk-weaker c.special_task-in-Current.result _ _ (λ task sound c' h. sound c') c.special_task-in-Current.ensures.sound
+returns-in-Current-clause-sound g c = IfOk-weaker c.special_task-in-Current.result _ _ (λ task sound c' h. sound c')
+    c.special_task-in-Current.ensures.sound
 
 pub returns-after-self-clause-marks : goal.returns-after-self-clause-marks
 returns-after-self-clause-marks g c =
-    let below = leb-false (length c.args.self.now.entries.items) c.in-At.i (sym (ap (is_done_at (length c.args.self.now.entries.items)) c.in-At.is) ∙ c.requires.going) in
+    let below = leb-false (length c.args.self.now.entries.items) c.in-At.i
+    (sym (ap (is_done_at (length c.args.self.now.entries.items)) c.in-At.is) ∙ c.requires.going) in
     IfOk-weaker c.met_task.result _ _
     (λ task marks c'.
-    at_step c' c.args.plan.now c.args.self.now.component (string_bytes c.args.self.now.path) c.args.self.now.recursive c.args.self.now.entries.items c.in-At.i c.index.result.now
+    at_step c' c.args.plan.now c.args.self.now.component (string_bytes c.args.self.now.path) c.args.self.now.recursive
+    c.args.self.now.entries.items c.in-At.i c.index.result.now
     (next_marks c' c.args.plan.now task) c.args.self.now.cursor c.if-self.self below c.index.ensures
-    (marks c') c.in-At.is (elim c.if-self.branch [ then-self w ↦ w.self-is ∙ sym (ap (λ b. cond b (Inside c.in-At.i) (At (c.in-At.i + 1))) w.if-self.true) | else-self w ↦ w.self-is ∙ sym (ap (λ b. cond b (Inside c.in-At.i) (At (c.in-At.i + 1))) w.if-self.false) ]))
+    (marks c') c.in-At.is (elim c.if-self.branch [
+      | then-self w ↦ w.self-is ∙ sym (ap (λ b. cond b (Inside c.in-At.i)
+          (At (c.in-At.i + 1))) w.if-self.true)
+      | else-self w ↦ w.self-is ∙ sym (ap (λ b. cond b (Inside c.in-At.i)
+          (At (c.in-At.i + 1))) w.if-self.false)
+    ]))
     c.met_task.ensures.marks
 
 pub returns-after-self-clause-sound : goal.returns-after-self-clause-sound
 returns-after-self-clause-sound g c =
-    let below = leb-false (length c.args.self.now.entries.items) c.in-At.i (sym (ap (is_done_at (length c.args.self.now.entries.items)) c.in-At.is) ∙ c.requires.going) in
+    let below = leb-false (length c.args.self.now.entries.items) c.in-At.i
+    (sym (ap (is_done_at (length c.args.self.now.entries.items)) c.in-At.is) ∙ c.requires.going) in
     IfOk-weaker c.met_task.result _ _
-    (λ task sound c' h. sound c' (h.entries (c.index.result.now.name, c.index.result.now.is_dir) (contained_at c.args.self.now.entries.items c.in-At.i c.index.result.now below c.index.ensures)))
+    (λ task sound c' h. sound c' (h.entries (c.index.result.now.name, c.index.result.now.is_dir)
+    (contained_at c.args.self.now.entries.items c.in-At.i c.index.result.now below c.index.ensures)))
     c.met_task.ensures.sound
 
 pub returns-in-Inside-clause-marks : goal.returns-in-Inside-clause-marks
 returns-in-Inside-clause-marks g c =
-    let below = leb-false (length c.args.self.now.entries.items) c.in-Inside.i (sym (ap (is_done_at (length c.args.self.now.entries.items)) c.in-Inside.is) ∙ c.requires.going) in
+    let below = leb-false (length c.args.self.now.entries.items) c.in-Inside.i
+    (sym (ap (is_done_at (length c.args.self.now.entries.items)) c.in-Inside.is) ∙ c.requires.going) in
     IfOk-weaker c.entered_task.result _ _
     (λ task marks c'.
-    inside_step c' c.args.plan.now c.args.self.now.component (string_bytes c.args.self.now.path) c.args.self.now.recursive c.args.self.now.entries.items c.in-Inside.i c.index-in-Inside.result.now
+    inside_step c' c.args.plan.now c.args.self.now.component (string_bytes c.args.self.now.path)
+    c.args.self.now.recursive c.args.self.now.entries.items c.in-Inside.i c.index-in-Inside.result.now
     (next_marks c' c.args.plan.now task) c.args.self.now.cursor below c.index-in-Inside.ensures (marks c') c.in-Inside.is)
     c.entered_task.ensures.marks
 
 pub returns-in-Inside-clause-sound : goal.returns-in-Inside-clause-sound
 returns-in-Inside-clause-sound g c =
-    let below = leb-false (length c.args.self.now.entries.items) c.in-Inside.i (sym (ap (is_done_at (length c.args.self.now.entries.items)) c.in-Inside.is) ∙ c.requires.going) in
+    let below = leb-false (length c.args.self.now.entries.items) c.in-Inside.i
+    (sym (ap (is_done_at (length c.args.self.now.entries.items)) c.in-Inside.is) ∙ c.requires.going) in
     IfOk-weaker c.entered_task.result _ _
-    (λ task sound c' h. sound c' (h.entries (c.index-in-Inside.result.now.name, c.index-in-Inside.result.now.is_dir) (contained_at c.args.self.now.entries.items c.in-Inside.i c.index-in-Inside.result.now below c.index-in-Inside.ensures)))
+    (λ task sound c' h. sound c' (h.entries (c.index-in-Inside.result.now.name, c.index-in-Inside.result.now.is_dir)
+    (contained_at c.args.self.now.entries.items c.in-Inside.i c.index-in-Inside.result.now below
+    c.index-in-Inside.ensures)))
     c.entered_task.ensures.sound
 
 pub index-requires : goal.index-requires
@@ -77,33 +92,60 @@ index-requires-in-Inside g c =
     omega (arith, leb-false n c.in-Inside.i (sym (ap (is_done_at n) c.in-Inside.is) ∙ c.requires.going), c.args.self.now.entries.ok.0)
 
 pub returns-in-Parent-clause-falls : goal.returns-in-Parent-clause-falls
-returns-in-Parent-clause-falls g c = OnOk-from c.special_task.result (omega (arith, ap (cursor_steps (length c.args.self.now.entries.items)) c.in-Parent.is))
+returns-in-Parent-clause-falls g c = OnOk-from c.special_task.result
+    (omega (arith, ap (cursor_steps (length c.args.self.now.entries.items)) c.in-Parent.is))
 
 pub returns-in-Parent-clause-ready : goal.returns-in-Parent-clause-ready
 returns-in-Parent-clause-ready g c =
-    IfOk-weaker c.special_task.result _ _ (λ task none. omega (arith, ap (cursor_unmet (length c.args.self.now.entries.items)) c.in-Parent.is, none)) c.special_task.ensures.ready
+    IfOk-weaker c.special_task.result _ _ (λ task none. omega
+    (arith, ap (cursor_unmet (length c.args.self.now.entries.items)) c.in-Parent.is, none))
+    c.special_task.ensures.ready
 
 pub returns-in-Current-clause-falls : goal.returns-in-Current-clause-falls
-returns-in-Current-clause-falls g c = OnOk-from c.special_task-in-Current.result (omega (arith, ap (cursor_steps (length c.args.self.now.entries.items)) c.in-Current.is))
+returns-in-Current-clause-falls g c = OnOk-from c.special_task-in-Current.result
+    (omega (arith, ap (cursor_steps (length c.args.self.now.entries.items)) c.in-Current.is))
 
 pub returns-in-Current-clause-ready : goal.returns-in-Current-clause-ready
 returns-in-Current-clause-ready g c =
-    IfOk-weaker c.special_task-in-Current.result _ _ (λ task none. omega (arith, ap (cursor_unmet (length c.args.self.now.entries.items)) c.in-Current.is, none)) c.special_task-in-Current.ensures.ready
+    IfOk-weaker c.special_task-in-Current.result _ _ (λ task none. omega
+    (arith, ap (cursor_unmet (length c.args.self.now.entries.items)) c.in-Current.is, none))
+    c.special_task-in-Current.ensures.ready
 
 pub returns-in-Inside-clause-falls : goal.returns-in-Inside-clause-falls
 returns-in-Inside-clause-falls g c =
     let n = length c.args.self.now.entries.items in
-    OnOk-from c.entered_task.result (omega (arith, leb-false n c.in-Inside.i (sym (ap (is_done_at n) c.in-Inside.is) ∙ c.requires.going), ap (cursor_steps n) c.in-Inside.is))
+    OnOk-from c.entered_task.result (omega (
+      arith,
+      leb-false n c.in-Inside.i (sym (ap (is_done_at n) c.in-Inside.is)
+          ∙ c.requires.going),
+      ap (cursor_steps n) c.in-Inside.is,
+    ))
 
 pub returns-in-Inside-clause-ready : goal.returns-in-Inside-clause-ready
 returns-in-Inside-clause-ready g c =
-    IfOk-weaker c.entered_task.result _ _ (λ task none. omega (arith, ap (cursor_unmet (length c.args.self.now.entries.items)) c.in-Inside.is, none)) c.entered_task.ensures.ready
+    IfOk-weaker c.entered_task.result _ _ (λ task none. omega
+    (arith, ap (cursor_unmet (length c.args.self.now.entries.items)) c.in-Inside.is, none))
+    c.entered_task.ensures.ready
 
 pub returns-after-self-clause-falls : goal.returns-after-self-clause-falls
 returns-after-self-clause-falls g c =
     let n = length c.args.self.now.entries.items in
     let below = leb-false n c.in-At.i (sym (ap (is_done_at n) c.in-At.is) ∙ c.requires.going) in
-    OnOk-from c.met_task.result (elim c.if-self.branch [ then-self w ↦ omega (arith, below, ap (cursor_steps n) c.in-At.is, ap (cursor_steps n) w.self-is) | else-self w ↦ omega (arith, below, ap (cursor_steps n) c.in-At.is, ap (cursor_steps n) w.self-is) ])
+    OnOk-from c.met_task.result (elim c.if-self.branch [
+      | then-self w ↦ omega (
+        arith,
+        below,
+        ap (cursor_steps n)
+            c.in-At.is,
+        ap (cursor_steps n) w.self-is,
+      )
+      | else-self w ↦ omega (
+        arith,
+        below,
+        ap (cursor_steps n) c.in-At.is,
+        ap (cursor_steps n) w.self-is,
+      )
+    ])
 
 pub returns-after-self-clause-ready : goal.returns-after-self-clause-ready
 returns-after-self-clause-ready g c =
@@ -112,5 +154,22 @@ returns-after-self-clause-ready g c =
     IfOk-weaker c.met_task.result _ _
     (λ task _.
     let one = ready_one c.args.plan.now task in
-    elim c.if-self.branch [ then-self w ↦ omega (arith, below, one, ap (cursor_unmet n) c.in-At.is, ap (cursor_unmet n) w.self-is) | else-self w ↦ omega (arith, below, one, ap (cursor_unmet n) c.in-At.is, ap (cursor_unmet n) w.self-is) ])
+    elim c.if-self.branch [
+      | then-self w ↦ omega (
+        arith,
+        below,
+        one,
+        ap (cursor_unmet n) c.in-At.is,
+        ap (cursor_unmet n)
+            w.self-is,
+      )
+      | else-self w ↦ omega (
+        arith,
+        below,
+        one,
+        ap (cursor_unmet n) c.in-At.is,
+        ap (cursor_unmet n)
+            w.self-is,
+      )
+    ])
     c.met_task.ensures.marks

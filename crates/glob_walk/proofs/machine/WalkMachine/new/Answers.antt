@@ -6,7 +6,8 @@ use Rattle.glob_walk.proofs.machine.WalkMachine.new.Goals as goal
 pub returns-clause-aim : goal.returns-clause-aim
 returns-clause-aim g c = λ x.
     let plan = c.in_ok-plan.ensures in
-    ap (listing_of x) c.from_plan.ensures.aim ∙ aim_listing x c.args.options c.args.pattern.now c.in_ok-plan.plan plan.options plan.rooted plan.directories plan.components
+    ap (listing_of x) c.from_plan.ensures.aim ∙ aim_listing x c.args.options c.args.pattern.now c.in_ok-plan.plan
+    plan.options plan.rooted plan.directories plan.components
 
 pub from_plan-requires : goal.from_plan-requires
 from_plan-requires g c = record { start = c.in_ok-start.ensures.ok ∙ c.start.ensures }

@@ -5,7 +5,7 @@ use Rattle.std.proofs.lemmas.List.{drop_all, drop_more}
 use Rattle.glob_walk.proofs.plan.Plan.component.Goals as goal
 
 module _ {X : Type 0} (xs : List X) (n : ℕ) where
-  -- what `get` tells of the place
+  -- what `get` returns for the index
   abbrev IsGot : Option (Bor X) → Type 0
   IsGot r = MatchOption r (length xs ≤ n) (λ x. (n < length xs) × HoldsAt (λ y. x.now ≡ y) xs n)
 
@@ -22,7 +22,8 @@ module _ {X : Type 0} (xs : List X) (n : ℕ) where
   past-got (Some x) at = tt
 
 pub returns-clause-rest : goal.returns-clause-rest
-returns-clause-rest g c = rest-got c.args.self.now.components.items c.args.number c.get.result (rw c.deref.ensures.value at c.get.ensures.lookup.3)
+returns-clause-rest g c = rest-got c.args.self.now.components.items c.args.number c.get.result
+    (rw c.deref.ensures.value at c.get.ensures.lookup.3)
 
 pub returns-clause-within : goal.returns-clause-within
 returns-clause-within g c = rw c.deref.ensures.len at (within-got c.deref.result.now c.args.number c.get.result c.get.ensures.lookup.3)

@@ -34,7 +34,11 @@ returns-clause-ready g c =
     omega (arith, more)
 
 pub returns-clause-sound : goal.returns-clause-sound
-returns-clause-sound g c = λ c' f h. record { next = h.next; frames = subst (All (IsFrameSound c')) (sym c.in_ok-push.ensures.items) (All-push (IsFrameSound c') c.args.self.now.frames.items c.args.frame h.frames f) }
+returns-clause-sound g c = λ c' f h. record {
+  next = h.next;
+  frames = subst (All (IsFrameSound c'))
+      (sym c.in_ok-push.ensures.items) (All-push (IsFrameSound c') c.args.self.now.frames.items c.args.frame h.frames f);
+}
 
 pub returns-then-is_done-clause-plan : goal.returns-then-is_done-clause-plan
 returns-then-is_done-clause-plan g c = refl

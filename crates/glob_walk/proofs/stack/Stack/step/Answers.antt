@@ -1,4 +1,5 @@
-use Rattle.std.proofs.Common.{◌≡◌, ℕ, ◌+◌, ◌-◌, ◌<◌, ◌≤◌, true, false, List, length, get_or, set, take, Option, None, Some, refl, sym, ap, ◌∙◌, ◌++◌, subst, arith}
+use Rattle.std.proofs.Common.{◌≡◌, ℕ, ◌+◌, ◌-◌, ◌<◌, ◌≤◌, true, false, List, length, get_or, set, take, Option, None}
+use Rattle.std.proofs.Common.{Some, refl, sym, ap, ◌∙◌, ◌++◌, subst, arith}
 use Rattle.std.specs.Prelude.{vec_len, sum_by}
 use Rattle.std.specs.List.{All}
 use Rattle.std.proofs.lemmas.List.Elements.{All-get_or, All-set}
@@ -20,12 +21,14 @@ next-light : {A : Type 0} (next : Option (Task A)) → next_weight next ≤ 2
 next-light None = omega arith
 next-light (Some t) = state-light t.state
 
--- one of a list is replaced by another
-sum-at : {X : Type 0} (f : X → ℕ) (xs : List X) (n : ℕ) (x y : X) → n + 1 ≡ length xs → x ≡ get_or xs n x → sum_by f (set xs n y) + f x ≡ sum_by f xs + f y
+-- an element of a list is replaced
+sum-at : {X : Type 0} (f : X → ℕ) (xs : List X) (n : ℕ) (x y : X) → n + 1 ≡ length xs → x ≡ get_or xs n x → sum_by f
+    (set xs n y) + f x ≡ sum_by f xs + f y
 sum-at f xs n x y h is = ap (λ z. sum_by f (set xs n y) + f z) is ∙ sum_by-set f xs n y x (omega (arith, h))
 
--- and dropped
-sum-front : {X : Type 0} (f : X → ℕ) (xs ys : List X) (n : ℕ) (x y : X) → n + 1 ≡ length xs → x ≡ get_or xs n x → ys ≡ take n (set xs n y) → sum_by f ys + f x ≤ sum_by f xs + f y
+-- or dropped
+sum-front : {X : Type 0} (f : X → ℕ) (xs ys : List X) (n : ℕ) (x y : X) → n + 1 ≡ length xs → x ≡ get_or xs n x
+    → ys ≡ take n (set xs n y) → sum_by f ys + f x ≤ sum_by f xs + f y
 sum-front f xs ys n x y h is popped = omega (arith, ap (sum_by f) popped, sum_by-take-le f (set xs n y) n, sum-at f xs n x y h is)
 
 -- what holds of all holds of the last
@@ -35,47 +38,67 @@ last-holds P xs n x h is all = subst P (sym is) (All-get_or P xs n x (omega (ari
 pub returns-else-is_done-clause-left : goal.returns-else-is_done-clause-left
 returns-else-is_done-clause-left g c = λ c'.
     ap (λ n. next_marks c' c.args.self.now.plan n ++ frames_marks c' c.args.self.now.plan c.args.self.now.frames.items) c.requires.none
-    ∙ step_left c' c.args.self.now.plan c.args.self.now.frames.items (vec_len c.args.self.now.frames - 1) c.in-Some.frame.now c.step.new.self (next_marks c' c.args.self.now.plan c.in-Ok.task)
+    ∙ step_left c' c.args.self.now.plan c.args.self.now.frames.items (vec_len c.args.self.now.frames - 1)
+    c.in-Some.frame.now c.step.new.self (next_marks c' c.args.self.now.plan c.in-Ok.task)
     (omega (arith, c.in-Some.ensures.variant.0 refl, c.args.self.now.frames.ok.0)) c.in-Some.ensures.value (c.in-Ok.ensures.marks c')
 
 pub returns-then-is_done-clause-left : goal.returns-then-is_done-clause-left
 returns-then-is_done-clause-left g c = λ c'.
     let done : is_done c.step.new.self ≡ true = sym c.is_done.ensures ∙ c.if-is_done.true in
     ap (λ n. next_marks c' c.args.self.now.plan n ++ frames_marks c' c.args.self.now.plan c.args.self.now.frames.items) c.requires.none
-    ∙ last_step_left c' c.args.self.now.plan c.args.self.now.frames.items c.pop-then-is_done.new.self.items (vec_len c.args.self.now.frames - 1) c.in-Some.frame.now c.step.new.self (next_marks c' c.args.self.now.plan c.in-Ok.task)
-    (omega (arith, c.in-Some.ensures.variant.0 refl, c.args.self.now.frames.ok.0)) c.in-Some.ensures.value (c.in-Ok.ensures.marks c') done c.pop-then-is_done.ensures.rest
+    ∙ last_step_left c' c.args.self.now.plan c.args.self.now.frames.items c.pop-then-is_done.new.self.items
+    (vec_len c.args.self.now.frames - 1) c.in-Some.frame.now c.step.new.self (next_marks c' c.args.self.now.plan
+    c.in-Ok.task)
+    (omega (arith, c.in-Some.ensures.variant.0 refl, c.args.self.now.frames.ok.0)) c.in-Some.ensures.value
+    (c.in-Ok.ensures.marks c') done c.pop-then-is_done.ensures.rest
 
 pub returns-then-is_done-clause-sound : goal.returns-then-is_done-clause-sound
 returns-then-is_done-clause-sound g c = λ c' h.
     let frame : IsFrameSound c' c.in-Some.frame.now =
-    last-holds (IsFrameSound c') c.args.self.now.frames.items (vec_len c.args.self.now.frames - 1) c.in-Some.frame.now (omega (arith, c.in-Some.ensures.variant.0 refl, c.args.self.now.frames.ok.0)) c.in-Some.ensures.value h.frames in
+    last-holds (IsFrameSound c') c.args.self.now.frames.items (vec_len c.args.self.now.frames - 1) c.in-Some.frame.now
+    (omega (arith, c.in-Some.ensures.variant.0 refl, c.args.self.now.frames.ok.0)) c.in-Some.ensures.value h.frames
+    in
     record {
       next = c.in-Ok.ensures.sound c' frame;
-      frames = All-front (IsFrameSound c') c.args.self.now.frames.items c.pop-then-is_done.new.self.items (vec_len c.args.self.now.frames - 1) c.step.new.self (omega (arith, c.in-Some.ensures.variant.0 refl, c.args.self.now.frames.ok.0)) c.pop-then-is_done.ensures.rest h.frames;
+      frames = All-front (IsFrameSound c') c.args.self.now.frames.items c.pop-then-is_done.new.self.items
+          (vec_len c.args.self.now.frames - 1) c.step.new.self (omega (
+            arith,
+            c.in-Some.ensures.variant.0 refl,
+            c.args.self.now.frames.ok.0,
+          )) c.pop-then-is_done.ensures.rest h.frames;
     }
 
 pub returns-else-is_done-clause-falls : goal.returns-else-is_done-clause-falls
 returns-else-is_done-clause-falls g c = λ _.
     let n = vec_len c.args.self.now.frames - 1 in
-    let sums = sum-at frame_weight c.args.self.now.frames.items n c.in-Some.frame.now c.step.new.self (omega (arith, c.in-Some.ensures.variant.0 refl, c.args.self.now.frames.ok.0)) c.in-Some.ensures.value in
+    let sums = sum-at frame_weight c.args.self.now.frames.items n c.in-Some.frame.now c.step.new.self
+    (omega (arith, c.in-Some.ensures.variant.0 refl, c.args.self.now.frames.ok.0)) c.in-Some.ensures.value in
     omega (arith, sums, next-light c.in-Ok.task, c.in-Ok.ensures.falls)
 
 pub returns-else-is_done-clause-ready : goal.returns-else-is_done-clause-ready
 returns-else-is_done-clause-ready g c =
     let n = vec_len c.args.self.now.frames - 1 in
-    let sums = sum-at unmet c.args.self.now.frames.items n c.in-Some.frame.now c.step.new.self (omega (arith, c.in-Some.ensures.variant.0 refl, c.args.self.now.frames.ok.0)) c.in-Some.ensures.value in
+    let sums = sum-at unmet c.args.self.now.frames.items n c.in-Some.frame.now c.step.new.self
+    (omega (arith, c.in-Some.ensures.variant.0 refl, c.args.self.now.frames.ok.0)) c.in-Some.ensures.value in
     omega (arith, sums, c.in-Ok.ensures.ready)
 
 pub returns-then-is_done-clause-falls : goal.returns-then-is_done-clause-falls
 returns-then-is_done-clause-falls g c = λ _.
     let n = vec_len c.args.self.now.frames - 1 in
-    let sums = sum-front frame_weight c.args.self.now.frames.items c.pop-then-is_done.new.self.items n c.in-Some.frame.now c.step.new.self (omega (arith, c.in-Some.ensures.variant.0 refl, c.args.self.now.frames.ok.0)) c.in-Some.ensures.value c.pop-then-is_done.ensures.rest in
+    let sums = sum-front frame_weight c.args.self.now.frames.items c.pop-then-is_done.new.self.items n
+    c.in-Some.frame.now c.step.new.self (omega (
+      arith,
+      c.in-Some.ensures.variant.0 refl,
+      c.args.self.now.frames.ok.0,
+    )) c.in-Some.ensures.value c.pop-then-is_done.ensures.rest in
     omega (arith, sums, next-light c.in-Ok.task, c.in-Ok.ensures.falls)
 
 pub returns-then-is_done-clause-ready : goal.returns-then-is_done-clause-ready
 returns-then-is_done-clause-ready g c =
     let n = vec_len c.args.self.now.frames - 1 in
-    let sums = sum-front unmet c.args.self.now.frames.items c.pop-then-is_done.new.self.items n c.in-Some.frame.now c.step.new.self (omega (arith, c.in-Some.ensures.variant.0 refl, c.args.self.now.frames.ok.0)) c.in-Some.ensures.value c.pop-then-is_done.ensures.rest in
+    let sums = sum-front unmet c.args.self.now.frames.items c.pop-then-is_done.new.self.items n c.in-Some.frame.now
+    c.step.new.self (omega (arith, c.in-Some.ensures.variant.0 refl, c.args.self.now.frames.ok.0))
+    c.in-Some.ensures.value c.pop-then-is_done.ensures.rest in
     omega (arith, sums, c.in-Ok.ensures.ready)
 
 pub step-requires-clause-going : goal.step-requires-clause-going
@@ -85,15 +108,19 @@ step-requires-clause-going g c =
 
 pub step-requires-clause-within : goal.step-requires-clause-within
 step-requires-clause-within g c =
-    last-holds (λ f. f.component < vec_len c.args.self.now.plan.components) c.args.self.now.frames.items (vec_len c.args.self.now.frames - 1) c.in-Some.frame.now
+    last-holds (λ f. f.component < vec_len c.args.self.now.plan.components) c.args.self.now.frames.items
+    (vec_len c.args.self.now.frames - 1) c.in-Some.frame.now
     (omega (arith, c.in-Some.ensures.variant.0 refl, c.args.self.now.frames.ok.0)) c.in-Some.ensures.value c.args.self.now.components
 
 pub returns-else-is_done-clause-sound : goal.returns-else-is_done-clause-sound
 returns-else-is_done-clause-sound g c = λ c' h.
     let n = vec_len c.args.self.now.frames - 1 in
     let frame : IsFrameSound c' c.in-Some.frame.now =
-    last-holds (IsFrameSound c') c.args.self.now.frames.items n c.in-Some.frame.now (omega (arith, c.in-Some.ensures.variant.0 refl, c.args.self.now.frames.ok.0)) c.in-Some.ensures.value h.frames in
+    last-holds (IsFrameSound c') c.args.self.now.frames.items n c.in-Some.frame.now
+    (omega (arith, c.in-Some.ensures.variant.0 refl, c.args.self.now.frames.ok.0)) c.in-Some.ensures.value h.frames
+    in
     record {
       next = c.in-Ok.ensures.sound c' frame;
-      frames = All-set (IsFrameSound c') c.args.self.now.frames.items n c.step.new.self (subst (IsFrameSound c') (sym c.in-Ok.ensures.same) (record { entries = frame.entries })) h.frames;
+      frames = All-set (IsFrameSound c') c.args.self.now.frames.items n c.step.new.self (subst (IsFrameSound c')
+          (sym c.in-Ok.ensures.same) (record { entries = frame.entries })) h.frames;
     }

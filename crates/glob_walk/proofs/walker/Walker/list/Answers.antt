@@ -24,7 +24,8 @@ returns-then-not-charge g c = TurnsTo-said _ _ _ _ _ _ c.limit.ensures (record {
     charges = record {
       paths = [];
       front = ap (λ ms. ms ++ frames_marks c' c.args.self.now.stack.plan c.args.self.now.stack.frames.items)
-          (opened_unit c' (IsContent-from_test c' w) c.args.self.now.stack.plan c.args.recursive c.args.component (string_bytes c.args.path) c.requires.opens (h.stack.next refl));
+          (opened_unit c' (IsContent-from_test c' w) c.args.self.now.stack.plan c.args.recursive c.args.component
+          (string_bytes c.args.path) c.requires.opens (h.stack.next refl));
       units = search rules;
     };
   };
@@ -47,8 +48,10 @@ returns g c =
         charges = record {
           paths = [];
           front = ap (λ ms. ms ++ frames_marks c' s.plan s.frames.items)
-              (opened_unit c' (IsContent-from_test c' w) s.plan c.args.recursive c.args.component (string_bytes c.args.path) c.requires.opens (h.stack.next refl))
-              ∙ ap (λ ms. Work (string_bytes c.args.path) ∷ (drop 1 (enter_from c' s.plan c.args.component (string_bytes c.args.path) true) ++ ms)) (left_none c' s c.requires.idle.1);
+              (opened_unit c' (IsContent-from_test c' w) s.plan c.args.recursive c.args.component
+              (string_bytes c.args.path) c.requires.opens (h.stack.next refl))
+              ∙ ap (λ ms. Work (string_bytes c.args.path) ∷ (drop 1 (enter_from c' s.plan c.args.component
+              (string_bytes c.args.path) true) ++ ms)) (left_none c' s c.requires.idle.1);
           units = search rules;
         };
         unit = search rules;

@@ -37,7 +37,8 @@ returns g c =
         before = c.args.self.now.meter.spent;
         charges = record {
           paths = [];
-          front = ap (λ ms. Work (string_bytes c.args.path) ∷ (kind_marks c' s.plan c.args.component (string_bytes c.args.path) (Look c.args.accepted) ++ ms))
+          front = ap (λ ms. Work (string_bytes c.args.path) ∷ (kind_marks c' s.plan c.args.component
+              (string_bytes c.args.path) (Look c.args.accepted) ++ ms))
               (left_none c' s c.requires.idle.1);
           units = search rules;
         };

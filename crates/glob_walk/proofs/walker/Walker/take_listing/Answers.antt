@@ -22,7 +22,8 @@ returns-in-Ok-clause-turn g c =
     let old = with_query c.args.path c.args.component (List c.args.recursive c.args.kinds) c.args.self.now in
     let asked = Some (ListAt c.args.kinds (string_bytes c.args.path)) in
     subst (λ r. TurnsTo (IsListedIn asked r) (entry_count r) old (said c.enter_listed.result) c.enter_listed.new.self) (sym c.in-Ok.is)
-    (TurnsTo-fits (AreListedAt c.args.kinds (string_bytes c.args.path) c.in-Ok.entries.items) (IsListedIn asked (Ok c.in-Ok.entries)) (vec_len c.in-Ok.entries)
+    (TurnsTo-fits (AreListedAt c.args.kinds (string_bytes c.args.path) c.in-Ok.entries.items) (IsListedIn asked
+    (Ok c.in-Ok.entries)) (vec_len c.in-Ok.entries)
     old c.enter_listed.new.self (said c.enter_listed.result) (λ c' w. (w.0, w.1)) c.enter_listed.ensures)
 
 pub returns-in-Err-Read-clause-failed : goal.returns-in-Err-Read-clause-failed
@@ -54,8 +55,10 @@ returns-in-Err-Read-clause-turn g c =
           let fault = subst (λ r. IfErr r (IsListError (list_result c' (string_bytes c.args.path)))) told w.2 in
           uncharged _ _ _
           (ap (λ ms. ms ++ frames_marks c' s.plan s.frames.items)
-          (listed_fault c' (IsContent-from_test c' w.0) s.plan c.args.recursive c.args.component (string_bytes c.args.path) c.requires.listed.opens h.query (error_kind c.in-Err-Read.e) fault)
-          ∙ ap (λ ms. Give (Unread (string_bytes c.args.path) (error_kind c.in-Err-Read.e)) ∷ ms) (left_none c' s c.requires.idle.1 ∙ left_free c' s.plan _ _ c.requires.idle.0));
+          (listed_fault c' (IsContent-from_test c' w.0) s.plan c.args.recursive c.args.component
+          (string_bytes c.args.path) c.requires.listed.opens h.query (error_kind c.in-Err-Read.e) fault)
+          ∙ ap (λ ms. Give (Unread (string_bytes c.args.path) (error_kind c.in-Err-Read.e)) ∷ ms)
+          (left_none c' s c.requires.idle.1 ∙ left_free c' s.plan _ _ c.requires.idle.0));
     })
 
 pub returns-in-Err-Memory-clause-turn : goal.returns-in-Err-Memory-clause-turn

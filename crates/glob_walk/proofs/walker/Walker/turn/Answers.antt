@@ -19,10 +19,16 @@ pub enter-requires : goal.enter-requires
 enter-requires g c = record { idle = (c.requires.free, c.take.ensures.after) }
 
 pub returns-in-Ok-true-clause-falls : goal.returns-in-Ok-true-clause-falls
-returns-in-Ok-true-clause-falls g c = λ _. omega (arith, c.in-Ok-true.ensures.falls c.in-Ok-true.field-0-test, ap next_weight c.take.ensures.after)
+returns-in-Ok-true-clause-falls g c = λ _. omega (
+  arith,
+  c.in-Ok-true.ensures.falls c.in-Ok-true.field-0-test,
+  ap
+      next_weight c.take.ensures.after,
+)
 
 pub returns-in-Unseen-clause-idle : goal.returns-in-Unseen-clause-idle
-returns-in-Unseen-clause-idle g c = λ none _. let next : c.args.self.now.stack.next ≡ Some c.in-Some.task = sym c.take.ensures.value ∙ c.in-Some.is in cc
+returns-in-Unseen-clause-idle g c = λ none _. let next : c.args.self.now.stack.next ≡ Some c.in-Some.task =
+    sym c.take.ensures.value ∙ c.in-Some.is in cc
 
 pub returns-in-Unseen-clause-turn : goal.returns-in-Unseen-clause-turn
 returns-in-Unseen-clause-turn g c =
@@ -36,7 +42,8 @@ returns-in-Seen-clause-falls g c = λ went.
     omega (arith, c.enter.ensures.falls went, ap next_weight c.take.ensures.after, two)
 
 pub returns-in-Seen-clause-idle : goal.returns-in-Seen-clause-idle
-returns-in-Seen-clause-idle g c = λ none _. let next : c.args.self.now.stack.next ≡ Some c.in-Some.task = sym c.take.ensures.value ∙ c.in-Some.is in cc
+returns-in-Seen-clause-idle g c = λ none _. let next : c.args.self.now.stack.next ≡ Some c.in-Some.task =
+    sym c.take.ensures.value ∙ c.in-Some.is in cc
 
 pub returns-in-Seen-clause-turn : goal.returns-in-Seen-clause-turn
 returns-in-Seen-clause-turn g c =
@@ -54,10 +61,15 @@ returns-in-Ok-true-clause-turn g c =
       plan = c.step.ensures.plan;
       asks = c.requires.free;
       ready = omega (arith, c.in-Ok-true.ensures.ready, ap (next_ready s.plan) (none ∙ sym c.take.ensures.after));
-      sound = λ c' w h. record { query = h.query; stack = c.in-Ok-true.ensures.sound c' (sound_none c' _ c.take.ensures.after h.stack.frames) };
+      sound = λ c' w h. record {
+        query = h.query;
+        stack = c.in-Ok-true.ensures.sound c'
+            (sound_none c' _ c.take.ensures.after h.stack.frames);
+      };
       takes = λ c' w h. uncharged _ _ _
           (λ i. query_marks c' (sym c.step.ensures.plan i) c.args.self.now.query
-          ++ (ap (λ n. next_marks c' s.plan n ++ frames_marks c' s.plan s.frames.items) (none ∙ sym c.take.ensures.after) ∙ c.in-Ok-true.ensures.left c') i);
+          ++ (ap (λ n. next_marks c' s.plan n ++ frames_marks c' s.plan s.frames.items)
+          (none ∙ sym c.take.ensures.after) ∙ c.in-Ok-true.ensures.left c') i);
     }
 
 pub returns-in-Ok-false-clause-turn : goal.returns-in-Ok-false-clause-turn
@@ -71,7 +83,11 @@ returns-in-Ok-false-clause-turn g c =
       plan = c.step.ensures.plan;
       asks = c.requires.free;
       ready = omega (arith, c.in-Ok-false.ensures.ready, ap (next_ready s.plan) (none ∙ sym c.take.ensures.after));
-      sound = λ c' w h. record { query = h.query; stack = c.in-Ok-false.ensures.sound c' (sound_none c' _ c.take.ensures.after h.stack.frames) };
+      sound = λ c' w h. record {
+        query = h.query;
+        stack = c.in-Ok-false.ensures.sound c'
+            (sound_none c' _ c.take.ensures.after h.stack.frames);
+      };
       takes = λ c' w h.
           let over = c.in-Ok-false.ensures.over c.in-Ok-false.field-0-test c' in (
             uncharged _ _ _
@@ -82,4 +98,5 @@ returns-in-Ok-false-clause-turn g c =
     }
 
 pub returns-in-Err-clause-turn : goal.returns-in-Err-clause-turn
-returns-in-Err-clause-turn g c = TurnsTo-said _ _ _ _ _ _ c.memory.ensures (TurnsTo-memory _ _ _ _ refl refl c.step.ensures.plan c.requires.free)
+returns-in-Err-clause-turn g c = TurnsTo-said _ _ _ _ _ _ c.memory.ensures (TurnsTo-memory _ _ _ _ refl refl
+    c.step.ensures.plan c.requires.free)

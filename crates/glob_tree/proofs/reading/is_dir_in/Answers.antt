@@ -1,7 +1,7 @@
 use Rattle.std.proofs.Common.{rules, ◌≡◌, length}
 use Rattle.std.specs.String.{string_bytes}
 use Rattle.glob_tree.proofs.DiskLemmas.{split_at_seam}
-use Rattle.glob_tree.proofs.lookups.Lookups.is_dir_in.Goals as goal
+use Rattle.glob_tree.proofs.reading.is_dir_in.Goals as goal
 
 pub truncate-requires : goal.truncate-requires
 truncate-requires g c within =
