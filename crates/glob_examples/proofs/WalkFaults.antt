@@ -1,6 +1,5 @@
 -- Why the paths of a walk are not all known.
-use Rattle.std.proofs.Common.{◌≡◌, inl, inr, ℕ, true, List, Contains, Option, Some, Result, Err, refl, sym, ap, subst, ◌∙◌, arith}
-use Rattle.std.specs.Prelude.{option_map}
+use Rattle.std.proofs.Common.{◌≡◌, inl, inr, ℕ, true, List, [], Contains, Option, Some, Result, Err, refl, sym, ap, subst, ◌∙◌, arith}
 use Rattle.std.specs.declared.path.buf.PathBuf.{PathBuf}
 use Rattle.std.specs.IoError.{error_kind}
 use Rattle.glob.specs.Answers.{IsTold}
@@ -14,8 +13,9 @@ use Rattle.glob.specs.Matching.Options.{new_options}
 use Rattle.glob.specs.Text.{Text}
 use Rattle.glob.specs.Types.{GlobCause, GlobError}
 use Rattle.glob.specs.Variants.GlobCause as cause
-use Rattle.glob.specs.Iterating.{Goes, IsFresh, Walking}
-use Rattle.glob.specs.Walks.{AreItems, Gives, error_outcome, outcome}
+use Rattle.glob.specs.Iterating.{Goes, Walking}
+use Rattle.glob.specs.Machines.{Progress, HasGiven, IsFresh, Says, next_saying}
+use Rattle.glob.specs.Walks.{AreItems, Gives, error_outcome}
 use Rattle.glob.specs.WalkGoals.{Answers}
 use Rattle.glob.proofs.FoundPaths.{FindsSoFar, FindsSoFar-limit, FindsSoFar-unread, item-answered}
 use Rattle.glob_examples.specs.WalkFaults.{EndsAt, IsMet, IsPatternFault, IsWalkFault, fault_by_cause}
@@ -63,36 +63,33 @@ module _ {A : Type 0} (pattern : Text) where
         let answered = item-answered answers (items (listing c new_options pattern)) are (Err e) has in
         subst (IsMet c pattern limit) (sym is) (item_met (cause_of e) answered.0 answered.1 answered.2)
 
-    module _ {X : Type 0} (asks : X → ℕ) (tells : X → Option Content) (first now new : Walking X) (found : List Text) (finds : FindsSoFar tells first now found)
-        (tree : X) (fresh : IsFresh tree limit first) (told : IsTold (tells tree) c) (listed : first.left ≡ Some (listing c new_options pattern)) where
-      at_first : IsTold (tells first.tree) c
-      at_first = (ap tells fresh.tree ∙ told.0, told.1)
-
-      next_met : (k : GlobCause) → Goes asks tells now (Some (error_outcome k e)) new → IsMet c pattern limit (fault_by_cause k e)
+    module _ {X : Type 0} {P : Progress} (asks : X → ℕ) (tells : X → Option Content) (first now new : Walking X P) (found : List Text) (finds : FindsSoFar tells first now found)
+        (fresh : IsFresh limit first.machine) (at_first : IsTold (tells first.tree) c) (begun : HasGiven (listing c new_options pattern) c [] first.machine) where
+      next_met : (k : GlobCause) → Goes asks tells now (Says (error_outcome k e)) new → IsMet c pattern limit (fault_by_cause k e)
       next_met cause.Read goes =
-          FindsSoFar-unread asks tells first now new found finds (path_of e) (error_kind (error_of e)) goes c at_first (listing c new_options pattern) listed
+          FindsSoFar-unread asks tells first now new found finds (path_of e) (error_kind (error_of e)) goes c at_first (listing c new_options pattern) begun
       next_met cause.Memory goes = tt
       next_met cause.Limit goes =
-          let over = FindsSoFar-limit asks tells first now new found finds (path_of e) goes c at_first (listing c new_options pattern) listed in
-          omega (arith, over, fresh.limit, fresh.spent)
+          let over = FindsSoFar-limit asks tells first now new found finds (path_of e) goes c at_first (listing c new_options pattern) begun in
+          omega (arith, over, fresh.limit)
 
       -- and so is one that `next` returned
-      pub IsMet-next : (answer : Option (Result (PathBuf A) (GlobError A))) → answer ≡ Some (Err e) → Goes asks tells now (option_map outcome answer) new
+      pub IsMet-next : (answer : Option (Result (PathBuf A) (GlobError A))) → answer ≡ Some (Err e) → Goes asks tells now (next_saying answer) new
           → (fault : WalkFault A) → fault ≡ fault_by_cause (cause_of e) e → IsMet c pattern limit fault
       IsMet-next answer some goes fault is =
           subst (IsMet c pattern limit) (sym is)
-          (next_met (cause_of e) (subst (λ r. Goes asks tells now (option_map outcome r) new) some goes))
+          (next_met (cause_of e) (subst (λ r. Goes asks tells now (next_saying r) new) some goes))
 
 -- what ends a loop over a walk by a plain pattern is a fault of the walk
 pub IsWalkFault-end : {A : Type 0} (pattern : Text) → is_plain pattern ≡ true → (item : Result (PathBuf A) (GlobError A)) (fault : WalkFault A) → EndsAt item fault → IsWalkFault pattern fault
 IsWalkFault-end pattern plain item fault (inl memory) = subst (IsWalkFault pattern) (sym memory) tt
 IsWalkFault-end pattern plain item fault (inr (e, error, is)) = IsWalkFault-error pattern plain e fault is
 
-module _ {A : Type 0} (pattern : Text) (c : Content) (limit : ℕ) {X : Type 0} (asks : X → ℕ) (tells : X → Option Content) (first now new : Walking X) (found : List Text) (finds : FindsSoFar tells first now found)
-    (tree : X) (fresh : IsFresh tree limit first) (told : IsTold (tells tree) c) (listed : first.left ≡ Some (listing c new_options pattern)) where
+module _ {A : Type 0} (pattern : Text) (c : Content) (limit : ℕ) {X : Type 0} {P : Progress} (asks : X → ℕ) (tells : X → Option Content) (first now new : Walking X P) (found : List Text) (finds : FindsSoFar tells first now found)
+    (fresh : IsFresh limit first.machine) (at_first : IsTold (tells first.tree) c) (begun : HasGiven (listing c new_options pattern) c [] first.machine) where
   -- and is met, if the item is one that `next` returned
-  pub IsMet-end : (answer : Option (Result (PathBuf A) (GlobError A))) (item : Result (PathBuf A) (GlobError A)) → answer ≡ Some item → Goes asks tells now (option_map outcome answer) new
+  pub IsMet-end : (answer : Option (Result (PathBuf A) (GlobError A))) (item : Result (PathBuf A) (GlobError A)) → answer ≡ Some item → Goes asks tells now (next_saying answer) new
       → (fault : WalkFault A) → EndsAt item fault → IsMet c pattern limit fault
   IsMet-end answer item some goes fault (inl memory) = subst (IsMet c pattern limit) (sym memory) tt
   IsMet-end answer item some goes fault (inr (e, error, is)) =
-      IsMet-next pattern c limit e asks tells first now new found finds tree fresh told listed answer (some ∙ ap Some error) goes fault is
+      IsMet-next pattern c limit e asks tells first now new found finds fresh at_first begun answer (some ∙ ap Some error) goes fault is

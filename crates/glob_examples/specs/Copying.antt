@@ -11,7 +11,7 @@ use Rattle.glob.specs.Order.{IsOrderly}
 use Rattle.glob.specs.Text.{Text}
 use Rattle.glob_set.specs.Sets.{Set, AnyMatch}
 
--- What the rules are: the set of patterns of what is copied, and that of what is not.
+-- the rules: the set of patterns for what is copied, and the set for what is not
 pub record CopyRules : Type 0 where
   pub include : Set
   pub exclude : Set
@@ -22,14 +22,14 @@ Copies rules path =
     AnyMatch rules.include.options rules.include.patterns path
     × (¬ (AnyMatch rules.exclude.options rules.exclude.patterns path))
 
--- The files are those that the rules copy of all paths that the undivided pattern matches in the tree: each once and in
--- order as far as its runs of `**` allow, and in the order of the written listing.
+-- The files are all paths in the tree that the undivided pattern matches and the rules copy: each once and in order, as
+-- far as its `**` components allow, and in the order of the written listing.
 pub record AreToCopy (c : Content) (pattern : Text) (rules : CopyRules) (files : List Text) : Type 0 where
   pub exact : (path : Text)
       → Contains files path ↔ (Contains (goal c new_options pattern) path × Copies rules path)
   pub orderly : IsOrderly pattern files
   pub listed : AreKept (Copies rules) (paths (items (listing c new_options pattern))) files
 
--- the text is that of the folder, a separator, and any more
+-- the text is the folder, a separator, and anything after it
 unfoldable pub IsBelow : (folder text : Text) → Type 0
 IsBelow folder text = (rest : Text) × (text ≡ folder ++ slash ∷ rest)

@@ -1,4 +1,4 @@
--- The names of a path, and how a path pattern's components stand for them.
+-- The names of a path, and how a path pattern's components match them.
 use Rattle.std.specs.Prelude.{◌≡◌, ℕ, ◌==◌, ◌⊎◌, List, [], ◌∷◌, ◌++◌}
 use Rattle.std.specs.List.{All, slice_split}
 use Rattle.std.specs.Str.{chars}
@@ -10,7 +10,7 @@ use Rattle.glob.specs.Grammar.Faults.{Refuses}
 use Rattle.glob.specs.Matching.Texts.{Matches}
 use Rattle.glob_pattern.specs.declared.error.PatternRefusal.{PatternRefusal}
 
--- What is between the separators of a text: a path's names, a path pattern's components.
+-- the parts of a text between separators: a path's names, or a path pattern's components
 abbrev pub names_of : List ℕ → List (List ℕ)
 names_of text = slice_split (λ b. b == slash) text
 
@@ -18,23 +18,23 @@ names_of text = slice_split (λ b. b == slash) text
 abbrev pub any_names : List ℕ
 any_names = star ∷ star ∷ []
 
--- the component stands for these names: `**` for any, another for one that it matches
+-- the component matches the group: `**` any names, and another component one name
 abbrev pub StandsFor : (component : List ℕ) → (group : List (List ℕ)) → Type 0
 StandsFor component group =
     (component ≡ any_names)
     ⊎ ((name : List ℕ) × (group ≡ name ∷ []) × Matches new_options (chars component) (chars name))
 
--- the names are groups in a row, one a component, and each component stands for its group
+-- the names split into consecutive groups, one for each component, which matches it
 abbrev pub NamesSplit : (components names : List (List ℕ)) → Type 0
 NamesSplit [] names = names ≡ []
 NamesSplit (component ∷ components) names =
     (group others : List (List ℕ)) × (names ≡ group ++ others) × StandsFor component group × NamesSplit components others
 
--- the component is a pattern
+-- the component is a valid pattern
 abbrev pub IsComponent : List ℕ → Type 0
 IsComponent component = IsAccepted (chars component)
 
--- what a refusal says: the fault of the first component that is no pattern, or out of memory
+-- the refusal is the fault of the first invalid component, or out of memory
 abbrev pub RefusesComponent : (components : List (List ℕ)) → PatternRefusal → Type 0
 RefusesComponent components refusal =
     (front others : List (List ℕ)) × (component : List ℕ)

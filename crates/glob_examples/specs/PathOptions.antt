@@ -1,4 +1,4 @@
--- How a pattern matches a path.
+-- The options for matching a path.
 use Rattle.std.specs.Prelude.{true}
 use Rattle.glob.specs.Matching.Options.{new_options}
 use Rattle.glob.specs.Types.{MatchOptions}

@@ -1,4 +1,4 @@
--- The sources that a pattern of a build names.
+-- The sources of a build.
 use Rattle.std.specs.Prelude.{◌≡◌, List, Contains, ◌↔◌}
 use Rattle.glob.specs.Content.{Content}
 use Rattle.glob.specs.Goal.{goal}
@@ -8,8 +8,8 @@ use Rattle.glob.specs.Matching.Options.{new_options}
 use Rattle.glob.specs.Order.{IsOrderly}
 use Rattle.glob.specs.Text.{Text}
 
--- The files are exactly what the undivided pattern matches, each once and in order as far as its runs of `**` allow.
--- They are the paths of the written listing, in its order.
+-- The files are exactly the paths that the undivided pattern matches, each once and in order, as far as its `**`
+-- components allow. They are the paths of the written listing, in its order.
 pub record AreSources (c : Content) (pattern : Text) (files : List Text) : Type 0 where
   pub exact : (path : Text) → Contains files path ↔ Contains (goal c new_options pattern) path
   pub orderly : IsOrderly pattern files

@@ -1,4 +1,4 @@
--- When it is told why the paths of a walk are not all known.
+-- When a fault may be reported for a walk.
 use Rattle.std.specs.Prelude.{◌≡◌, ◌⊎◌, ℕ, ◌<◌, true, false, Contains, None, Result, Err, ⊤}
 use Rattle.std.specs.declared.path.buf.PathBuf.{PathBuf}
 use Rattle.std.specs.IoError.{error_kind}
@@ -28,11 +28,11 @@ fault_by_cause cause.Read e = Unread e
 fault_by_cause cause.Memory e = Memory
 fault_by_cause cause.Limit e = Limit
 
--- what ends a loop at an item of a walk: an allocation failure, or an error in place of a path
+-- what ends a loop over a walk at an item: an allocation failure, or an error in place of a path
 abbrev pub EndsAt : {A : Type 0} → Result (PathBuf A) (GlobError A) → WalkFault A → Type 0
 EndsAt {A = A} item fault = (fault ≡ Memory) ⊎ ((e : GlobError A) × (item ≡ Err e) × (fault ≡ fault_by_cause (cause_of e) e))
 
--- The pattern may be refused so: for its fault, or because it is not plain, or for lack of memory.
+-- The pattern may be refused with the fault: its syntax error, that it is not plain, or a failed allocation.
 abbrev pub IsPatternFault : {A : Type 0} → (pattern : Text) → WalkFault A → Type 0
 IsPatternFault pattern (Syntax e) = RefusesWith (walk_fault pattern) (refusal.Syntax e)
 IsPatternFault pattern NotPlain = (walk_fault pattern ≡ None) × (is_plain pattern ≡ false)
@@ -40,8 +40,8 @@ IsPatternFault pattern Limit = ⊥
 IsPatternFault pattern Memory = ⊤
 IsPatternFault pattern (Unread e) = ⊥
 
--- A walk by the pattern may fail so: the pattern is refused, or it is plain, and the walk is ended by its limit, by an
--- allocation failure, or by a directory that cannot be listed.
+-- A walk by the pattern may fail with the fault: the pattern is refused, or it is plain and the walk is ended by its
+-- limit, by an allocation failure, or by a directory that cannot be listed.
 abbrev pub IsWalkFault : {A : Type 0} → (pattern : Text) → WalkFault A → Type 0
 IsWalkFault pattern (Syntax e) = RefusesWith (walk_fault pattern) (refusal.Syntax e)
 IsWalkFault pattern NotPlain = (walk_fault pattern ≡ None) × (is_plain pattern ≡ false)
@@ -49,8 +49,8 @@ IsWalkFault pattern Limit = is_plain pattern ≡ true
 IsWalkFault pattern Memory = ⊤
 IsWalkFault pattern (Unread e) = (is_plain pattern ≡ true) × (cause_of e ≡ cause.Read)
 
--- Over a tree with this content: the limit is told only if it does not suffice, and a directory that could not be
--- listed only if the walk meets it.
+-- Over a tree with this content, the limit is reported only if it is too low, and a directory that could not be listed
+-- only if the walk reaches it.
 abbrev pub IsMet : {A : Type 0} → Content → (pattern : Text) → (limit : ℕ) → WalkFault A → Type 0
 IsMet c pattern limit Limit = limit < cost (listing c new_options pattern)
 IsMet c pattern limit (Unread e) =

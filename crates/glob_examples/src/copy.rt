@@ -1,5 +1,4 @@
-//! What a copy tool copies: of the paths that a walk finds, those that an include pattern matches, and no exclude
-//! pattern.
+//! What a copy tool copies: the paths of a walk that an include pattern matches and no exclude pattern does.
 ghost use Rattle.std.specs.Prelude.{◌≡◌, ◌↔◌, ◌⊎◌, [], ◌∷◌, ◌++◌, true, map, chars, string_bytes, IsTrue, Ok, IfOk, IfErr};
 ghost use Rattle.std.specs.Path.{path_bytes, path_buf_bytes};
 ghost use Rattle.std.specs.declared.path.buf.PathBuf.{PathBuf};
@@ -22,7 +21,7 @@ use std::alloc::{AllocError, Allocator, Global};
 use std::marker::Model;
 use std::path::{Path, PathBuf};
 
-/// What is copied: the paths that some include pattern matches, and no exclude pattern.
+/// Selects the paths that some include pattern matches and no exclude pattern does.
 #[derive(Drop)]
 pub struct CopyRules<A: Allocator = Global> {
     include: PatternSet<A>,
@@ -37,8 +36,8 @@ impl<A: Allocator> Model for CopyRules<A> {
 }
 
 impl<A: Allocator + Copy> CopyRules<A> {
-    /// Reads both lists. They are refused with the number and the fault of the first text that is no pattern, or for
-    /// lack of memory.
+    /// Parses both lists. The error has the index and the fault of the first invalid pattern of a list, or reports a
+    /// failed allocation.
     pub fn new(alloc: A, include: &[&str], exclude: &[&str]) -> Result<Self, SetRefusal>
         ensures include { IfOk result (λ rules. rules.include
             ≡ record { patterns = map (λ t. t.now) include.now; options = path_options }) }
@@ -53,10 +52,10 @@ impl<A: Allocator + Copy> CopyRules<A> {
         Ok(CopyRules { include, exclude })
     }
 
-    /// Whether the path is copied. `*` takes one name of it, and `**` any number of names. Fails only if allocation
-    /// fails.
+    /// Whether the path is copied. `*` matches within one name of it, and `**` any number of names. Fails only if
+    /// allocation fails.
     ///
-    /// So by the lists `**/*.rs` and `**/tests/*`, `src/main.rs` is copied, and `src/tests/copy.rs` is not.
+    /// With the lists `**/*.rs` and `**/tests/*`, `src/main.rs` is copied, and `src/tests/copy.rs` is not.
     pub fn copies(&self, path: Path<'_>) -> Result<bool, AllocError>
         ensures { IfOk result (λ yes. IsTrue yes ↔ Copies self.now (path_bytes path.entry)) }
     {
@@ -67,11 +66,11 @@ impl<A: Allocator + Copy> CopyRules<A> {
     }
 }
 
-/// Of the paths that a plain pattern leads to, those that the rules copy. The walk comes to its end, or its first error
-/// is returned: so over a tree with a known content none is missing. `limit` is in lookups, listings and entries.
+/// The paths found by a plain pattern that the rules copy. Either the walk finishes, or its first error is returned; so
+/// over a tree with known content none is missing. `limit` is in lookups, listings and entries.
 ///
-/// All paths that the pattern leads to are held at once. A directory is a path, too. So by `src/**/*` and the rules of
-/// the lists `**/*.rs` and `**/tests/*`, `src/main.rs` is copied.
+/// All paths found are held in memory at once. Directories are paths too. With `src/**/*` and the lists `**/*.rs` and
+/// `**/tests/*`, `src/main.rs` is copied.
 pub fn paths_to_copy<T: Tree, A: Allocator + Copy>(
     alloc: T::Alloc,
     tree: T,
@@ -90,7 +89,7 @@ pub fn paths_to_copy<T: Tree, A: Allocator + Copy>(
     Ok(copied(alloc, rules, paths)?)
 }
 
-/// All paths that a plain pattern leads to, or the first error of the walk.
+/// All paths that a plain pattern finds, or the first error of the walk.
 fn found_paths<T: Tree>(
     alloc: T::Alloc,
     tree: T,
@@ -113,8 +112,7 @@ fn found_paths<T: Tree>(
     Ok(files)
 }
 
-/// Adds the path that a walk gave, or returns the error that it gave in place of one. Fails otherwise only if
-/// allocation fails.
+/// Adds an item of a walk if it is a path, and returns it if it is an error. Otherwise fails only if allocation fails.
 fn push_found<A: Allocator>(
     files: &mut Vec<PathBuf<A>, A>,
     item: Result<PathBuf<A>, GlobError<A>>,
@@ -127,7 +125,7 @@ fn push_found<A: Allocator>(
     Ok(())
 }
 
-/// Those of the paths that the rules copy, in their order. Fails only if allocation fails.
+/// The paths that the rules copy, in order. Fails only if allocation fails.
 fn copied<A: Allocator + Copy, B: Allocator>(
     alloc: B,
     rules: &CopyRules<A>,
@@ -145,8 +143,8 @@ fn copied<A: Allocator + Copy, B: Allocator>(
     Ok(files)
 }
 
-/// The pattern of all that is below a folder, whose name is plain text: in `a[1]` the brackets stand for themselves, so
-/// the pattern is `a[[]1[]]/**/*`. The empty text stands for `/`. Fails only if allocation fails.
+/// The pattern for everything below a folder. Its name is taken literally: for `a[1]` the pattern is `a[[]1[]]/**/*`.
+/// The empty name stands for `/`. Fails only if allocation fails.
 pub fn pattern_below<A: Allocator>(alloc: A, folder: &str) -> Result<String<A>, AllocError>
     ensures { IfOk result (λ pattern. (text : Text)
         → Matches path_options (chars (string_bytes pattern)) text
@@ -157,7 +155,7 @@ pub fn pattern_below<A: Allocator>(alloc: A, folder: &str) -> Result<String<A>, 
     Ok(pattern)
 }
 
-/// Case-sensitive, with the separator rule: `*` takes one name of a path, and `**` any number of names.
+/// Case-sensitive, with the separator rule: `*` matches within one name of a path, and `**` any number of names.
 const fn path_options() -> MatchOptions
     ensures { result ≡ path_options }
 {

@@ -1,9 +1,12 @@
 //! A program's walk over a disk, where what the system holds is known.
 ghost use Rattle.std.specs.Prelude.{IfOk, Some, option_and_then};
+ghost use Rattle.glob_tree.specs.Disks.{content_with_links};
 ghost use Rattle.glob_tree.specs.Followed.{followed};
+ghost use Rattle.glob_tree.specs.declared.physical.Links.TheVariants.{Kept};
 ghost use Rattle.glob_walk.specs.WalkGoals.{FindsExactly, FindsTaken};
 
 use glob::{Disk, MatchOptions, MemSystem, MemTree, PatternRefusal, System, Walk, walk_in};
+use glob_tree::{PhysicalDisk, Strays};
 use std::alloc::Allocator;
 
 /// The whole walk of a pattern over the disk that a system reaches. Where the system holds a known file system without
@@ -23,6 +26,28 @@ pub fn walk_disk<S: System, A: Allocator + Copy>(
         options pattern.now walk.end walk.items.items) }
 {
     walk_in(alloc, Disk::new(system, alloc), pattern, options, limit)
+}
+
+/// The whole walk of a pattern over the disk that a system reaches, where symbolic links are kept. Where the system holds
+/// a known file system, it finds in it what a walk over a tree in memory does in which each symbolic link is a file, also
+/// one to a directory: nothing below a link is found. Names that are not UTF-8 go to `strays`.
+pub fn walk_physical<R: System, S: Strays, A: Allocator + Copy>(
+    alloc: A,
+    system: R,
+    strays: S,
+    pattern: &str,
+    options: MatchOptions,
+    limit: u64,
+) -> Result<Walk<PhysicalDisk<R, S, A>>, PatternRefusal>
+    ensures exact { IfOk result
+        (λ walk. FindsExactly (option_and_then (content_with_links Kept) (R.holds system))
+        options pattern.now walk.end walk.items.items) }
+    ensures taken { IfOk result
+        (λ walk. FindsTaken (option_and_then (content_with_links Kept) (R.holds system))
+        options pattern.now walk.end walk.items.items) }
+{
+    let disk = PhysicalDisk::new(system, strays, alloc);
+    walk_in(alloc, disk, pattern, options, limit)
 }
 
 /// The whole walk of a pattern over a disk whose files are those of a tree in memory, with directories that are read in

@@ -1,4 +1,4 @@
-//! What callers of a walk share: why its paths are not all known, and the test for a plain pattern.
+//! What callers of a walk share: why not all of its paths were found, and the check that a pattern is plain.
 ghost use Rattle.std.specs.Prelude.{◌≡◌, true, OnOk, IfErr};
 ghost use Rattle.glob.specs.Goal.{is_plain};
 ghost use Rattle.glob.specs.GlobErrors.{cause_of};
@@ -7,12 +7,13 @@ ghost use Rattle.glob_examples.specs.WalkFaults.{IsPatternFault, fault_by_cause,
 use glob::{GlobCause, GlobError, PatternError, PatternRefusal, is_plain};
 use std::alloc::{AllocError, AllocFailed, Allocator};
 
-/// Why the paths of a walk are not all known.
+/// Why not all paths of a walk were found.
 #[derive(Drop)]
 pub enum WalkFault<A: Allocator> {
     /// The pattern has this fault.
     Syntax(PatternError),
-    /// The pattern is not plain, as `src/./*.rs` and `.*`: a walk by it may find what the whole pattern does not match.
+    /// The pattern is not plain, for example `src/./*.rs` or `.*`: a walk by it may find paths that the whole pattern
+    /// does not match.
     NotPlain,
     /// The walk needs more units of work than the limit.
     Limit,
@@ -22,7 +23,7 @@ pub enum WalkFault<A: Allocator> {
     Unread(GlobError<A>),
 }
 
-/// A pattern that is refused.
+/// A refused pattern.
 impl<A: Allocator> From<PatternRefusal> for WalkFault<A> {
     ghost from_gives = { λ refusal fault. fault ≡ fault_of_refusal refusal };
 
@@ -69,9 +70,9 @@ impl<T: Drop, A: Allocator> From<AllocFailed<T>> for WalkFault<A> {
     }
 }
 
-/// Refuses a pattern that is not plain: a walk by it may find what the whole pattern does not match.
+/// Refuses a pattern that is not plain: a walk by it may find paths that the whole pattern does not match.
 ///
-/// So `src/**/*.rs` is taken. `src/./*.rs` is refused with `NotPlain`, and `a**` with `Syntax`.
+/// `src/**/*.rs` is accepted, `src/./*.rs` is refused with `NotPlain`, and `a**` with `Syntax`.
 pub fn check_plain<A: Allocator + Copy>(alloc: A, pattern: &str) -> Result<(), WalkFault<A>>
     ensures plain { OnOk result (is_plain pattern.now ≡ true) }
     ensures fault { IfErr result (IsPatternFault pattern.now) }

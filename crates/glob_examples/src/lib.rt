@@ -1,4 +1,4 @@
-//! Callers of the library, one file for each kind of user, with what each promises in words of its own.
+//! Callers of the library, one file for each kind of user, each with promises in its own words.
 #![tactic(auto)]
 
 pub mod copy;

@@ -1,10 +1,10 @@
-//! A match of literals, which the proof computes.
+//! A match of a literal pattern and text, which the proof computes.
 ghost use Rattle.std.specs.Prelude.{IsTrue, IfOk};
 
 use glob::{Pattern, PatternRefusal};
 use std::alloc::Allocator;
 
-/// Whether `*.rs` matches `main.rs`. It does, so the only error is a lack of memory.
+/// Whether `*.rs` matches `main.rs`: always true. The only error is a failed allocation.
 pub fn matches_main<A: Allocator + Copy>(alloc: A) -> Result<bool, PatternRefusal>
     ensures { IfOk result (λ yes. IsTrue yes) }
 {

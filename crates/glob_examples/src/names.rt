@@ -1,17 +1,17 @@
-//! Path patterns that are decided name by name: an example of a judge of another alphabet than text.
+//! Path patterns that are matched name by name: an example of a judge for another alphabet than text.
 //!
-//! The characters of this alphabet are the names of a path, which are between its `/`, and a token takes a whole
-//! name. So `a/**/*.rs` has three tokens: two patterns of one name each, and `**`, which takes any number of names.
-//! It matches `a/x/y/z.rs`:
+//! The characters of this alphabet are the names of a path, separated by `/`, and a token matches a whole name. So
+//! `a/**/*.rs` has three tokens: two patterns for one name each, and `**`, which matches any number of names. It
+//! matches `a/x/y/z.rs`:
 //!
 //! ```text
 //! components   a    **    *.rs
 //! names        a   x  y   z.rs
 //! ```
 //!
-//! `glob::run_positions` decides whether names split into groups, one a component. Of names it knows nothing. It asks a
-//! [`glob::Judge`], and the judge here looks its answers up in a table that was made before: to match a name needs
-//! memory, and a judge has no answer if allocation fails.
+//! `glob::run_positions` decides whether the names split into groups, one for each component. It knows nothing about
+//! names, but asks a [`glob::Judge`]. The judge here looks up its answers in a table made in advance, because matching
+//! a name needs memory, and a judge cannot report a failed allocation.
 mod judge;
 mod pattern;
 

@@ -1,4 +1,4 @@
-//! A tree of one's own, whose content contracts know, and a walk over it that the proof computes.
+//! A tree type of one's own, whose content contracts know, and a walk over it that the proof computes.
 ghost use Rattle.std.specs.Prelude.{◌≡◌, ◌≢◌, false, [], ◌∷◌, Some, IfOk, IfErr, codes, option_and_then};
 ghost use Rattle.glob.specs.Answers.{entries_of};
 ghost use Rattle.glob.specs.Content.{resolve, step};
@@ -14,7 +14,8 @@ use glob::{
 use std::alloc::{AllocError, Global};
 use std::io;
 
-/// A root, which is the current directory, with one file. If the name is not proper, contracts know nothing of it.
+/// A root, which is the current directory, with one file. If the name is not proper, contracts know nothing about the
+/// tree.
 #[derive(Drop)]
 pub struct OneFile<'a> {
     alloc: Global,
@@ -24,7 +25,7 @@ pub struct OneFile<'a> {
 }
 
 impl<'a> OneFile<'a> {
-    /// The tree with a file of this name.
+    /// The tree with one file of this name.
     pub fn new(alloc: Global, name: &'a str) -> Self
         ensures { result.name.now ≡ name.now }
     {
@@ -61,7 +62,7 @@ impl Tree for OneFile<'_> {
     }
 }
 
-/// What a path leads to, where the root has a file of this name.
+/// What is at a path, in the tree with a file of this name.
 fn look_below(name: &str, path: &str) -> Look
     ensures { resolve (one_file name.now) path.now ≡ key_seen name.now result }
 {
@@ -75,7 +76,7 @@ fn look_below(name: &str, path: &str) -> Look
     at
 }
 
-/// What a piece of a path leads to from there.
+/// What is at a piece of a path that continues from `at`.
 #[tactic(auto, using(crate::proofs::OneFile::file_step))]
 fn look_from(name: &str, at: Look, piece: &str) -> Look
     ensures { key_seen name.now result
@@ -88,7 +89,7 @@ fn look_from(name: &str, at: Look, piece: &str) -> Look
     }
 }
 
-/// What a piece of a path leads to from the root.
+/// What is at a piece of a path that continues from the root.
 #[tactic(auto, using(crate::proofs::OneFile::root_step))]
 fn look_in_root(name: &str, piece: &str) -> Look
     ensures { key_seen name.now result ≡ step (one_file name.now) piece.now [] }
@@ -104,12 +105,12 @@ fn look_in_root(name: &str, piece: &str) -> Look
     }
 }
 
-/// The error of a listing where there is no directory.
+/// The error of listing something that is not a directory.
 fn no_directory() -> io::Error {
     io::Error::from(io::ErrorKind::NotADirectory)
 }
 
-/// The file, as the only entry of the root. A name that is not proper is never listed.
+/// The file, as the only entry of the root. Fails if the name is not proper, or if allocation fails.
 fn entries(alloc: Global, name: &str) -> Result<Vec<Entry>, AllocError>
     ensures { IfOk result (λ v. entries_of v.items ≡ (name.now, false) ∷ []) }
 {
@@ -122,8 +123,8 @@ fn entries(alloc: Global, name: &str) -> Result<Vec<Entry>, AllocError>
     Ok(entries)
 }
 
-/// The walk of `*.rs` over a tree with the file `main.rs` alone, within 3 units: the limit suffices, and if no
-/// allocation fails, the one item is `main.rs`.
+/// The walk of `*.rs` over a tree with only the file `main.rs`, with a limit of 3 units. The limit is enough, and if no
+/// allocation fails, the only item is `main.rs`.
 pub fn walk_over_main(alloc: Global) -> Result<Walk<OneFile<'static>>, PatternRefusal>
     ensures within { IfOk result (λ walk. walk.end ≢ End.Limit) }
     ensures found { IfOk result (λ walk. walk.end ≡ End.Done

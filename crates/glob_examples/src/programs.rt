@@ -1,4 +1,4 @@
-//! Whole programs. Each file is the `src/main.rt` of a crate whose line in `crates.txt` names `glob`.
+//! Whole programs. Each file is the `src/main.rt` of a crate that names `glob` in its line of `crates.txt`.
 
 pub mod input;
 pub mod patterns;

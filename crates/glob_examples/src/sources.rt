@@ -1,4 +1,4 @@
-//! A build tool's list of sources: all paths that a plain pattern matches, or the reason why they are not known.
+//! A build tool's list of sources: all paths that a plain pattern matches, or why they could not all be found.
 ghost use Rattle.std.specs.Prelude.{◌≡◌, true, map, IfOk, IfErr};
 ghost use Rattle.std.specs.Path.{path_buf_bytes};
 ghost use Rattle.glob.specs.Answers.{IsTold};
@@ -11,10 +11,9 @@ use crate::faults::{WalkFault, check_plain};
 use glob::{End, MatchOptions, Tree, walk_in};
 use std::path::PathBuf;
 
-/// The sources of a build: each path below the current directory, or below `/` if the pattern begins with that, which
-/// the whole pattern matches case-sensitively and with the separator rule. The pattern has to be plain, the walk has to
-/// come to its end, and each directory on its way has to be listed: so over a tree with a known content none is
-/// missing.
+/// The sources of a build: each path below the current directory, or below `/` if the pattern begins with `/`, that the
+/// whole pattern matches case-sensitively and with the separator rule. It is an error if the pattern is not plain, the
+/// walk does not finish, or a directory on its way cannot be listed; so over a tree with known content none is missing.
 pub fn sources<T: Tree>(
     alloc: T::Alloc,
     tree: T,

@@ -1,4 +1,4 @@
-//! A pattern that is parsed for one match, and one that is parsed again.
+//! Parses a pattern for a single match, and parses a pattern's own text again.
 ghost use Rattle.std.specs.Prelude.{◌≡◌, ◌↔◌, IsTrue, IfOk, chars};
 ghost use Rattle.glob.specs.Matching.Options.{new_options};
 ghost use Rattle.glob.specs.Matching.Texts.{Matches};
@@ -6,8 +6,8 @@ ghost use Rattle.glob.specs.Matching.Texts.{Matches};
 use glob::{Pattern, PatternRefusal, laws};
 use std::alloc::{AllocError, Allocator};
 
-/// Whether the pattern matches the text, as `*.rs` and `main.rs`. What is no pattern matches nothing: `a**` not even
-/// `a`. The error is a failed allocation.
+/// Whether the pattern matches the text, as `*.rs` matches `main.rs`. An invalid pattern matches nothing: `a**` does
+/// not even match `a`. The error is a failed allocation.
 pub fn matches_text<A: Allocator + Copy>(
     alloc: A,
     pattern: &str,

@@ -5,7 +5,7 @@ use crate::{judges, matches};
 use glob_pattern::{Pattern, PatternRefusal};
 use glob_replay::calls::{Calls, Make};
 use glob_replay::ration::Memory;
-use glob_replay::words::{add_fault, out_of_memory, pattern_of, unusable};
+use glob_replay::words::{out_of_memory, pattern_of, unusable};
 use glob_rules::IgnoreList;
 use glob_set::braces::{BraceRefusal, expand};
 use std::io::{self, Write};
@@ -33,12 +33,20 @@ impl Make for Matches {
     }
 }
 
-/// Adds what parsing a text gives: `ok`, or the place and the message of its fault.
+/// Adds what parsing a text gives: `ok`, or the place of its fault and the message of its kind, which is to be its own.
 fn parse<M: Memory>(calls: &mut Calls<M>, text: &str) -> io::Result<()> {
     match Pattern::new(calls.alloc, text) {
         Ok(pattern) if pattern.as_str() == text => Ok(calls.words.push_str("ok")?),
         Ok(pattern) => Ok(calls.words.push_str(pattern.as_str())?),
-        Err(refusal) => add_fault(refusal, "", &mut calls.words),
+        Err(PatternRefusal::Syntax(error)) => {
+            let message = error.kind().message();
+            write!(calls.words, "{}\t{message}", error.pos)?;
+            if error.msg != message {
+                calls.words.push_str(" is not its message")?;
+            }
+            Ok(())
+        }
+        Err(PatternRefusal::Memory) => Err(out_of_memory()),
     }
 }
 

@@ -1,6 +1,8 @@
-//! Rows of disks over a scripted file system: what they answer, and with which system calls, where names are not UTF-8
-//! and system calls fail, which no test can make on a real disk.
+//! Rows of disks: over files in memory, also where a call fails, and over a scripted system, for what no still file system
+//! does, and for the number of system calls.
 
+pub mod contents;
+pub mod failing;
 pub mod files;
 
 use crate::trees::add_entries;
@@ -8,6 +10,8 @@ use crate::walking::Found;
 use ErrorKind::{
     FilesystemLoop, NotADirectory, NotFound, OutOfMemory, PermissionDenied, StaleNetworkFileHandle,
 };
+use contents::files_of;
+use failing::{Failing, Fault};
 use files::Kind::{Dir, File, Link, LinkToDir, LinkToFile, Lost, Torn, Unopened, Unread};
 use files::{Noted, Planted, SystemCalls, Written};
 use glob::{Disk, GlobCause, GlobError, MatchOptions, MemSystem, System, Tree, glob_in, walk_in};
@@ -18,6 +22,7 @@ use glob_replay::streams::error_of;
 use glob_replay::words::{are_same, cut, number_of, refused, unusable};
 use glob_tree::{Links, PhysicalDisk};
 use std::alloc::{AllocError, Global};
+use std::cell::Cell;
 use std::io::{self, ErrorKind, Write};
 
 /// Disks that rows name.
@@ -185,24 +190,71 @@ fn add_same(words: &mut String, answer: &str, disk: (&str, &str)) -> Result<(), 
     Ok(())
 }
 
-/// Makes a call of each disk over a content in memory, whose directories are read in pieces of each size. The words are
-/// the answer, which is the same for all, and how much was reported.
+/// Makes a call of each disk over files in memory, whose directories are read in pieces of each size, and over a tree in
+/// memory, where the content is one. The words are the answer, which is the same for all, and how much was reported.
 pub fn ask_in_memory<M: Memory>(calls: &mut Calls<M>, fields: &[&str]) -> io::Result<()> {
     let [names, pieces, content, call, path] = *fields else {
         return Err(unusable());
     };
-    let alloc = calls.alloc;
+    let (alloc, asked) = (calls.alloc, (call, path));
     for disk in names.split(' ') {
         for piece in pieces.split(' ') {
-            let tree = tree_of(alloc, alloc.inner(), ("", ""), content)?;
-            let files = MemSystem::new(tree, number_of(piece)?);
-            let (mut made, noted) = (Calls::new(alloc, alloc), SystemCalls::default());
-            PlainDisks.ask(&mut made, (files, &noted), disk, (call, path))?;
-            write!(made.words, "{}", noted.reports.get())?;
-            add_same(&mut calls.words, &made.words, (disk, piece))?;
+            let (number, alike) = (number_of(piece)?, (disk, piece));
+            let files = files_of(alloc, content, number)?;
+            add_same(
+                &mut calls.words,
+                &answer_over(alloc, files, disk, asked)?,
+                alike,
+            )?;
+            if !content.contains('@') && !content.contains('?') {
+                let tree = tree_of(alloc, alloc.inner(), ("", ""), content)?;
+                let files = MemSystem::new(tree, number);
+                add_same(
+                    &mut calls.words,
+                    &answer_over(alloc, files, disk, asked)?,
+                    alike,
+                )?;
+            }
         }
     }
     Ok(())
+}
+
+/// What a disk answers over a system, and how much was reported.
+fn answer_over<M: Memory, R: System>(
+    alloc: M,
+    files: R,
+    disk: &str,
+    asked: Asked<'_>,
+) -> io::Result<String> {
+    let (mut made, noted) = (Calls::new(alloc, alloc), SystemCalls::default());
+    PlainDisks.ask(&mut made, (files, &noted), disk, asked)?;
+    write!(made.words, "{}", noted.reports.get())?;
+    Ok(made.words)
+}
+
+/// Walks a disk over files in memory, once for each system call that it makes, which then fails. The words are
+/// each answer, how much was reported, and `-`.
+pub fn ask_failing_in_memory<M: Memory>(calls: &mut Calls<M>, fields: &[&str]) -> io::Result<()> {
+    let [disk, piece, content, call, path] = *fields else {
+        return Err(unusable());
+    };
+    let (alloc, piece) = (calls.alloc, number_of(piece)?);
+    for at in 0..1_000 {
+        let (calls_made, system) = (Cell::new(0), files_of(alloc, content, piece)?);
+        let made = Fault {
+            at,
+            calls: calls_made,
+        };
+        let fault = &made;
+        let files = Failing { system, fault };
+        let answer = answer_over(alloc, files, disk, (call, path))?;
+        if fault.calls.get() <= at {
+            return Ok(());
+        }
+        write!(calls.words, "{answer} -")?;
+    }
+    Err(unusable())
 }
 
 /// Adds of a look how often a path was looked up, of a walk how often a directory was opened, and of a listing both;

@@ -5,6 +5,7 @@ pub mod cases;
 pub mod disk;
 pub mod disks;
 mod goals;
+pub mod mem_files;
 mod rows;
 pub mod trees;
 mod walking;

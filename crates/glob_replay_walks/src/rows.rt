@@ -27,6 +27,9 @@ impl Make for Walks {
             ["list kinds", content, pattern] => add_listings(calls, content, pattern),
             ["ask disks", fields @ ..] => disks::ask_each(PlainDisks, calls, fields),
             ["ask failing disks", fields @ ..] => disks::ask_failing(PlainDisks, calls, fields),
+            ["ask disks in memory", fields @ .., "each call fails"] => {
+                disks::ask_failing_in_memory(calls, fields)
+            }
             ["ask disks in memory", fields @ ..] => disks::ask_in_memory(calls, fields),
             ["ask a large directory", fields @ ..] => disks::ask_large(calls, fields),
             ["walk to an error", fields @ ..] => disks::walk_to_error(calls, fields),

@@ -9,7 +9,6 @@ use glob_replay_matches::cases::MatchCases;
 use glob_replay_memory::rationing::Rationed;
 use glob_replay_memory::{matches, replay_row};
 use glob_replay_programs::Programs;
-use glob_replay_pruned::PrunedDisks;
 use glob_replay_walks::cases::add_walk;
 use glob_replay_walks::{Walks, disk, trees, walks};
 use std::io;
@@ -76,7 +75,6 @@ impl Make for All {
                 "plain.tsv" | "change a tree" | "walk" | "walk far" | "walk to an error",
                 ..
             ] => { Walks.make(calls, row) }
-            ["ask disks" | "ask failing disks", "pruned", ..] => PrunedDisks.make(calls, row),
             [
                 "ask disks" | "ask failing disks" | "ask disks in memory" | "ask a large directory",
                 ..

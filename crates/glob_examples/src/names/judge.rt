@@ -4,10 +4,10 @@ ghost use Rattle.glob_examples.specs.NameTable.{table_of};
 use glob::Judge;
 use std::alloc::Allocator;
 
-/// Steps through the names of a path, and looks up which components take them.
+/// Steps through the names of a path, and looks up which components match them.
 #[derive(Drop)]
 pub struct NameJudge<'a, A: Allocator> {
-    // a row for each name, and in it an answer for each component
+    // a row for each name, with an answer for each component
     rows: &'a [Vec<bool, A>],
     components: usize,
     place: usize,
@@ -17,7 +17,7 @@ pub struct NameJudge<'a, A: Allocator> {
 }
 
 impl<'a, A: Allocator> NameJudge<'a, A> {
-    /// Before the first name, with nothing asked.
+    /// A judge before the first name, with nothing asked.
     pub fn new(rows: &'a [Vec<bool, A>], components: usize) -> Self
         requires { All (λ row. vec_len row ≡ components) rows.now }
         ensures rows { result.rows.now ≡ rows.now }

@@ -8,11 +8,11 @@ use glob::{Pattern, PatternRefusal, Shape, run_positions};
 use std::alloc::{AllocError, Allocator, Global};
 use std::marker::Model;
 
-/// The component that stands for any number of names.
+/// The component that matches any number of names.
 const ANY_NAMES: &str = "**";
 
-/// A pattern of a path's names, read from a text of components with `/` between them. A component is a pattern of one
-/// name, but `**` stands for any number of names. A `/` in brackets ends the component too.
+/// A pattern for a path's names, parsed from components separated by `/`. Each component is a pattern for one name,
+/// except for `**`, which matches any number of names. A `/` in brackets also ends a component.
 #[derive(Debug, Drop)]
 pub struct PathPattern<A: Allocator = Global> {
     components: Vec<Pattern<A>, A>,
@@ -33,8 +33,8 @@ impl<A: Allocator> Model for PathPattern<A> {
 }
 
 impl<A: Allocator + Copy> PathPattern<A> {
-    /// Reads a path pattern. It is refused with the fault of the first component that is no pattern, whose place counts
-    /// from the start of that component; and any text may be refused if allocation fails.
+    /// Parses a path pattern. The error has the fault of the first invalid component, at a place counted from the start
+    /// of that component, or reports a failed allocation.
     pub fn new(alloc: A, text: &str) -> Result<Self, PatternRefusal>
         ensures components { IfOk result (λ pattern. pattern ≡ names.names_of text.now) }
         ensures accepted { IfOk result (All names.IsComponent) }
@@ -52,10 +52,11 @@ impl<A: Allocator + Copy> PathPattern<A> {
         })
     }
 
-    /// Whether the path's names, what is between its `/`, are groups in a row, one a component: of `**` any number
-    /// of names, of another component one name that it matches, case-sensitively. Fails only if allocation fails.
+    /// Whether the path's names, separated by `/`, split into consecutive groups, one for each component: any number of
+    /// names for `**`, and for another component one name that it matches, case-sensitively. Fails only if allocation
+    /// fails.
     ///
-    /// So `a/**/b` matches `a/b` and `a/x/y/b`. And `a/**` matches `a`, with no names for `**`.
+    /// So `a/**/b` matches `a/b` and `a/x/y/b`, and `a/**` matches `a`, with no names for `**`.
     pub fn matches(&self, path: &str) -> Result<bool, AllocError>
         ensures { IfOk result
             (λ yes. IsTrue yes ↔ names.NamesSplit self.now (names.names_of path.now)) }
@@ -65,7 +66,7 @@ impl<A: Allocator + Copy> PathPattern<A> {
         run_positions(self.alloc, self.shapes.as_slice(), &mut judge)
     }
 
-    /// For each name of the path, whether each component takes it.
+    /// For each name of the path, whether each component matches it.
     fn rows(&self, path: &str) -> Result<Vec<Vec<bool, A>, A>, AllocError>
         ensures { IfOk result
             (λ rows. table.AreAligned
@@ -79,7 +80,7 @@ impl<A: Allocator + Copy> PathPattern<A> {
         Ok(rows)
     }
 
-    /// Whether each component takes the name.
+    /// Whether each component matches the name.
     fn row(&self, name: &str) -> Result<Vec<bool, A>, AllocError>
         ensures { IfOk result (λ row. table.IsRow self.now name.now row.items) }
     {
@@ -91,8 +92,7 @@ impl<A: Allocator + Copy> PathPattern<A> {
     }
 }
 
-/// Adds a component and its shape. A component that is no pattern is refused with its fault. Any is refused if
-/// allocation fails.
+/// Adds a component and its shape. The error has the fault of an invalid component, or reports a failed allocation.
 fn push_component<A: Allocator + Copy>(
     alloc: A,
     components: &mut Vec<Pattern<A>, A>,
@@ -111,7 +111,7 @@ fn push_component<A: Allocator + Copy>(
     Ok(())
 }
 
-/// Which groups the component may stand for.
+/// Which groups of names the component may match.
 fn shape_of(component: &str) -> Shape
     ensures { result ≡ table.shape_of component.now }
 {
@@ -122,7 +122,7 @@ fn shape_of(component: &str) -> Shape
     }
 }
 
-/// Whether the component takes the name.
+/// Whether the component matches the name.
 fn takes_name<A: Allocator + Copy>(component: &Pattern<A>, name: &str) -> Result<bool, AllocError>
     ensures { IfOk result (λ yes. IsTrue yes ↔ table.TakesName component.now name.now) }
 {

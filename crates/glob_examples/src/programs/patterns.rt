@@ -1,4 +1,4 @@
-//! Asks a file with a pattern in each line about a text: prints the patterns that match it.
+//! Reads a file with a pattern on each line, and prints the patterns that match a text.
 
 use glob::Pattern;
 use std::{env, fs, io};

@@ -4,7 +4,7 @@ use glob::{End, MatchOptions, MemTree, TreeRefusal, walk_in};
 use std::alloc::Global;
 use std::io;
 
-/// A directory of a file and a directory.
+/// A directory with a file and a subdirectory.
 fn project(alloc: Global) -> Result<MemTree, TreeRefusal> {
     let mut tree = MemTree::new(alloc)?;
     tree.add_dir("/src")?;

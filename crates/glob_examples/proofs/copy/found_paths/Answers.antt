@@ -1,23 +1,26 @@
 use Rattle.std.proofs.Common.{◌≡◌, [], ◌∷◌, Some, map, ap, sym, subst, refl, ◌∙◌}
 use Rattle.std.proofs.lemmas.List.{map-append}
 use Rattle.std.specs.Path.{path_buf_bytes}
+use Rattle.glob.specs.Answers.{IsTold}
 use Rattle.glob.specs.Content.{Content}
 use Rattle.glob.specs.Goal.{IsSensitiveWalk}
 use Rattle.glob.specs.Listing.{listing}
 use Rattle.glob.specs.Matching.Options.{new_options}
 use Rattle.glob.specs.Text.{Text}
 use Rattle.glob.specs.Types.{MatchOptions}
-use Rattle.glob.specs.Iterating.{IsFresh, Walking}
+use Rattle.glob.specs.Iterating.{Walking}
+use Rattle.glob.specs.Machines.{Progress, HasGiven, IsFresh}
 use Rattle.glob.proofs.FoundPaths.{FindsSoFar, FindsSoFar-start, FindsSoFar-next, FindsSoFar-whole, goal-listed, orderly-listed, paths-listed}
 use Rattle.glob_examples.specs.WalkFaults.{EndsAt, IsPatternFault}
 use Rattle.glob_walk.proofs.WalkLemmas.Reading.{IfErr-from_known}
 use Rattle.glob_examples.proofs.WalkFaults.{IsMet-end, IsMet-pattern, IsWalkFault-end, IsWalkFault-pattern}
 use Rattle.glob_examples.proofs.copy.found_paths.Goals as goal
 
--- what the loop has before it is the written listing
-left_of : {X : Type 0} (first walk : Walking X) (c : Content) (pattern : Text) (o : MatchOptions) → first ≡ walk → walk.left ≡ Some (listing c o pattern) → o ≡ new_options
-    → first.left ≡ Some (listing c new_options pattern)
-left_of first walk c pattern o same left is = ap (λ w. w.left) same ∙ left ∙ ap (λ o. Some (listing c o pattern)) is
+-- nothing of the written listing was given before the loop
+begun : {X : Type 0} {P : Progress} (first walk : Walking X P) (c : Content) (pattern : Text) (o : MatchOptions) → first ≡ walk
+    → HasGiven (listing c o pattern) c [] walk.machine → o ≡ new_options → HasGiven (listing c new_options pattern) c [] first.machine
+begun first walk c pattern o same has is =
+    subst (λ w. HasGiven (listing c new_options pattern) c [] w.machine) (sym same) (subst (λ o. HasGiven (listing c o pattern) c [] walk.machine) is has)
 
 -- the pattern is refused
 pub returns-in_err-check_plain-clause-fault : goal.returns-in_err-check_plain-clause-fault
@@ -42,18 +45,19 @@ returns-in_err-push_found-clause-fault g c =
 pub returns-in_err-push_found-clause-met : goal.returns-in_err-push_found-clause-met
 returns-in_err-push_found-clause-met g c = λ content told.
     let same = c.into_iter-item-iterator.ensures.into_iter_gives in
-    let left : c.into_iter-item-iterator.result.left ≡ Some (listing content new_options c.args.pattern.now) =
-    left_of _ _ content _ _ same (c.in_ok-paths.ensures.listing content told) c.new.ensures in
+    let at_first : IsTold (g.T.Tree.tells c.into_iter-item-iterator.result.tree) content =
+    (ap (λ w. g.T.Tree.tells w.tree) same ∙ ap g.T.Tree.tells c.in_ok-paths.ensures.tree ∙ told.0, told.1) in
+    let begins = begun _ _ content _ _ same (c.in_ok-paths.ensures.listing content) c.new.ensures in
     IfErr-from_known _ _ _
     (λ fault is. IsMet-end _ content c.args.limit g.T.Tree.asks g.T.Tree.tells _ _ c.next.new.self _ c.loop-item.invariant
-    c.args.tree (subst (IsFresh c.args.tree c.args.limit) (sym same) c.in_ok-paths.ensures.fresh) told left
+    (subst (λ w. IsFresh c.args.limit w.machine) (sym same) c.in_ok-paths.ensures.fresh) at_first begins
     _ _ c.in-Some.is c.next.ensures.steps fault (subst (EndsAt _) (sym is) c.in_err-push_found.ensures.fault))
     c.from_residual-in_err-push_found.ensures.1
 
 pub loop-item-init : goal.loop-item-init
 loop-item-init g c =
     subst (λ files. FindsSoFar g.T.Tree.tells c.into_iter-item-iterator.result c.into_iter-item-iterator.result (map path_buf_bytes files)) (sym c.new-files.ensures.items)
-    (FindsSoFar-start g.T.Tree.tells _ (ap (λ walk. walk.over) c.into_iter-item-iterator.ensures.into_iter_gives ∙ c.in_ok-paths.ensures.fresh.over))
+    (FindsSoFar-start g.T.Tree.tells _)
 
 -- one more path
 pub loop-item-preserved : goal.loop-item-preserved
@@ -70,12 +74,12 @@ returns-clause-files g c = λ content told.
       plain = record { content = told.1; text = c.utf8.pattern; plain = c.in_ok-check_plain.ensures.plain };
       case = refl;
     } in
-    let left : c.into_iter-item-iterator.result.left ≡ Some (listing content new_options c.args.pattern.now) =
-    left_of _ _ content _ _ same (c.in_ok-paths.ensures.listing content told) c.new.ensures in
+    let at_first : IsTold (g.T.Tree.tells c.into_iter-item-iterator.result.tree) content =
+    (ap (λ w. g.T.Tree.tells w.tree) same ∙ ap g.T.Tree.tells c.in_ok-paths.ensures.tree ∙ told.0, told.1) in
+    let begins = begun _ _ content _ _ same (c.in_ok-paths.ensures.listing content) c.new.ensures in
     let files = map path_buf_bytes c.loop-item.files.items in
     let whole =
-    FindsSoFar-whole g.T.Tree.asks g.T.Tree.tells _ _ c.next.new.self files c.loop-item.invariant _ c.in-None.is c.next.ensures.steps c.args.limit c.args.tree
-    (subst (IsFresh c.args.tree c.args.limit) (sym same) c.in_ok-paths.ensures.fresh) content told _ left in
+    FindsSoFar-whole g.T.Tree.asks g.T.Tree.tells _ _ c.next.new.self files c.loop-item.invariant _ c.in-None.is c.next.ensures.steps content at_first _ begins in
     record {
       exact = goal-listed content new_options c.args.pattern.now plain files whole;
       orderly = orderly-listed content new_options c.args.pattern.now plain files whole;
