@@ -2,7 +2,7 @@
 use Rattle.std.proofs.Common.{◌≡◌, ℕ, ◌+◌, ◌<◌, ◌≤◌, List, [], ◌∷◌, ◌++◌, length, get_or, set, subst, sym, arith}
 use Rattle.std.specs.List.{All}
 use Rattle.std.proofs.lemmas.List.Elements.{All-weaker, All-push, All-set, All-get_or}
-use Rattle.glob_search.specs.Private.Nodes.{IsWithin}
+use Rattle.glob_search.specs.Private.NodeNumbers.{IsWithin}
 use Rattle.glob_search.specs.declared.beginnings.node.Node.{Node}
 
 pub IsWithin-more : {A : Type 0} (n m : ℕ) (node : Node A) → n ≤ m → IsWithin n node → IsWithin m node
@@ -21,10 +21,12 @@ pub within-pushed : {A : Type 0} (old new : List (Node A)) (n m : ℕ) (fresh : 
     → IsWithin m fresh → All (IsWithin n) old → All (IsWithin m) new
 within-pushed old new n m fresh pushed len f all =
     subst (All (IsWithin m)) (sym pushed)
-    (All-push (IsWithin m) old fresh (All-weaker (IsWithin n) (IsWithin m) (λ node w. IsWithin-more n m node (omega (arith, len)) w) old all) f)
+    (All-push (IsWithin m) old fresh (All-weaker (IsWithin n) (IsWithin m) (λ node w. IsWithin-more n m node
+    (omega (arith, len)) w) old all) f)
 
 -- one is changed
-pub within-changed : {A : Type 0} (items : List (Node A)) (n at : ℕ) (node changed : Node A) → node ≡ get_or items at node → at < length items
+pub within-changed : {A : Type 0} (items : List (Node A)) (n at : ℕ) (node changed : Node A) → node ≡ get_or items at
+    node → at < length items
     → All (IsWithin n) items → (IsWithin n node → IsWithin n changed) → All (IsWithin n) (set items at changed)
 within-changed items n at node changed is lt all keeps =
     All-set (IsWithin n) items at changed (keeps (subst (IsWithin n) (sym is) (All-get_or (IsWithin n) items at node lt all))) all

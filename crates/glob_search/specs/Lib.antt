@@ -1,2 +1,6 @@
+pub mod Aims
+pub mod Laws
 pub mod Private
 pub mod Searching
+pub mod States
+pub mod Visiting

@@ -1,2 +1,12 @@
+pub mod Engine
+pub mod Faults
+pub mod Finding
+pub mod Hearing
+pub mod Listings
+pub mod NodeGrowth
+pub mod NodeNumbers
 pub mod Nodes
+pub mod Order
+pub mod Steps
+pub mod Ways
 pub mod Weights

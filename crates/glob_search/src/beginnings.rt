@@ -3,10 +3,14 @@
 //! Patterns that begin with the same components share their beginnings: each is a node, and goes on to others by one
 //! component. In a directory those are alive that take the names of its path, as `src` and `src/**` do in `src`, and
 //! `src/**` alone in `src/a`. Nothing else of the patterns is needed there.
-ghost use Rattle.std.specs.Prelude.{◌<◌, vec_len, IfOk};
-ghost use Rattle.std.specs.List.{All};
-ghost use Rattle.glob_search.specs.Private.Nodes.{IsWithin};
+ghost use Rattle.std.specs.Prelude.{◌≡◌, ◌<◌, vec_len, IfOk, false, not, map, [], ◌∷◌, ◌++◌};
+ghost use Rattle.std.specs.Cmp.Lexicographic.{slice_cmp};
+ghost use Rattle.std.specs.List.{All, AllPairs, list_any};
+ghost use Rattle.std.specs.Ordering.{nat_cmp};
+ghost use Rattle.std.specs.declared.cmp.Ordering.TheVariants.{Less};
+ghost use Rattle.glob_search.specs.Private.NodeNumbers.{IsWithin};
 
+mod growing;
 mod node;
 
 use glob_pattern::{MatchOptions, Pattern, PatternRefusal};
@@ -26,9 +30,20 @@ pub struct Beginnings<A: Allocator> {
 }
 
 impl<A: Allocator + Copy> Beginnings<A> {
+    ghost use Rattle.glob_tree.specs.Content.{Key};
+    ghost use Rattle.std.specs.Prelude.{ℕ, List, option_and_then, option_copied, slice_get};
+    ghost use Rattle.std.specs.List.{list_all};
+    ghost use Rattle.std.specs.Prelude.{flat_map, Some};
+    ghost use Rattle.glob_text.specs.Text.{Text};
+    ghost use Rattle.glob_pattern.specs.Matching.Components.{is_open};
+    ghost use Rattle.glob_search.specs.Private.Nodes.{Adds, AreAlive, AreAscending, AreBeginnings, AreNames, Enlivens, IsTree, is_looked_up, node_goes_on, node_says, LiteralStep, literal_texts, Stays, Steps, StepsFrom, WildStep};
+    ghost use Rattle.glob_search.specs.Searching.{Aim, alive as alive_in, goes_on as goes_on_in, is_listed, is_taken};
+
     /// The beginnings of patterns. The error is the fault of the first that has one, or else that of its first
     /// component that has one.
-    pub fn of(alloc: A, patterns: &[&str], options: MatchOptions) -> Result<Self, SetRefusal> {
+    pub fn of(alloc: A, patterns: &[&str], options: MatchOptions) -> Result<Self, SetRefusal>
+        ensures beginnings { IfOk result (AreBeginnings options (map (λ p. p.now) patterns.now)) }
+    {
         let mut nodes = Vec::new(alloc);
         nodes.push(Node::new(alloc, false))?;
         let mut beginnings = Beginnings {
@@ -37,99 +52,27 @@ impl<A: Allocator + Copy> Beginnings<A> {
             alloc,
         };
         for (number, pattern) in patterns.iter().enumerate() {
-            beginnings
-                .add(pattern)
-                .map_err(|refusal| refusal_of(number, refusal))?;
+            if let Err(refusal) = beginnings.add(pattern) {
+                return Err(refusal_of(number, refusal));
+            }
         }
         Ok(beginnings)
     }
 
-    /// Adds the beginnings of a pattern.
-    fn add(&mut self, pattern: &str) -> Result<(), PatternRefusal> {
-        Pattern::new(self.alloc, pattern)?;
-        let mut at = 0;
-        for component in pattern.split('/') {
-            at = self.child(at, component)?;
-        }
-        let end = self.end_of(at)?;
-        self.mark_whole(end);
-        Ok(())
-    }
-
-    /// The beginning that is a whole pattern, where the last component leads to this one: after `**` a name more.
-    fn end_of(&mut self, at: usize) -> Result<usize, PatternRefusal>
-        requires { at < vec_len self.old.nodes }
-        ensures { IfOk result (λ node. node < vec_len self.new.nodes) }
-    {
-        if self.nodes[at].is_deep {
-            return self.child(at, "*");
-        }
-        Ok(at)
-    }
-
-    /// Notes that a beginning is a whole pattern.
-    fn mark_whole(&mut self, at: usize)
-        requires { at < vec_len self.old.nodes }
-    {
-        self.nodes[at].mark_whole();
-    }
-
-    /// The beginning that goes on by a component. Where one ends in `**`, a further `**` leads to itself.
-    fn child(&mut self, at: usize, component: &str) -> Result<usize, PatternRefusal>
-        requires { at < vec_len self.old.nodes }
-        ensures { IfOk result (λ node. node < vec_len self.new.nodes) }
-    {
-        let component = self.component(component)?;
-        if matches!(component, Component::Deep) && self.nodes[at].is_deep {
-            return Ok(at);
-        }
-        if let Some(node) = self.nodes[at].led_to(&component) {
-            return Ok(node);
-        }
-        Ok(self.lead(at, component)?)
-    }
-
-    /// Reads a component.
-    fn component(&self, text: &str) -> Result<Component<A>, PatternRefusal> {
-        if text == "**" {
-            Ok(Component::Deep)
-        } else if is_literal(text) {
-            Ok(Component::Literal(self.key_of(text)?))
-        } else {
-            Ok(Component::Wild(Pattern::new(self.alloc, text)?))
-        }
-    }
-
-    /// Adds a beginning that goes on by a component.
-    fn lead(&mut self, at: usize, component: Component<A>) -> Result<usize, AllocError>
-        requires { at < vec_len self.old.nodes }
-        ensures { IfOk result (λ node. node < vec_len self.new.nodes) }
-    {
-        let node = self.nodes.len();
-        let is_deep = matches!(component, Component::Deep);
-        self.nodes.push(Node::new(self.alloc, is_deep))?;
-        self.nodes[at].lead(component, node)?;
-        Ok(node)
-    }
-
-    /// The text by which literals are compared.
-    fn key_of(&self, text: &str) -> Result<String<A>, AllocError> {
-        if self.options.case_sensitive {
-            String::from_str(self.alloc, text)
-        } else {
-            text.to_ascii_lowercase(self.alloc)
-        }
-    }
-
     /// What is alive at the start.
-    pub fn at_start(&self) -> Result<Vec<usize, A>, AllocError> {
+    pub fn at_start(&self) -> Result<Vec<usize, A>, AllocError>
+        ensures alive { IfOk result (λ alive. AreAlive self.now [] alive.items) }
+    {
         let mut alive = Vec::new(self.alloc);
         self.enliven(0, &mut alive)?;
         Ok(alive)
     }
 
     /// What is alive after a further name.
-    pub fn after(&self, alive: &[usize], name: &str) -> Result<Vec<usize, A>, AllocError> {
+    pub fn after(&self, alive: &[usize], name: &str) -> Result<Vec<usize, A>, AllocError>
+        ensures alive { (names : Key) → AreAlive self.now names alive.now
+            → IfOk result (λ next. AreAlive self.now (names ++ name.now ∷ []) next.items) }
+    {
         if self.options.case_sensitive {
             return self.after_key(alive, name, name);
         }
@@ -138,17 +81,16 @@ impl<A: Allocator + Copy> Beginnings<A> {
     }
 
     /// What is alive after a further name, with the text by which it is compared with literals.
-    fn after_key(
-        &self,
-        alive: &[usize],
-        name: &str,
-        key: &str,
-    ) -> Result<Vec<usize, A>, AllocError> {
+    fn after_key(&self, alive: &[usize], name: &str, key: &str) -> Result<Vec<usize, A>, AllocError>
+        ensures { (front : ℕ → List Text) → IsTree self.now.options self.now.nodes.items front
+            → IfOk result (λ next. Adds (StepsFrom self.now.nodes.items self.now.options
+            name.now key.now alive.now) [] next.items) }
+    {
         let mut next = Vec::new(self.alloc);
         for number in alive {
             self.step(*number, name, key, &mut next)?;
         }
-        next.as_mut_slice().sort_unstable();
+        next.sort_unstable();
         next.dedup();
         Ok(next)
     }
@@ -160,17 +102,52 @@ impl<A: Allocator + Copy> Beginnings<A> {
         name: &str,
         key: &str,
         next: &mut Vec<usize, A>,
-    ) -> Result<(), AllocError> {
-        let Some(node) = self.nodes.get(number) else {
+    ) -> Result<(), AllocError>
+        ensures { (front : ℕ → List Text) → IsTree self.now.options self.now.nodes.items front
+            → IfOk result (λ _. Adds (Steps self.now.nodes.items self.now.options
+            name.now key.now number) next.old.items next.new.items) }
+    {
+        let Some(node) = self.node(number) else {
             return Ok(());
         };
+        self.stay(number, node, name, next)?;
+        self.step_literal(node, key, next)?;
+        self.step_wild(node, name, next)
+    }
+
+    /// Adds a beginning itself, if it ends in a `**` that may take a name.
+    fn stay(
+        &self,
+        number: usize,
+        node: &Node<A>,
+        name: &str,
+        next: &mut Vec<usize, A>,
+    ) -> Result<(), AllocError>
+        ensures { IfOk result
+            (λ _. Adds (Stays self.now.options name.now node.now number) next.old.items
+            next.new.items) }
+    {
         if node.is_deep && self.is_open(name) {
             next.push(number)?;
         }
+        Ok(())
+    }
+
+    /// Adds what goes on by the literal that is compared by a key.
+    fn step_literal(
+        &self,
+        node: &Node<A>,
+        key: &str,
+        next: &mut Vec<usize, A>,
+    ) -> Result<(), AllocError>
+        ensures { AreAscending node.now.literals.items → IfOk result
+            (λ _. Adds (LiteralStep self.now.nodes.items key.now node.now) next.old.items
+            next.new.items) }
+    {
         if let Some(node) = node.literal_leads(key) {
             self.enliven(node, next)?;
         }
-        self.step_wild(node, name, next)
+        Ok(())
     }
 
     /// Adds what goes on by the wildcards that match a name.
@@ -179,7 +156,10 @@ impl<A: Allocator + Copy> Beginnings<A> {
         node: &Node<A>,
         name: &str,
         next: &mut Vec<usize, A>,
-    ) -> Result<(), AllocError> {
+    ) -> Result<(), AllocError>
+        ensures { IfOk result (λ _. Adds (WildStep self.now.nodes.items self.now.options
+            name.now node.now.wilds.items) next.old.items next.new.items) }
+    {
         for wild in node.wilds.iter() {
             if wild.pattern.matches_with(name, self.options)? {
                 self.enliven(wild.node, next)?;
@@ -189,41 +169,103 @@ impl<A: Allocator + Copy> Beginnings<A> {
     }
 
     /// Adds a beginning, and the one that goes on by a `**` which takes no name.
-    fn enliven(&self, number: usize, alive: &mut Vec<usize, A>) -> Result<(), AllocError> {
+    fn enliven(&self, number: usize, alive: &mut Vec<usize, A>) -> Result<(), AllocError>
+        ensures { IfOk result (λ _. Adds (Enlivens self.now.nodes.items number)
+            alive.old.items alive.new.items) }
+    {
         alive.push(number)?;
-        if let Some(
-            Node {
-                deep: Some(deep),
-                ..
-            },
-        ) = self.nodes.get(number)
-        {
-            alive.push(*deep)?;
+        if let Some(deep) = self.deep_of(number) {
+            alive.push(deep)?;
         }
         Ok(())
     }
 
+    /// Where `**` leads from a beginning.
+    fn deep_of(&self, number: usize) -> Option<usize>
+        ensures { result ≡ option_and_then
+            (λ node. node.deep) (slice_get self.now.nodes.items number) }
+    {
+        self.node(number)?.deep
+    }
+
+    /// The node of a beginning.
+    fn node(&self, number: usize) -> Option<&Node<A>>
+        ensures { option_copied result ≡ slice_get self.now.nodes.items number }
+    {
+        self.nodes.get(number)
+    }
+
     /// Whether `**` may take a name.
-    fn is_open(&self, name: &str) -> bool {
+    fn is_open(&self, name: &str) -> bool
+        ensures { result ≡ is_open self.now.options name.now }
+    {
         !self.options.require_literal_leading_dot || !begins_with_dot(name)
     }
 
     /// Whether one of these beginnings is a whole pattern.
-    pub fn is_found(&self, alive: &[usize]) -> bool {
-        alive.iter().any(|number| matches!(self.nodes.get(*number), Some(node) if node.is_whole))
+    pub fn is_found(&self, alive: &[usize]) -> bool
+        ensures found { (a : Aim) (names : Key) → AreBeginnings a.options a.patterns self.now
+            → AreAlive self.now names alive.now → result ≡ is_taken a names }
+    {
+        self.has_whole(alive)
+    }
+
+    fn has_whole(&self, alive: &[usize]) -> bool
+        ensures { result
+            ≡ list_any (node_says (λ node. node.is_whole) self.now.nodes.items) alive.now }
+    {
+        alive.iter().any(|number| self.is_whole(*number))
+    }
+
+    fn is_whole(&self, number: usize) -> bool
+        ensures { result ≡ node_says (λ node. node.is_whole) self.now.nodes.items number }
+    {
+        matches!(self.node(number), Some(node) if node.is_whole)
     }
 
     /// Whether one of these beginnings goes on.
-    pub fn goes_on(&self, alive: &[usize]) -> bool {
-        alive.iter().any(|number| matches!(self.nodes.get(*number), Some(node) if node.goes_on()))
+    pub fn goes_on(&self, alive: &[usize]) -> bool
+        ensures goes_on { (a : Aim) (names : Key) → AreBeginnings a.options a.patterns self.now
+            → AreAlive self.now names alive.now → result ≡ goes_on_in a names }
+    {
+        self.has_further(alive)
+    }
+
+    fn has_further(&self, alive: &[usize]) -> bool
+        ensures { result ≡ list_any (node_says node_goes_on self.now.nodes.items) alive.now }
+    {
+        alive.iter().any(|number| self.is_further(*number))
+    }
+
+    fn is_further(&self, number: usize) -> bool
+        ensures { result ≡ node_says node_goes_on self.now.nodes.items number }
+    {
+        matches!(self.node(number), Some(node) if node.goes_on())
     }
 
     /// Whether only literal names go on from these beginnings, and are looked up as they are.
-    pub fn is_literal(&self, alive: &[usize]) -> bool {
-        self.options.case_sensitive
-            && alive.iter().all(
-                |number| matches!(self.nodes.get(*number), Some(node) if node.is_literal()),
-            )
+    pub fn is_literal(&self, alive: &[usize]) -> bool
+        ensures unlisted { (a : Aim) (names : Key) → AreBeginnings a.options a.patterns self.now
+            → AreAlive self.now names alive.now → result ≡ not (is_listed a names) }
+    {
+        self.are_looked_up(alive)
+    }
+
+    fn are_looked_up(&self, alive: &[usize]) -> bool
+        ensures { result
+            ≡ list_all (node_says (is_looked_up self.now.options) self.now.nodes.items) alive.now }
+    {
+        alive.iter().all(|number| self.is_looked_up(*number))
+    }
+
+    /// Whether what goes on from a beginning is looked up by its name.
+    fn is_looked_up(&self, number: usize) -> bool
+        ensures { result ≡ node_says (is_looked_up self.now.options) self.now.nodes.items number }
+    {
+        let Some(node) = self.node(number) else {
+            return false;
+        };
+        node.is_literal() && (self.options.case_sensitive || node.literals.is_empty())
     }
 
     /// Whether other names than literal ones may lead further on from these beginnings.
@@ -242,28 +284,34 @@ impl<A: Allocator + Copy> Beginnings<A> {
     }
 
     /// The names by which literals go on from these beginnings, ascending.
-    pub fn literal_names(&self, alive: &[usize]) -> Result<Vec<&str, A>, AllocError> {
-        let mut names = Vec::new(self.alloc);
-        for number in alive {
-            let Some(node) = self.nodes.get(*number) else {
-                continue;
-            };
-            for literal in node.literals.iter() {
-                names.push(literal.text.as_str())?;
-            }
-        }
-        names.as_mut_slice().sort_unstable();
+    pub fn literal_names(&self, alive: &[usize]) -> Result<Vec<&str, A>, AllocError>
+        ensures names { (a : Aim) (names : Key) → AreBeginnings a.options a.patterns self.now
+            → AreAlive self.now names alive.now → is_listed a names ≡ false
+            → IfOk result (λ texts. AreNames (map (λ t. t.now) texts.items) (alive_in a names)) }
+        ensures ascend { IfOk result (λ texts.
+            AllPairs (λ s t. slice_cmp nat_cmp s t ≡ Less) (map (λ t. t.now) texts.items)) }
+    {
+        let mut names = self.literals_of(alive)?;
+        names.sort_unstable();
         names.dedup();
         Ok(names)
     }
-}
 
-/// Whether the component has no wildcard.
-fn is_literal(component: &str) -> bool {
-    !component
-        .as_bytes()
-        .iter()
-        .any(|&byte| byte == b'?' || byte == b'*' || byte == b'[')
+    /// The literals by which these beginnings go on, in no order.
+    fn literals_of(&self, alive: &[usize]) -> Result<Vec<&str, A>, AllocError>
+        ensures { IfOk result (λ texts. map (λ t. t.now) texts.items
+            ≡ flat_map (literal_texts self.now.nodes.items) alive.now) }
+    {
+        let mut names = Vec::new(self.alloc);
+        for number in alive {
+            if let Some(node) = self.node(*number) {
+                for literal in node.literals.iter() {
+                    names.push(literal.text.as_str())?;
+                }
+            }
+        }
+        Ok(names)
+    }
 }
 
 /// The refusal of the pattern with a number.

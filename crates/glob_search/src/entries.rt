@@ -1,5 +1,13 @@
 //! What a directory has.
-ghost use Rattle.std.specs.Prelude.{◌≡◌, ◌+◌, ◌≤◌, IfOk, OnOk, vec_len};
+ghost use Rattle.std.specs.Prelude.{◌≡◌, ℕ, ◌+◌, ◌≤◌, ◌++◌, List, IfOk, IfErr, OnOk, IsTrue, IsPermutation, IsSome, if◌then◌else◌, false, is_some, map, option_map, string_bytes, vec_len};
+ghost use Rattle.std.specs.Option.{ForSome};
+ghost use Rattle.glob_tree.specs.Answers.{IsListError, IsTold, entries_of, names_of};
+ghost use Rattle.glob_tree.specs.Content.{Content, Key, children, is_content, is_dir_at, list_result, look_result};
+ghost use Rattle.glob_search.specs.Aims.{path_of};
+ghost use Rattle.glob_search.specs.Searching.{Aim, is_listed};
+ghost use Rattle.glob_search.specs.Private.Faults.{is_unread};
+ghost use Rattle.glob_search.specs.Private.Listings.{AreFalling, AreLookedUp, IsListed, IsSourceAnswer, looked, names_down};
+ghost use Rattle.glob_search.specs.Private.Nodes.{AreAlive, AreBeginnings};
 
 use crate::beginnings::Beginnings;
 use crate::fault::SearchFault;
@@ -17,6 +25,10 @@ pub fn look_at<A: Allocator + Copy, T: Tree<Alloc = A>>(
     ensures limit { meter.new.limit ≡ meter.old.limit }
     ensures spent { meter.old.spent ≤ meter.new.spent }
     ensures charged { OnOk result (meter.old.spent + 1 ≤ meter.new.spent) }
+    ensures content { T.tells tree.new ≡ T.tells tree.old }
+    ensures seen { (c : Content) → IsTold (T.tells tree.old) c
+        → IfOk result (λ seen. seen ≡ look_result c path.now) }
+    ensures other { IfErr result (λ fault. is_unread fault ≡ false) }
 {
     meter.charge(1)?;
     Ok(tree.look(path)?)
@@ -31,23 +43,60 @@ pub fn look_up<A: Allocator + Copy, T: Tree<Alloc = A>>(
     opening: &Opening<A>,
 ) -> Result<Vec<Entry<A>, A>, SearchFault<A>>
     ensures limit { meter.new.limit ≡ meter.old.limit }
+    ensures spent { meter.old.spent ≤ meter.new.spent }
     ensures charged { IfOk result (λ entries.
         meter.old.spent + vec_len entries ≤ meter.new.spent) }
+    ensures content { T.tells tree.new ≡ T.tells tree.old }
+    ensures entries { (c : Content) (a : Aim) (names : Key) → IsTold (T.tells tree.old) c
+        → IsTrue (is_dir_at c (c.current ++ names)) → string_bytes opening.now.path ≡ path_of names
+        → AreBeginnings a.options a.patterns beginnings.now
+        → AreAlive beginnings.now names opening.now.alive.items → is_listed a names ≡ false
+        → IfOk result (λ entries. AreLookedUp c a names (entries_of entries.items)) }
+    ensures falls { IfOk result (λ entries. AreFalling entries.items) }
+    ensures other { IfErr result (λ fault. is_unread fault ≡ false) }
 {
-    let names = beginnings.literal_names(opening.alive.as_slice())?;
+    let mut names = beginnings.literal_names(opening.alive.as_slice())?;
     let mut entries = Vec::new(alloc);
-    for name in names.iter().rev() {
-        let Ok(name) = Name::new(String::from_str(alloc, name)?) else {
-            continue;
-        };
-        let path = child(alloc, opening.path.as_str(), name.as_str())?;
-        let seen = look_at(meter, tree, path.as_str())?;
-        if seen != Look::Missing {
-            let is_dir = seen.is_dir();
-            entries.push(Entry { name, is_dir })?;
+    while let Some(name) = names.pop() {
+        if let Some(entry) = entry_at(alloc, meter, tree, opening.path.as_str(), name)? {
+            entries.push(entry)?;
         }
     }
     Ok(entries)
+}
+
+/// The entry of a directory that has a name, if it is there.
+fn entry_at<A: Allocator + Copy, T: Tree<Alloc = A>>(
+    alloc: A,
+    meter: &mut Meter,
+    tree: &mut T,
+    directory: &str,
+    name: &str,
+) -> Result<Option<Entry<A>>, SearchFault<A>>
+    ensures limit { meter.new.limit ≡ meter.old.limit }
+    ensures spent { meter.old.spent ≤ meter.new.spent }
+    ensures charged { IfOk result (λ entry.
+        meter.old.spent + (if is_some entry then 1 else 0) ≤ meter.new.spent) }
+    ensures content { T.tells tree.new ≡ T.tells tree.old }
+    ensures entry { (c : Content) (names : Key) → IsTold (T.tells tree.old) c
+        → IsTrue (is_dir_at c (c.current ++ names)) → directory.now ≡ path_of names
+        → IfOk result (λ entry.
+        option_map (λ e. (e.name, e.is_dir)) entry ≡ looked c names name.now) }
+    ensures named { IfOk result (λ entry. ForSome entry (λ e. e.name ≡ name.now)) }
+    ensures other { IfErr result (λ fault. is_unread fault ≡ false) }
+{
+    let Ok(name) = Name::new(String::from_str(alloc, name)?) else {
+        return Ok(None);
+    };
+    let path = child(alloc, directory, name.as_str())?;
+    match look_at(meter, tree, path.as_str())? {
+        Look::Missing => Ok(None),
+        Look::Dir => Ok(Some(Entry { name, is_dir: true })),
+        Look::Other => Ok(Some(Entry {
+            name,
+            is_dir: false,
+        })),
+    }
 }
 
 /// The entries of a directory, in descending order of names, each once.
@@ -58,17 +107,17 @@ pub fn list<A: Allocator + Copy, T: Tree<Alloc = A>>(
     source: Source,
 ) -> Result<Vec<Entry<A>, A>, SearchFault<A>>
     ensures limit { meter.new.limit ≡ meter.old.limit }
+    ensures spent { meter.old.spent ≤ meter.new.spent }
     ensures charged { IfOk result (λ entries.
         meter.old.spent + vec_len entries ≤ meter.new.spent) }
+    ensures content { T.tells tree.new ≡ T.tells tree.old }
+    ensures entries { (c : Content) (names : Key) → IsTold (T.tells tree.old) c
+        → IsTrue (is_dir_at c (c.current ++ names)) → string_bytes opening.now.path ≡ path_of names
+        → IsListed c names source (string_bytes opening.now.path) result }
+    ensures falls { IfOk result (λ entries. AreFalling entries.items) }
 {
     meter.charge(1)?;
-    let path = opening.path.as_str();
-    let listed = if source == Source::Named {
-        tree.list_names(path)
-    } else {
-        tree.list(path)
-    };
-    let mut entries = match listed {
+    let mut entries = match listed(tree, opening.path.as_str(), source) {
         Ok(entries) => entries,
         Err(ListError::Read(error)) => {
             return Err(SearchFault::Unread(opening.path.clone()?, error));
@@ -76,7 +125,39 @@ pub fn list<A: Allocator + Copy, T: Tree<Alloc = A>>(
         Err(ListError::Memory) => return Err(SearchFault::Memory),
     };
     meter.charge(entries.len())?;
+    put_in_order(&mut entries);
+    Ok(entries)
+}
+
+/// What a directory lists: its names alone where no kinds are known.
+fn listed<A: Allocator + Copy, T: Tree<Alloc = A>>(
+    tree: &mut T,
+    path: &str,
+    source: Source,
+) -> Result<Vec<Entry<A>, A>, ListError>
+    ensures content { T.tells tree.new ≡ T.tells tree.old }
+    ensures entries { (c : Content) → IsTold (T.tells tree.old) c
+        → IfOk result (λ v. IsSourceAnswer source (list_result c path.now) (entries_of v.items)) }
+    ensures fails { (c : Content) → IsTold (T.tells tree.old) c
+        → IfErr result (λ e. IsListError (list_result c path.now) e) }
+{
+    if source == Source::Named {
+        tree.list_names(path)
+    } else {
+        tree.list(path)
+    }
+}
+
+/// Puts the entries of a directory into descending order of names, each once.
+fn put_in_order<A: Allocator>(entries: &mut Vec<Entry<A>, A>)
+    ensures few { vec_len entries.new ≤ vec_len entries.old }
+    ensures order { (c : Content) (names : Key) → IsTrue (is_content c)
+        → IsPermutation (names_of (children c (c.current ++ names)))
+        (names_of (entries_of entries.old.items))
+        → IsPermutation entries.old.items entries.new.items
+        × (names_of (entries_of entries.new.items) ≡ names_down c names) }
+    ensures falls { AreFalling entries.new.items }
+{
     entries.sort_unstable_by(|a, b| b.name.as_str().cmp(a.name.as_str()));
     entries.dedup_by(|a, b| a.name.as_str() == b.name.as_str());
-    Ok(entries)
 }

@@ -24,8 +24,12 @@ pub enum SearchFault<A: Allocator = Global> {
 }
 
 impl<A: Allocator> SearchFault<A> {
+    ghost use Rattle.glob_search.specs.Private.Faults.{is_last};
+
     /// Whether the search has ended.
-    pub fn is_last(&self) -> bool {
+    pub fn is_last(&self) -> bool
+        ensures { result ≡ is_last self.now }
+    {
         match self {
             SearchFault::Limit | SearchFault::Memory => true,
             SearchFault::Unread(..)

@@ -1,5 +1,7 @@
 //! A directory on the way.
-ghost use Rattle.std.specs.Prelude.{◌≡◌, OnSome, vec_len};
+ghost use Rattle.std.specs.Prelude.{◌≡◌, false, map, string_bytes};
+ghost use Rattle.glob_search.specs.Private.Listings.{known_kind};
+ghost use Rattle.glob_search.specs.Private.Steps.{IsAbsent, NextFile};
 
 use glob_tree::Entry;
 use std::alloc::Allocator;
@@ -41,7 +43,8 @@ pub struct Frame<A: Allocator> {
 impl<A: Allocator> Frame<A> {
     /// The number of the next of these names that may be in it, which is passed by this.
     pub fn next_file(&mut self, names: &[String<A>]) -> Option<usize>
-        ensures { self.new.entries ≡ self.old.entries }
+        ensures entries { self.new.entries ≡ self.old.entries }
+        ensures passes { NextFile (map (λ name. string_bytes name) names.now) self.old result self.new }
     {
         while self.files < names.len() {
             let number = self.files;
@@ -54,20 +57,26 @@ impl<A: Allocator> Frame<A> {
     }
 
     /// Whether an entry of it is a directory, if that is known.
-    pub fn kind_of(&self, entry: &Entry<A>) -> Option<bool> {
+    pub fn kind_of(&self, entry: &Entry<A>) -> Option<bool>
+        ensures { result ≡ known_kind self.now.source entry.now }
+    {
         match self.source {
             Source::LookedUp | Source::Listed => Some(entry.is_dir),
             Source::Named => None,
         }
     }
 
-    /// Whether a name may be in it: not where its names are known, and this is none of them.
-    fn may_have(&self, name: &str) -> bool {
-        self.source == Source::LookedUp
-            || self
+    /// Whether a name may be in it: where its names are known, whether it is one of them.
+    fn may_have(&self, name: &str) -> bool
+        ensures { result ≡ false → IsAbsent self.now name.now }
+    {
+        match self.source {
+            Source::LookedUp => true,
+            Source::Listed | Source::Named => self
                 .entries
                 .as_slice()
                 .binary_search_by(|entry| name.cmp(entry.name.as_str()))
-                .is_ok()
+                .is_ok(),
+        }
     }
 }

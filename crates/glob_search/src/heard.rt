@@ -1,65 +1,130 @@
 //! The rules that are heard in a directory.
-ghost use Rattle.std.specs.Prelude.{◌≡◌};
+ghost use Rattle.std.specs.Prelude.{◌≡◌, IfOk, drop, false, ◌++◌, ◌∷◌, [], Bool, IsTrue};
+ghost use Rattle.std.specs.List.{All, list_all, join_with_byte};
+ghost use Rattle.std.specs.Str.{IsCharBoundary};
+ghost use Rattle.glob_text.specs.Characters.{slash};
+ghost use Rattle.glob_text.specs.Text.{Text};
+ghost use Rattle.glob_tree.specs.Content.{Key};
+ghost use Rattle.glob_tree.specs.Paths.{is_proper};
+ghost use Rattle.glob_search.specs.Private.Hearing.{heard_of, after, heard_said, Hears};
+ghost use Rattle.glob_search.specs.Searching.{Aim, said, is_ignored};
 
 use glob_rules::IgnoreList;
 use std::alloc::{AllocError, Allocator};
 
-/// The rules of a file, and the path of its directory.
+/// The rules of a file, for the paths below its directory.
 #[derive(Drop)]
 pub struct FileRules<A: Allocator> {
-    pub directory: String<A>,
+    /// How many bytes of a path are its directory's and the separator after it.
+    pub above: usize,
     pub list: IgnoreList<A>,
 }
 
-/// The rules that are heard: those of the command line, and then those of files, the last one first.
+/// The rules that are heard. Of the lists the last one that says something of a path decides, and those that come
+/// before all others are asked first.
 #[derive(Drop)]
 pub struct Heard<A: Allocator> {
-    pub first: Option<IgnoreList<A>>,
+    pub first: Vec<FileRules<A>, A>,
+    /// The rules that come after those of files, and then those of files.
     pub files: Vec<FileRules<A>, A>,
 }
 
 impl<A: Allocator + Copy> Heard<A> {
-    /// Whether there are any.
-    pub fn is_any(&self) -> bool {
-        self.first.is_some() || self.files.len() > 0
+    /// Rules from the start on, before those of files and after them.
+    pub fn of_lists(
+        alloc: A,
+        first: Vec<IgnoreList<A>, A>,
+        last: Vec<IgnoreList<A>, A>,
+    ) -> Result<Self, AllocError>
+        ensures first { IfOk result (λ h. heard_of h.first.items ≡ after 0 first.items) }
+        ensures files { IfOk result (λ h. heard_of h.files.items ≡ after 0 last.items) }
+    {
+        Ok(Heard {
+            first: from_start(alloc, first)?,
+            files: from_start(alloc, last)?,
+        })
     }
 
-    /// Whether the first rules that say something of a path ignore it.
-    pub fn ignores(&self, path: &str, is_dir: bool) -> Result<bool, AllocError> {
-        if let Some(list) = &self.first {
-            if let Some(ignored) = said(list, path, is_dir)? {
-                return Ok(ignored);
-            }
+    /// Whether there are any.
+    pub fn is_any(&self) -> bool
+        ensures none { (a : Aim) (directory : Key) (n : Text) (d : Bool)
+            → Hears a directory self.now → result ≡ false
+            → is_ignored a (directory ++ n ∷ []) d ≡ false }
+    {
+        !self.first.is_empty() || !self.files.is_empty()
+    }
+
+    /// Whether the first rules that say something of a path ignore it. The directories above it are not asked about:
+    /// they were when they were entered.
+    pub fn ignores(&self, path: &str, is_dir: bool) -> Result<bool, AllocError>
+        ensures decides { (a : Aim) (directory : Key) (n : Text) → Hears a directory self.now
+            → IsTrue (list_all is_proper (directory ++ n ∷ []))
+            → path.now ≡ join_with_byte slash (directory ++ n ∷ [])
+            → IfOk result (λ r. r ≡ is_ignored a (directory ++ n ∷ []) is_dir) }
+    {
+        if let Some(ignored) = last_said(self.first.as_slice(), path, is_dir)? {
+            return Ok(ignored);
         }
-        for file in self.files.iter().rev() {
-            let below = below(file.directory.as_str(), path);
-            if let Some(ignored) = said(&file.list, below, is_dir)? {
-                return Ok(ignored);
-            }
-        }
-        Ok(false)
+        let said = last_said(self.files.as_slice(), path, is_dir)?;
+        Ok(said.unwrap_or(false))
     }
 }
 
-/// Whether a list ignores a path, or `None` where it says nothing of it.
+/// Lists for paths from the start on.
+fn from_start<A: Allocator + Copy>(
+    alloc: A,
+    lists: Vec<IgnoreList<A>, A>,
+) -> Result<Vec<FileRules<A>, A>, AllocError>
+    ensures { IfOk result (λ rules. heard_of rules.items ≡ after 0 lists.items) }
+{
+    let mut rules = Vec::new(alloc);
+    for list in lists {
+        rules.push(FileRules { above: 0, list })?;
+    }
+    Ok(rules)
+}
+
+/// What the last list that says something of a path says: whether it ignores it.
+fn last_said<A: Allocator + Copy>(
+    rules: &[FileRules<A>],
+    path: &str,
+    is_dir: bool,
+) -> Result<Option<bool>, AllocError>
+    ensures { All (λ l. IsCharBoundary path.now l.0) (heard_of rules.now)
+        → IfOk result (λ answer. answer ≡ heard_said (heard_of rules.now) path.now is_dir) }
+{
+    let mut left = rules.len();
+    while left > 0 {
+        left -= 1;
+        let file = &rules[left];
+        let below = below(path, file.above);
+        if let Some(ignored) = said(&file.list, below, is_dir)? {
+            return Ok(Some(ignored));
+        }
+    }
+    Ok(None)
+}
+
+/// Whether a list ignores a path, or `None` where no rule of it names the path.
 fn said<A: Allocator + Copy>(
     list: &IgnoreList<A>,
     path: &str,
     is_dir: bool,
-) -> Result<Option<bool>, AllocError> {
-    match list.deciding_rule(path, is_dir)? {
+) -> Result<Option<bool>, AllocError>
+    ensures { IfOk result (λ answer. answer ≡ said list.now path.now is_dir) }
+{
+    match list.naming_rule(path, is_dir)? {
         Some(rule) => Ok(Some(!rule.negative)),
         None => Ok(None),
     }
 }
 
-/// The names of a path past those of a directory above it.
-fn below<'a>(directory: &str, path: &'a str) -> &'a str {
-    if directory == "." {
-        return path;
-    }
-    match path.strip_prefix(directory) {
-        Some(rest) => rest.strip_prefix('/').unwrap_or(rest),
+/// What is after so many bytes of a path.
+fn below(path: &str, above: usize) -> &str
+    ensures { IsCharBoundary path.now above → result.now ≡ drop above path.now }
+{
+    match path.split_at_checked(above) {
+        Some((_, rest)) => rest,
         None => path,
     }
 }

@@ -3,29 +3,35 @@
 //!
 //! A [`Search`] for `src/*.c` and `lib/**/*.h` lists `src`, `lib` and the directories below `lib`, and no other.
 //!
-//! Proved is that a search is safe over any tree, one whose answers contradict each other too, that each call of
-//! [`Search::next`] comes to an end, and that no more is charged than the limit. What it finds is tested by rows, and
-//! written in `specs/Searching.antt`, which no contract cites yet.
+//! Over a known content, the calls of [`Search::next`] give exactly what `specs/Visiting.antt` writes, one after another
+//! and then `None`: each path that a filter of all keys takes (`specs/Searching.antt`), once and in ascending order, and
+//! each directory that could not be listed. The [`laws`] tie the order to the filter. This holds until a file with rules
+//! cannot be read or has a refused line, the limit is reached, or memory runs out.
 //!
-//! It is not yet what git does: a rule is asked about the directories above a path, too. So where `.gitignore` has
-//! `b/` and `a/.gitignore` has `!b`, nothing below `a/b` is found, and git lists it. A file with a line that is
-//! refused has no rules, and a pattern with an empty component, `.` or `..` finds nothing.
+//! Over any tree, also one whose answers contradict each other, a search is safe, each call comes to an end, each path
+//! comes after those before it in the order of names, and what is charged only grows and is never more than the limit.
+//!
+//! A file with a refused line has no rules, and a pattern with an empty component, `.` or `..` finds nothing.
 #![tactic(auto)]
 
 mod beginnings;
 mod entries;
 mod fault;
+mod found;
 mod frame;
 mod heard;
+pub mod laws;
 mod meter;
 mod rule_texts;
 mod search;
+mod searcher;
 mod settings;
 #[cfg(test)]
 mod tests;
 mod way;
 
 pub use fault::SearchFault;
+pub use found::Found;
 pub use rule_texts::{NoRuleTexts, RuleTexts};
 pub use search::Search;
 pub use settings::{Settings, Wanted};

@@ -2,7 +2,7 @@
 ghost use Rattle.std.specs.Prelude.{◌≡◌, ◌+◌, ◌≤◌, OnOk, OnErr};
 
 /// The next units of work do not fit the limit.
-#[derive(Clone, Copy)]
+#[derive(Clone, Copy, Debug)]
 pub struct OverLimit;
 
 /// How many units of a limit were spent: never more than the limit.

@@ -1,10 +1,11 @@
 //! Where the texts of ignore files come from.
-ghost use Rattle.std.specs.Prelude.{◌≡◌, ℕ, List, Option, None, Some, IfOk, option_map, string_bytes};
+ghost use Rattle.std.specs.Prelude.{◌≡◌, ℕ, List, Option, None, Some, IfOk, false, option_map, string_bytes};
 
 use glob_tree::ListError;
-use std::alloc::{Allocator, Global};
+use std::alloc::{AllocError, Allocator, Global};
 
-/// The texts of files with rules. Contracts see them as `texts`, by path, where they are known.
+/// The texts of files with rules, and what else is left out. Contracts see the texts as `texts`, by path, where they
+/// are known. Where they are, nothing else is left out.
 pub trait RuleTexts: Drop {
     /// The allocator of the texts.
     type Alloc: Allocator + Copy;
@@ -17,10 +18,21 @@ pub trait RuleTexts: Drop {
         ensures kept { texts self.new ≡ texts self.old }
         ensures text { (known : List ℕ → Option (List ℕ)) → texts self.old ≡ Some known
             → IfOk result (λ text. option_map (λ t. string_bytes t) text ≡ known path.now) };
+
+    /// Whether a path is left out, and all below it, that no rule ignores. It is asked for each path that is found or
+    /// entered. `is_dir` is `false` where the kind was not learned, which happens only without
+    /// [`Settings::kinds`](crate::Settings::kinds).
+    fn leaves_out(&mut self, _path: &str, _is_dir: bool) -> Result<bool, AllocError>
+        ensures kept { texts self.new ≡ texts self.old }
+        ensures none { (known : List ℕ → Option (List ℕ)) → texts self.old ≡ Some known
+            → IfOk result (λ out. out ≡ false) }
+    {
+        Ok(false)
+    }
 }
 
 /// No files with rules.
-#[derive(Drop)]
+#[derive(Debug, Drop)]
 pub struct NoRuleTexts;
 
 impl RuleTexts for NoRuleTexts {

@@ -17,8 +17,12 @@ pub enum Wanted {
 }
 
 impl Wanted {
+    ghost use Rattle.glob_search.specs.Aims.{wants};
+
     /// Whether a path is found, where `is_dir` says that it is a directory.
-    pub fn takes(self, is_dir: bool) -> bool {
+    pub fn takes(self, is_dir: bool) -> bool
+        ensures { result ≡ wants self is_dir }
+    {
         match self {
             Wanted::All => true,
             Wanted::Directories => is_dir,
@@ -36,23 +40,31 @@ pub struct Settings<A: Allocator = Global> {
     pub depth: usize,
     /// Which kinds are found.
     pub wanted: Wanted,
+    /// Whether the kind of each path that is found is learned. Without it a kind is asked for only where it decides
+    /// something.
+    pub kinds: bool,
     /// The most units of work: one for each lookup, listing, file of rules, and entry of a listing.
     pub limit: u64,
-    /// Rules that come before those of any file, for paths from the start directory on.
-    pub rules: Option<IgnoreList<A>>,
+    /// Rules that come before those of any file, for paths from the start directory on. Of these lists the last comes
+    /// first.
+    pub first: Vec<IgnoreList<A>, A>,
+    /// Rules that come after those of any file, as those of git's `info/exclude`. Of these lists the last comes first.
+    pub last: Vec<IgnoreList<A>, A>,
     /// The names of files with rules, as `.gitignore`. Of those in one directory the last comes first.
     pub rule_files: Vec<String<A>, A>,
 }
 
-impl<A: Allocator> Settings<A> {
+impl<A: Allocator + Copy> Settings<A> {
     /// All that the patterns match, case-sensitively, with no rules and practically no limit.
     pub fn new(alloc: A) -> Self {
         Settings {
             options: MatchOptions::new(),
             depth: usize::MAX,
             wanted: Wanted::All,
+            kinds: false,
             limit: u64::MAX,
-            rules: None,
+            first: Vec::new(alloc),
+            last: Vec::new(alloc),
             rule_files: Vec::new(alloc),
         }
     }

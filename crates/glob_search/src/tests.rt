@@ -154,7 +154,9 @@ fn settings_of(alloc: Global, row: &Row) -> Result<Settings, AllocError> {
     }
     if !row.rules.is_empty() {
         let text = lines_of(alloc, row.rules)?;
-        settings.rules = IgnoreList::new(alloc, text.as_str()).ok();
+        if let Ok(list) = IgnoreList::new(alloc, text.as_str()) {
+            settings.first.push(list)?;
+        }
     }
     for name in row.rule_files.split_whitespace() {
         let name = String::from_str(alloc, name)?;
@@ -186,7 +188,7 @@ fn found_by(alloc: Global, row: &Row, tree: &mut Counted) -> Result<String, Allo
             found.push(' ')?;
         }
         match item {
-            Ok(path) => found.push_str(path.as_str())?,
+            Ok(hit) => found.push_str(hit.path.as_str())?,
             Err(SearchFault::Unread(path, _))
             | Err(SearchFault::UnreadRules(path, _))
             | Err(SearchFault::RefusedRules(path, _, _)) => {

@@ -1,5 +1,5 @@
 //! The way down to where a search is, and what it does next.
-ghost use Rattle.std.specs.Prelude.{◌≡◌, ◌+◌, ◌≤◌, MatchOption, ⊤};
+ghost use Rattle.std.specs.Prelude.{◌≡◌, ◌+◌, ◌≤◌, None, MatchOption, OnOk, map, string_bytes, ⊤};
 
 use crate::frame::{Frame, Opening};
 use glob_tree::Entry;
@@ -26,12 +26,17 @@ pub struct Way<A: Allocator> {
 }
 
 impl<A: Allocator> Way<A> {
+    ghost use Rattle.glob_search.specs.Private.Ways.{IsDone};
+    ghost use Rattle.glob_search.specs.Private.Steps.{MayEnter, NextWork};
     ghost use Rattle.glob_search.specs.Private.Weights.{way_weight, work_weight};
 
     /// What is done next, where the files with rules have these names; `None` where nothing is left.
     pub fn next(&mut self, names: &[String<A>]) -> Option<Work<A>>
-        ensures { MatchOption result ⊤
+        ensures weight { MatchOption result ⊤
             (λ work. way_weight self.new + work_weight work ≡ way_weight self.old) }
+        ensures ends { MatchOption result (IsDone self.new) (λ _. ⊤) }
+        ensures stays { IsDone self.old → (result ≡ None) × (self.new ≡ self.old) }
+        ensures work { NextWork (map (λ name. string_bytes name) names.now) self.old result self.new }
     {
         if let Some(opening) = self.entering.take() {
             return Some(Work::Enter(opening));
@@ -56,7 +61,9 @@ impl<A: Allocator> Way<A> {
     ) -> Result<(), AllocError>
     where
         A: Copy,
-        ensures { way_weight self.new ≤ way_weight self.old + 1 }
+        ensures weight { way_weight self.new ≤ way_weight self.old + 1 }
+        ensures enters { OnOk result
+            (MayEnter enters (string_bytes path.now) alive.items self.old self.new) }
     {
         if enters {
             let path = path.clone()?;

@@ -1,5 +1,5 @@
 -- What fulfils a request, and what a usage fault writes.
-use Rattle.std.proofs.Common.{◌≡◌, ℕ, ◌<◌, ◌≤◌, false, List, [], ◌∷◌, Option, length, get_or, map, inl, inr, refl, sym, subst, arith, Bor}
+use Rattle.std.proofs.Common.{◌≡◌, ℕ, ◌<◌, ◌≤◌, List, [], ◌∷◌, Option, length, get_or, map, inl, inr, refl, sym, subst, arith, Bor}
 use Rattle.std.specs.Prelude.{codes}
 use Rattle.std.specs.Str.{chars}
 use Rattle.std.proofs.KnownBytes.{Keeps-refl}

@@ -1,10 +1,10 @@
 -- The texts of sources, one more at a time.
-use Rattle.std.proofs.Common.{◌≡◌, ℕ, ◌+◌, ◌<◌, ◌≤◌, List, [], ◌∷◌, ◌++◌, Option, None, Some, length, get_or, take, drop, map, IfSome, sym, ap, subst, ◌∙◌, append-nil, append_assoc, Bor}
+use Rattle.std.proofs.Common.{◌≡◌, ℕ, ◌+◌, ◌<◌, ◌≤◌, List, [], ◌∷◌, ◌++◌, Option, length, get_or, take, drop, map, sym, ap, subst, ◌∙◌, append-nil, append_assoc, Bor}
 use Rattle.std.proofs.lemmas.List.{drop_all, drop_more, map_more, take_all}
 use Rattle.glob_text.specs.Text.{Text}
 use Rattle.glob_lines.specs.Lines.{line_feed, with_ends}
 use Rattle.glob_rules.specs.Lists.{AreTaken, Ignores, rules_of}
-use Rattle.globs.specs.Ignoring.{AreRead, HasRules, IsRead, IsUnmarked}
+use Rattle.globs.specs.Ignoring.{AreRead, HasRules, IsRead}
 
 abbrev now : Bor Text → Text
 now text = text.now

@@ -1,4 +1,4 @@
--- What the words of a command line ask for, or the first of them that is wrong.
+-- What a command line asks for, or its first wrong word.
 use Rattle.std.specs.Prelude.{◌||◌, ◌&&◌, not, Bool, true, false, List, [], ◌∷◌, Option, None, Some, Ok, Err, is_some, if◌then◌else◌, codes, bytes_eq, option_map, unwrap_or}
 use Rattle.glob_text.specs.Text.{Text}
 use Rattle.glob_console.specs.Words.{is_option}
@@ -18,7 +18,7 @@ name_of word =
     else (if bytes_eq word (codes "explain") then Some Explain
     else (if bytes_eq word (codes "escape") then Some Escape else None))))
 
--- the first of the words that begins with a hyphen
+-- the first word that begins with a hyphen
 abbrev pub first_option : List Text → Option Text
 first_option [] = None
 first_option (word ∷ words) = if is_option word then Some word else first_option words
@@ -31,14 +31,14 @@ has_text Ignore = false
 has_text Explain = true
 has_text Escape = false
 
--- of the words behind a pattern to explain the one after the text, if neither begins with a hyphen
+-- of the words after a pattern to explain, the surplus word after the text, if neither begins with a hyphen
 abbrev pub extra_word : Name → List Text → Option Text
 extra_word name [] = None
 extra_word name (text ∷ []) = None
 extra_word name (text ∷ extra ∷ words) =
     if has_text name && (not (is_option text) && not (is_option extra)) then Some extra else None
 
--- the operands, all of which are behind the options; after `--` they may begin with a hyphen
+-- the operands, which all come after the options; after `--` they may begin with a hyphen
 abbrev pub operands_asked : Name → Chosen → List Text → Reading
 operands_asked name o [] = Wrong why.Bare []
 operands_asked name o (word ∷ []) =
@@ -50,12 +50,12 @@ operands_asked name o (word ∷ next ∷ words) =
     else unwrap_or (option_map (Wrong why.Extra) (extra_word name (next ∷ words)))
     (unwrap_or (option_map (Wrong why.Late) (first_option (next ∷ words))) (Asks o (word ∷ next ∷ words))))
 
--- a word that asks for a page
+-- the word asks for a help page
 abbrev pub is_help : Text → Bool
 is_help word = bytes_eq word (codes "-h") || bytes_eq word (codes "--help")
 
--- The words of a command that are left, where so much is chosen. An option with a value takes the word after it. What is
--- after a word that asks for the page is passed over.
+-- The remaining words of a command, after the options in `o`. An option with a value takes the word after it. Words
+-- after one that asks for help are ignored.
 abbrev pub reading : Name → Chosen → List Text → Reading
 reading name o [] = Wrong why.Bare []
 reading name o (word ∷ []) =
@@ -78,22 +78,22 @@ help_asked [] = Helps None
 help_asked (word ∷ words) =
     unwrap_or (option_map (λ name. Helps (Some name)) (name_of word)) (Refused None why.Command word)
 
--- what a command does by its words
+-- the request of a command with this reading of its words
 abbrev pub request_of_reading : Name → Reading → Request
 request_of_reading name (Asks o operands) = Runs name o operands
 request_of_reading name Page = Helps (Some name)
 request_of_reading name (Wrong w word) = Refused (Some name) w word
 
--- the words after that of a command
+-- the words after a command's name
 abbrev pub words_asked : Name → List Text → Request
 words_asked name words = request_of_reading name (reading name (new_options name) words)
 
--- a word that is to be that of a command, and those after it
+-- a word in the place of a command's name, and the words after it
 unfoldable pub command_asked : Text → List Text → Request
 command_asked word words =
     unwrap_or (option_map (λ name. words_asked name words) (name_of word)) (Refused None why.Command word)
 
--- the words after the program's name; what is after those of a page is passed over
+-- the words after the program's name; words after those that ask for help or for the version are ignored
 unfoldable pub request_asked : List Text → Request
 request_asked [] = Refused None why.Empty []
 request_asked (word ∷ words) =

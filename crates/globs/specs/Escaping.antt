@@ -6,7 +6,7 @@ use Rattle.glob_lines.specs.Lines.{ended_record, line_feed}
 use Rattle.glob_set.specs.BraceEscaping.{StandsFor, escaped_text}
 use Rattle.glob_text.specs.Text.{Text}
 
--- the pattern with braces that stands for the text alone, and a line feed
+-- the pattern that matches the text literally, also where braces are expanded, and a line feed
 abbrev pub IsEscapedLine : (text line : Text) → Type 0
 IsEscapedLine text line =
     (escaped : Text) × (chars escaped ≡ escaped_text (chars text)) × StandsFor escaped text
@@ -18,7 +18,8 @@ AreEscaped [] lines = lines ≡ []
 AreEscaped (text ∷ texts) lines =
     (line : Text) × (rest : Text) × IsEscapedLine text line × AreEscaped texts rest × (lines ≡ line ++ rest)
 
--- Those lines were written, and the status is 0; or the status is 2, and nothing was written, or their first bytes.
+-- The lines were written, and the status is 0; or the status is 2, and none or only the first of their bytes were
+-- written.
 unfoldable pub WritesEscaped : (texts : List Text) → (old new : Option (List ℕ)) → (status : ℕ) → Type 0
 WritesEscaped texts old new status =
     ((status ≡ 2) × Keeps old new)

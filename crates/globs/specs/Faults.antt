@@ -1,4 +1,4 @@
--- The printed texts of faults. What words from outside have of control characters is seen.
+-- The printed texts of faults. Control characters in words from outside are escaped.
 use Rattle.std.specs.Prelude.{ℕ, List, [], ◌++◌, ◌∷◌, Option, None, Some, ⊤, codes, decimal}
 use Rattle.glob_console.specs.Lines.{WritesLine}
 use Rattle.glob_pattern.specs.Grammar.Faults.{kind_of, message_of}
@@ -23,7 +23,7 @@ use Rattle.globs.specs.declared.usage.UsageLine.{UsageLine}
 use Rattle.globs.specs.declared.usage.Why.{Why}
 use Rattle.globs.specs.declared.usage.Why.TheVariants as why
 
--- the word of a command
+-- the name of a command
 abbrev pub name_word : Name → Text
 name_word Find = codes "find"
 name_word Match = codes "match"
@@ -31,12 +31,12 @@ name_word Ignore = codes "ignore"
 name_word Explain = codes "explain"
 name_word Escape = codes "escape"
 
--- where help is
+-- where to find help
 abbrev pub help_words : Option Name → Text
 help_words None = codes "try globs help"
 help_words (Some name) = codes "try globs help " ++ name_word name
 
--- what a command lacks that has no operand
+-- which operand is missing
 abbrev pub bare_words : Option Name → Text
 bare_words None = codes "there is no PATTERN"
 bare_words (Some Find) = codes "there is no PATTERN"
@@ -52,6 +52,7 @@ why_words name why.Valueless = codes " needs a value"
 why_words name why.Limit = codes " is no limit: -n takes a number below 2 to the power of 64"
 why_words name why.Depth = codes " is no depth: --max-depth takes a number below 2 to the power of 64"
 why_words name why.Kind = codes " is no kind: -t takes f or d"
+why_words name why.RuleFile = codes " is no name: --ignore-files takes one, such as .gitignore"
 why_words name why.Late = codes " stands after an operand: options come first"
 why_words name why.Bare = bare_words name
 why_words name why.Textless = codes "there is no text"
@@ -59,17 +60,18 @@ why_words name why.Extra = codes " stands after the text: quote the pattern"
 why_words name why.Command = codes " is no command"
 why_words name why.Empty = codes "there is no command"
 
--- a word that was typed, in backquotes
+-- a word of the command line, in backquotes
 abbrev pub quoted : (word : Text) → Text
 quoted word = 96 ∷ (visible word ++ codes "`")
 
--- the word that is wrong, where there is one
+-- the wrong word, if there is one
 abbrev pub subject_words : Why → (word : Text) → Text
 subject_words why.Unknown word = quoted word
 subject_words why.Valueless word = quoted word
 subject_words why.Limit word = quoted word
 subject_words why.Depth word = quoted word
 subject_words why.Kind word = quoted word
+subject_words why.RuleFile word = quoted word
 subject_words why.Late word = quoted word
 subject_words why.Bare word = []
 subject_words why.Textless word = []
@@ -77,7 +79,7 @@ subject_words why.Extra word = quoted word
 subject_words why.Command word = quoted word
 subject_words why.Empty word = []
 
--- what is said of a word that is wrong, of a command or before one
+-- the text about a wrong word, of a command or before one
 abbrev pub word_fault_words : Option Name → Why → (word : Text) → Text
 word_fault_words name w word = subject_words w word ++ (why_words name w ++ (codes ": " ++ help_words name))
 
@@ -88,8 +90,8 @@ usage_words line = elim line.fault [
   | usage.Memory ↦ codes "out of memory"
 ]
 
--- Of words that are refused the line was written that says which is wrong and why, behind the prefix. Of others nothing
--- is said.
+-- If the words are refused, a line was written with the prefix, the wrong word and the reason. Otherwise this says
+-- nothing.
 unfoldable pub WritesUsage : {E : Type 0} → (contents : E → Option (List ℕ)) → (prefix : Text) → Request → (old new : E)
     → Type 0
 WritesUsage contents prefix (Runs name o operands) old new = ⊤
@@ -98,23 +100,23 @@ WritesUsage contents prefix VersionLine old new = ⊤
 WritesUsage contents prefix (Refused name w word) old new =
     WritesLine prefix (word_fault_words name w word) (contents old) (contents new)
 
--- the message of a kind here: a bracket that is not closed says so
+-- the message for a kind of syntax error: the library's, except for an unclosed bracket
 abbrev pub message_words : PatternErrorKind → Text
 message_words Wildcards = message_of Wildcards
 message_words Recursive = message_of Recursive
 message_words Range = codes "unclosed ["
 
--- the lines of braces that are refused, but for the last
+-- the lines about refused braces, except for the last
 abbrev pub brace_lines : (text : Text) → BraceError → Text
 brace_lines text (Unmatched place) = brace_error_words (Unmatched place) ++ 10 ∷ caret_lines text place
 brace_lines text (Unclosed place) = brace_error_words (Unclosed place) ++ 10 ∷ caret_lines text place
 brace_lines text TooMany = brace_error_words TooMany ++ 10 ∷ visible text
 
--- the lines of a fault: what is wrong, the pattern, a caret under its place, and where help is
+-- the lines about a fault: what is wrong, the pattern, a caret under the place, and where to find help
 abbrev pub marked_words : Name → (what text : Text) → (place : ℕ) → Text
 marked_words name what text place = what ++ 10 ∷ (caret_lines text place ++ 10 ∷ help_words (Some name))
 
--- the lines of a pattern that is refused
+-- the lines about a refused pattern
 abbrev pub fault_words : FaultLines → Text
 fault_words lines = elim lines.fault [
   | pattern.Astray text column ↦
@@ -124,11 +126,11 @@ fault_words lines = elim lines.fault [
   | pattern.Memory ↦ codes "out of memory"
 ]
 
--- those of an alternative of a word
+-- the lines about a refused alternative of a word
 abbrev pub alternative_words : AlternativeLines → Text
 alternative_words lines = quoted lines.word.now ++ (codes ": " ++ fault_words lines.lines)
 
--- the line of rules that are refused; what the system says of a file is not known
+-- the line about refused rules; the system's error texts are not known
 abbrev pub rules_words : RulesFault → Option Text
 rules_words (rules.NoText file) = Some (visible file.now ++ codes ": the file is not UTF-8")
 rules_words (rules.Unread file e) = None

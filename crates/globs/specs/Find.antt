@@ -1,10 +1,5 @@
-pub mod Filtering
-pub mod Finding
+pub mod Aiming
+pub mod Below
 pub mod Outcomes
-pub mod Planning
-pub mod Searching
-pub mod Shallow
-pub mod ShallowTrees
-pub mod Sharing
-pub mod Skipping
 pub mod Strays
+pub mod Writing

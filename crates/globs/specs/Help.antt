@@ -5,7 +5,7 @@ use Rattle.globs.specs.declared.help.TheConstants.{HELP, FIND, MATCH, IGNORE, EX
 use Rattle.globs.specs.declared.name.Name.{Name}
 use Rattle.globs.specs.declared.name.Name.TheVariants.{Find, Match, Ignore, Explain, Escape}
 
--- the page of a command, or that of all
+-- the page of a command, or of the whole program
 abbrev pub page_of : Option Name → Text
 page_of None = HELP.now
 page_of (Some Find) = FIND.now

@@ -14,7 +14,7 @@ use Rattle.globs.specs.declared.ignoring.Source.{Source}
 abbrev pub mark : Text
 mark = encode_utf8 65279
 
--- the other text is this one without a byte order mark at its start
+-- the other text is the text without a byte order mark at its start
 abbrev pub IsUnmarked : (text other : Text) → Type 0
 IsUnmarked text other = (text ≡ mark ++ other) ⊎ (((rest : Text) → text ≢ mark ++ rest) × (other ≡ text))
 
@@ -22,25 +22,25 @@ IsUnmarked text other = (text ≡ mark ++ other) ⊎ (((rest : Text) → text �
 abbrev pub texts_of : {A : Type 0} → List (Source A) → List Text
 texts_of sources = map (λ s. string_bytes s.text) sources
 
--- the text is that of a file, without a byte order mark, and where its text is known, of that
+-- the text is the known one of a file, without a byte order mark; any text, if none is known
 abbrev pub IsRead : (known : Option Text) → (text : Text) → Type 0
 IsRead None text = (held : Text) × IsUnmarked held text
 IsRead (Some held) text = IsUnmarked held text
 
--- these are the texts of the files of these names, without byte order marks
+-- the texts of the files of these names, without byte order marks
 abbrev pub AreRead : (holds : Text → Option Text) → (names texts : List Text) → Type 0
 AreRead holds [] [] = ⊤
 AreRead holds [] (text ∷ texts) = ⊥
 AreRead holds (name ∷ names) [] = ⊥
 AreRead holds (name ∷ names) (text ∷ texts) = IsRead (holds name) text × AreRead holds names texts
 
--- the list has the rules of the files of these names, and then the single ones, of which none is refused
+-- the list has the rules of the files of these names and then the single rules, and all are accepted
 unfoldable pub HasRules : (holds : Text → Option Text) → (names rules : List Text) → Ignores → Type 0
 HasRules holds names rules list =
     (texts : List Text) × AreRead holds names texts × AreTaken (with_ends line_feed (texts ++ rules))
     × (list ≡ rules_of (with_ends line_feed (texts ++ rules)))
 
--- what an error of a read of the file means: out of memory, a file that is not UTF-8, or the error of the system
+-- the fault for an error of reading the file: out of memory, a file that is not UTF-8, or the system's error
 abbrev pub IsReadFault : (file : Text) → Error → RulesFault → Type 0
 IsReadFault file error Memory = error_kind error ≡ OutOfMemory
 IsReadFault file error (NoText name) = (error_kind error ≡ InvalidData) × (name.now ≡ file)

@@ -1,4 +1,4 @@
--- Which records some patterns match.
+-- Which records patterns match.
 use Rattle.std.specs.Prelude.{Bool, ◌&&◌, ◌⊎◌, not, if◌then◌else◌, List, Option, ℕ}
 use Rattle.std.specs.Str.{is_utf8}
 use Rattle.glob_console.specs.Outcomes.{IsRefused}
@@ -9,16 +9,16 @@ use Rattle.globs.specs.Copying.{Copies, Input, IsUnread}
 use Rattle.globs.specs.Patterns.{is_any_match, set_of}
 use Rattle.globs.specs.declared.options.Settings.{Settings}
 
--- the record is text, and one of the patterns matches it
+-- the record is UTF-8, and some pattern matches it
 abbrev pub is_record_match : Set → (bytes : List ℕ) → Bool
 is_record_match set bytes = is_utf8 bytes && is_any_match set bytes
 
--- one of the patterns matches the record, or, inverted, none of them does
+-- some pattern matches the record or, inverted, none does
 abbrev pub is_chosen : Set → (inverts : Bool) → (bytes : List ℕ) → Bool
 is_chosen set inverts bytes = if inverts then not (is_record_match set bytes) else is_record_match set bytes
 
--- The patterns are refused before anything is read or written; or each is accepted, and the records were copied that
--- one of them matches or, inverted, that none does.
+-- Either the patterns are refused before anything is read or written, or each is accepted, and the records were copied
+-- that some pattern matches or, inverted, that none does.
 unfoldable pub CopiesChosen : {W : Type 0} → (contents : W → Option (List ℕ)) → Settings → (patterns : List Text)
     → Input → (old new : W) → (status : ℕ) → Type 0
 CopiesChosen contents settings patterns input old new status =
@@ -27,7 +27,7 @@ CopiesChosen contents settings patterns input old new status =
     × Copies settings.end (is_chosen (set_of settings.options patterns) settings.inverts)
     input (contents old) (contents new) status)
 
--- The words are refused before anything is read or written; or their alternatives are the patterns of the copy.
+-- Either the words are refused before anything is read or written, or their alternatives are the patterns of the copy.
 unfoldable pub CopiesMatches : {W : Type 0} → (contents : W → Option (List ℕ)) → Settings → (words : List Text) → Input
     → (old new : W) → (status : ℕ) → Type 0
 CopiesMatches contents settings words input old new status =

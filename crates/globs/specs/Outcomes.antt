@@ -1,5 +1,5 @@
--- What a run does that fulfils the request of its words: its status, and what its output gained.
-use Rattle.std.specs.Prelude.{ℕ, Bool, List, Option}
+-- The outcome of a run: its status, and what its output gained.
+use Rattle.std.specs.Prelude.{ℕ, Bool, List, Option, None, if◌then◌else◌, bytes_eq}
 use Rattle.glob_console.specs.Outcomes.{IsRefused, WritesText}
 use Rattle.glob_text.specs.Text.{Text}
 use Rattle.glob_tree.specs.Content.{Content}
@@ -14,20 +14,26 @@ use Rattle.globs.specs.Unignored.{CopiesUnignored}
 use Rattle.globs.specs.declared.help.TheConstants.{VERSION}
 use Rattle.globs.specs.declared.name.Name.TheVariants.{Find, Match, Ignore, Explain, Escape}
 
--- What is known of what a run works on: the content of the disk, with symbolic links to directories or without, the
--- texts of files, and the input.
+-- What is known of a run's surroundings: the content of the disk from a directory on, with symbolic links to directories
+-- followed or not, and the texts of its files; the texts of files that are named; and the input.
 pub record World : Type 0 where
-  pub content : (follows : Bool) → Option Content
+  pub content : (follows : Bool) → (directory : Text) → Option Content
+  pub texts : (directory : Text) → Option (Text → Option Text)
   pub holds : (path : Text) → Option Text
   pub input : Input
 
--- What fulfils a request. A usage fault has the status 2, and leaves the output as it was. Nothing is read of the input,
--- but for a match and for ignore files.
+-- what is known of a directory, by what is known of one
+abbrev pub known_at : {K : Type 0} → (directory told : Text) → Option K → Option K
+known_at directory told known = if bytes_eq directory told then known else None
+
+-- The run did what was asked. After a usage fault the status is 2, and the output is unchanged. Only `match` and
+-- `ignore` read the input.
 unfoldable pub Fulfils : {W : Type 0} → (contents : W → Option (List ℕ)) → World → Request → (old new : W)
     → (status : ℕ) → Type 0
 Fulfils contents world (Runs Find o operands) old new status =
     IsUnread world.input
-    × FindsUnignored contents (world.content o.settings.follows) world.holds o operands old new status
+    × FindsUnignored contents (world.content o.settings.follows o.directory) (world.texts o.directory) world.holds o
+    operands old new status
 Fulfils contents world (Runs Match o operands) old new status =
     CopiesMatches contents o.settings operands world.input old new status
 Fulfils contents world (Runs Ignore o operands) old new status =

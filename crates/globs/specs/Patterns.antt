@@ -9,26 +9,26 @@ use Rattle.glob_pattern.specs.declared.options.MatchOptions.{MatchOptions}
 use Rattle.glob_set.specs.Braces.{IsBraceFault, lexemes}
 use Rattle.glob_set.specs.BraceSets.{AreAccepted}
 use Rattle.glob_set.specs.Sets.{Set}
-use Rattle.globs.specs.Find.Planning.{are_below, is_below}
+use Rattle.globs.specs.Find.Below.{are_below, is_below}
 use Rattle.globs.specs.declared.patterns.PatternFault.{PatternFault}
 use Rattle.globs.specs.declared.patterns.PatternFault.TheVariants.{Astray, Syntax, Braces, Memory}
 
--- the patterns, under these options
+-- the set of the patterns, under these options
 abbrev pub set_of : MatchOptions → (patterns : List Text) → Set
 set_of o patterns = record { patterns = patterns; options = o }
 
--- one of the patterns matches the text
+-- some pattern matches the text
 unfoldable pub is_any_match : Set → (text : Text) → Bool
 is_any_match set text = list_any (λ pattern. is_match set.options (chars pattern) (chars text)) set.patterns
 
--- it is the first of the texts that does not lead below the current directory
+-- it is the first of the texts with an empty component, `.` or `..`
 abbrev pub IsFirstAstray : (texts : List Text) → (text : Text) → Type 0
 IsFirstAstray texts text =
     (before after : List Text) × (texts ≡ before ++ text ∷ after)
     × (are_below before ≡ true) × (is_below text ≡ false)
 
--- the first of the texts that does not lead below the current directory, or is not accepted, has this fault; one of
--- them has this fault of its braces; or memory was missing
+-- The fault is that of the first text with an empty component, `.` or `..`; or of the first that is not a valid
+-- pattern; or of the braces of some text; or an allocation failed.
 abbrev pub IsPatternFault : (texts : List Text) → PatternFault → Type 0
 IsPatternFault texts (Astray pattern column) = IsFirstAstray texts pattern.now
 IsPatternFault texts (Syntax pattern e) =

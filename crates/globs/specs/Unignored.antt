@@ -18,33 +18,33 @@ without_here bytes = if has bytes 0 dot && has bytes 1 slash then drop 2 bytes e
 abbrev pub has_slash : Text → Bool
 has_slash path = has path (length path - 1) slash
 
--- the path is that of a directory
+-- the record marks its path as a directory
 abbrev pub is_directory : Text → Bool
 is_directory bytes = has_slash (without_here bytes)
 
--- without that `/`
+-- the path of a record, without that `./` and `/`
 abbrev pub path_of : Text → Text
 path_of bytes =
     if is_directory bytes then take (length (without_here bytes) - 1) (without_here bytes) else without_here bytes
 
--- the path of the list's own directory
+-- the path names the list's own directory
 abbrev pub is_here : Text → Bool
 is_here path = is_empty path || bytes_eq path (codes ".")
 
--- the record is text, and that of the list's own directory or of a path that the list does not ignore
+-- the path is UTF-8, and names the list's own directory or is not ignored by the list
 unfoldable pub is_selected : Ignores → (bytes : Text) → Bool
 is_selected list bytes =
     is_utf8 (path_of bytes)
     && (is_here (path_of bytes) || not (is_ignored list (path_of bytes) (is_directory bytes)))
 
--- The records were copied that the list does not ignore. The status is that of the copy, or 2: no clause says when, but
--- it is where a path is not UTF-8.
+-- The records that the list does not ignore were copied. The status is that of the copy, or 2. No clause says when it
+-- becomes 2; tests show that it does if a path is not UTF-8.
 unfoldable pub CopiesList : (list : Ignores) → (end : ℕ) → Input → (old new : Option (List ℕ)) → (status : ℕ) → Type 0
 CopiesList list end input old new status =
     (copied : ℕ) × Copies end (is_selected list) input old new copied × ((status ≡ copied) ⊎ (status ≡ 2))
 
--- The list is refused before anything is read of the input or written; or the records were copied that the rules of the
--- files of these names do not ignore.
+-- Either the list is refused before any input is read or anything is written, or the records that the rules of the
+-- files of these names do not ignore were copied.
 unfoldable pub CopiesUnignored : {W : Type 0} → (contents : W → Option (List ℕ)) → (holds : Text → Option Text)
     → (end : ℕ) → (names : List Text) → Input → (old new : W) → (status : ℕ) → Type 0
 CopiesUnignored contents holds end names input old new status =

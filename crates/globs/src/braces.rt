@@ -1,10 +1,10 @@
-//! The alternatives of the patterns of a command line.
+//! Expands the braces of patterns on the command line.
 ghost use Rattle.std.specs.Prelude.{◌≡◌, Some, IfOk, IfErr, chars, map, string_bytes};
 ghost use Rattle.glob_set.specs.Braces.{AreAlternatives};
 ghost use Rattle.glob_set.specs.BraceSets.{AreAlternativesOf};
 ghost use Rattle.globs.specs.Faults.{alternative_words};
 
-use crate::find::plan::{astray_column, is_below};
+use crate::find::below::{astray_column, is_below};
 use crate::name::Name;
 use crate::patterns::{FaultLines, PatternFault};
 use crate::visible::Visible;
@@ -15,9 +15,10 @@ use std::alloc::Allocator;
 use std::fmt::{self, Display};
 use std::io::Write;
 
-/// The alternatives of the words, those of the first word first: of `*.{c,h}` and `a`, `*.c`, `*.h` and `a`.
+/// Expands the braces of each word, in order: `*.{c,h}` and `a` give `*.c`, `*.h` and `a`.
 ///
-/// A word whose braces are refused, or one of whose alternatives is, is lines of `errors`, and the error is its status.
+/// A word with refused braces or a refused alternative is reported on `errors`, as is a failed allocation. The error is
+/// then the exit status.
 pub fn expand_words<A: Allocator + Copy, E: Write>(
     alloc: A,
     name: Name,
@@ -38,7 +39,7 @@ pub fn expand_words<A: Allocator + Copy, E: Write>(
     Ok(texts)
 }
 
-/// The alternatives of a word, as [`expand_words`].
+/// Expands the braces of one word, as [`expand_words`] does.
 fn expand_word<A: Allocator + Copy, E: Write>(
     alloc: A,
     name: Name,
@@ -61,7 +62,7 @@ fn expand_word<A: Allocator + Copy, E: Write>(
     }
 }
 
-/// The fault of a word whose braces are refused.
+/// The fault for a word whose braces are refused.
 fn brace_fault(word: &str, refusal: BraceRefusal) -> PatternFault<'_> {
     match refusal {
         BraceRefusal::Syntax(error) => PatternFault::Braces(word, error),
@@ -69,7 +70,8 @@ fn brace_fault(word: &str, refusal: BraceRefusal) -> PatternFault<'_> {
     }
 }
 
-/// Refuses a word of which an alternative is refused. Where that is the word itself, the lines do not name the word.
+/// Reports the first refused alternative of a word. The lines also name the word, unless the alternative is the word
+/// itself.
 fn check_alternatives<A: Allocator + Copy, E: Write>(
     alloc: A,
     name: Name,
@@ -91,7 +93,7 @@ fn check_alternatives<A: Allocator + Copy, E: Write>(
     Ok(())
 }
 
-/// Why the command refuses a pattern, as far as there is memory to know it.
+/// Why the command refuses a pattern. `None` if it does not, or if an allocation fails.
 fn pattern_fault<A: Allocator + Copy>(
     alloc: A,
     name: Name,
@@ -106,13 +108,13 @@ fn pattern_fault<A: Allocator + Copy>(
     }
 }
 
-/// The lines of an alternative of a word.
+/// The lines for a refused alternative of a word.
 fn lines_of<'a>(name: Name, word: &'a str, fault: PatternFault<'a>) -> AlternativeLines<'a> {
     let lines = FaultLines { name, fault };
     AlternativeLines { word, lines }
 }
 
-/// The lines of an alternative that is refused, behind the word that it is of.
+/// The lines for a refused alternative, after the word that it comes from.
 #[derive(Drop)]
 pub struct AlternativeLines<'a> {
     pub word: &'a str,

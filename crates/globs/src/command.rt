@@ -1,4 +1,4 @@
-//! What the words of a command line ask for.
+//! Parses the command line.
 ghost use Rattle.std.specs.Prelude.{◌≡◌, IfOk, IfErr, map, option_map, Option, None};
 ghost use Rattle.globs.specs.Options.{new_options};
 ghost use Rattle.globs.specs.CommandLine.{command_asked, extra_word, first_option, help_asked, is_help};
@@ -12,18 +12,18 @@ use crate::options::{Options, Valued};
 use crate::usage::{UsageFault, UsageLine, Why};
 use std::alloc::Allocator;
 
-/// What a list of words asks of the program.
+/// A parsed command line.
 #[derive(Drop)]
 pub enum Command<'a, A: Allocator> {
-    /// Run the command of this name.
+    /// Run this command.
     Run(Name, Asked<'a, A>),
-    /// Write the page of a command, or that of all.
+    /// Write the help page of a command, or the page of the whole program.
     Help(Option<Name>),
     /// Write the version.
     Version,
 }
 
-/// The options of a command, and its operands: at least one.
+/// The options of a command and its operands, at least one.
 #[derive(Drop)]
 pub struct Asked<'a, A: Allocator> {
     pub options: Options<'a, A>,
@@ -31,7 +31,8 @@ pub struct Asked<'a, A: Allocator> {
 }
 
 impl<'a, A: Allocator + Copy> Command<'a, A> {
-    /// Reads the words after the program's name. The error says which word is wrong, and of which command.
+    /// Parses the words after the program's name. The error has the first wrong word and its command, if one was given,
+    /// or reports a failed allocation.
     #[tactic(auto, unfolding(crate::specs::CommandLine::request_asked))]
     pub fn parse(alloc: A, words: &'a [&'a str]) -> Result<Self, UsageLine<'a>>
         ensures asked { IfOk result (λ command.
@@ -49,7 +50,7 @@ impl<'a, A: Allocator + Copy> Command<'a, A> {
         }
     }
 
-    /// Reads the words after `help`.
+    /// Parses the words after `help`.
     fn parse_help(words: &'a [&'a str]) -> Result<Self, UsageLine<'a>>
         ensures asked { IfOk result (λ command.
             help_asked (map (λ w. w.now) words.now) ≡ request_of command) }
@@ -64,7 +65,7 @@ impl<'a, A: Allocator + Copy> Command<'a, A> {
         }
     }
 
-    /// Reads the words after that of a command.
+    /// Parses a command's name, `word`, and the words after it.
     #[tactic(auto, unfolding(crate::specs::CommandLine::command_asked))]
     fn parse_named(alloc: A, word: &'a str, words: &'a [&'a str]) -> Result<Self, UsageLine<'a>>
         ensures asked { IfOk result (λ command.
@@ -86,7 +87,7 @@ impl<'a, A: Allocator + Copy> Command<'a, A> {
     }
 }
 
-/// Whether the word asks for a page.
+/// Whether the word is `-h` or `--help`.
 fn asks_help(word: &str) -> bool
     ensures { result ≡ is_help word.now }
 {
@@ -94,8 +95,8 @@ fn asks_help(word: &str) -> bool
 }
 
 impl<'a, A: Allocator + Copy> Asked<'a, A> {
-    /// Reads the options of a command, and the operands behind them. `None` where one of the options asks for the page
-    /// of the command.
+    /// Parses the options of a command and the operands after them. `None` if an option asks for the command's help
+    /// page.
     pub fn parse(alloc: A, name: Name, words: &'a [&'a str]) -> Result<Option<Self>, UsageFault<'a>>
         ensures asked { IfOk result (λ asked.
             reading name (new_options name) (map (λ w. w.now) words.now)
@@ -125,7 +126,7 @@ impl<'a, A: Allocator + Copy> Asked<'a, A> {
         Err(UsageFault::Word(Why::Bare, ""))
     }
 
-    /// What is asked by these options and by the operands behind them.
+    /// Parses the operands after these options.
     fn with_operands(
         options: Options<'a, A>,
         name: Name,
@@ -142,7 +143,7 @@ impl<'a, A: Allocator + Copy> Asked<'a, A> {
     }
 }
 
-/// The operands behind the options. Those that begin with `-` are behind `--`.
+/// The operands after the options. Operands that begin with `-` are accepted only after `--`.
 fn operands_of<'a>(name: Name, words: &'a [&'a str]) -> Result<&'a [&'a str], UsageFault<'a>>
     ensures operands { IfOk result (λ operands. (o : Chosen)
         → operands_asked name o (map (λ w. w.now) words.now)
@@ -169,7 +170,7 @@ fn operands_of<'a>(name: Name, words: &'a [&'a str]) -> Result<&'a [&'a str], Us
     }
 }
 
-/// Of the words behind a pattern to explain the one after the text, if neither begins with `-`.
+/// For `explain`, the surplus word after the text, if neither begins with `-`. `words` come after the pattern.
 fn extra_word<'a>(name: Name, words: &[&'a str]) -> Option<&'a str>
     ensures { option_map (λ w. w.now) result ≡ extra_word name (map (λ w. w.now) words.now) }
 {
@@ -183,7 +184,7 @@ fn extra_word<'a>(name: Name, words: &[&'a str]) -> Option<&'a str>
     None
 }
 
-/// The first of the words that begins with `-`.
+/// The first word that begins with `-`.
 fn first_option<'a>(words: &[&'a str]) -> Option<&'a str>
     ensures { option_map (λ w. w.now) result ≡ first_option (map (λ w. w.now) words.now) }
 {

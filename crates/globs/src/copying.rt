@@ -1,4 +1,4 @@
-//! Copies of records of the input.
+//! Copies records of the input.
 ghost use Rattle.std.specs.Prelude.{◌≡◌, ◌≤◌, false, IfOk, IsErr, IsTrue, OnErr, OnOk};
 ghost use Rattle.std.specs.Io.KnownBytes.{IsAtEnd};
 ghost use Rattle.glob_lines.specs.Lines.{CopiesSelected, CopiesSelectedBytes, CopiesWholeSelected};
@@ -9,10 +9,10 @@ use glob_lines::{LineFault, Selection, Watch, copy_selected};
 use std::alloc::Allocator;
 use std::io::{Read, Write};
 
-/// Copies the selected records of the input, each of which ends in `end`, and returns the status: 0 where some were
-/// copied, 1 where none, 2 at a fault, which is a line of `errors`.
+/// Copies the selected records of the input, which end in `end`, and returns the status: 0 if some were copied, 1 if
+/// none were, and 2 after a fault, which is reported on `errors` unless the reader of the output went away.
 ///
-/// Over the input `"a.o\na.c\n"` a selection of records that end in `c` writes `"a.c\n"`.
+/// With the input `"a.o\na.c\n"`, a selection of records that end in `c` writes `"a.c\n"`.
 #[tactic(auto, unfolding(crate::specs::Copying::Copies))]
 pub fn copy<A: Allocator + Copy, S: Selection, R: Read, W: Write, E: Write>(
     alloc: A,
@@ -35,7 +35,7 @@ pub fn copy<A: Allocator + Copy, S: Selection, R: Read, W: Write, E: Write>(
     }
 }
 
-/// Copies the selected records, and returns how many there are. Where it fails, the first bytes of them were written.
+/// Copies the selected records, and returns how many there are. After an error, the first of their bytes were written.
 fn copy_input<A: Allocator + Copy, S: Selection, R: Read, W: Write>(
     alloc: A,
     selection: &S,
@@ -57,7 +57,7 @@ fn copy_input<A: Allocator + Copy, S: Selection, R: Read, W: Write>(
     let mut writer = Watch::new(Borrowed { writer: output });
     let answer = copy_selected(alloc, selection, end, input, &mut writer);
     let Borrowed { writer: output } = writer.into_inner();
-    // No effect at run time. The proof reads here what the output holds.
+    // No effect at run time: the proof needs the contents of the output here.
     let _ = &*output;
     answer
 }

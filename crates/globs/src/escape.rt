@@ -1,4 +1,4 @@
-//! `globs escape`: the patterns that match texts alone.
+//! `globs escape`: writes patterns that match given texts literally.
 ghost use Rattle.std.specs.Prelude.{◌≡◌, ◌≤◌, IfOk, map, string_bytes};
 ghost use Rattle.globs.specs.Escaping.{AreEscaped, WritesEscaped, IsEscapedLine};
 
@@ -7,8 +7,8 @@ use glob_set::braces::escape;
 use std::alloc::{AllocError, Allocator};
 use std::io::Write;
 
-/// Writes a line for each of the texts: the pattern that matches that text alone, braces and all. It returns the
-/// status.
+/// Writes a line for each text, with the pattern that matches that text and no other, its braces escaped too. Returns
+/// the status.
 ///
 /// The texts `*.rs` and `{a}` are written as `"[*].rs\n[{]a[}]\n"`.
 pub fn run_escape<A: Allocator + Copy, W: Write, E: Write>(
@@ -27,7 +27,7 @@ pub fn run_escape<A: Allocator + Copy, W: Write, E: Write>(
     }
 }
 
-/// The lines of the escaped texts.
+/// The escaped texts, each with a line feed.
 fn escaped_lines<A: Allocator + Copy>(alloc: A, texts: &[&str]) -> Result<String<A>, AllocError>
     ensures { IfOk result (λ lines. AreEscaped (map (λ t. t.now) texts.now) (string_bytes lines)) }
 {

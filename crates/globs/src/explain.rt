@@ -1,5 +1,5 @@
-//! `globs explain`: why a pattern matches a text, or does not. It writes which piece of the text each token takes, or
-//! where the text stops and what is wanted there; and what to write instead of a pattern that is refused.
+//! `globs explain`: why a pattern matches a text, or does not. It writes which piece of the text each token matches, or
+//! how far the match got and what the pattern wants there. For a refused pattern it suggests another.
 ghost use Rattle.std.specs.Prelude.{◌≡◌, ◌≤◌, chars, map};
 ghost use Rattle.glob_console.specs.Outcomes.{IsRefused};
 ghost use Rattle.globs.specs.Explain.Outcomes.{Answers, Explains};
@@ -23,12 +23,12 @@ use refusal::explain_refusal;
 use std::alloc::Allocator;
 use std::io::Write;
 
-/// Explains why a pattern matches a text, or does not, and returns the exit status: 0 where it does, 1 where not, and 2
-/// at a fault. The operands are the pattern and the text.
+/// Explains why a pattern matches a text, or does not, and returns the exit status: 0 if it matches, 1 if not, and 2
+/// after a fault. The operands are the pattern and the text.
 ///
-/// A fault is lines of `errors`. Another number of operands, or a fault of the pattern, leaves the output as it was.
+/// Faults are reported on `errors`. A wrong number of operands, or a refused pattern, leaves the output unchanged.
 ///
-/// The operands `?*` and `xyz` write a line of `?`, a tab and `x`, and one of `*`, a tab and `yz`; the status is 0.
+/// For `?*` and `xyz` it writes the lines `"?\tx\n"` and `"*\tyz\n"`, and the status is 0.
 #[tactic(auto, unfolding(crate::specs::Explain::Outcomes::Answers))]
 pub fn run_explain<A: Allocator + Copy, W: Write, E: Write>(
     alloc: A,
@@ -55,12 +55,12 @@ pub fn run_explain<A: Allocator + Copy, W: Write, E: Write>(
     }
 }
 
-/// The line of an operand that is wrong.
+/// The line for a wrong operand.
 fn usage(why: Why, word: &str) -> UsageLine<'_> {
     UsageLine::new(Some(Name::Explain), why, word)
 }
 
-/// A pattern and a text, of which is asked why the one matches the other, or does not.
+/// A pattern and a text whose match is to be explained.
 #[derive(Clone, Copy)]
 struct Question<'a> {
     options: MatchOptions,
@@ -68,8 +68,8 @@ struct Question<'a> {
     text: &'a str,
 }
 
-/// Writes why the pattern matches the text, or does not, and returns the status. A pattern that is refused is written
-/// to `errors`, with a caret under its fault.
+/// Writes why the pattern matches the text, or does not, and returns the status. A refused pattern is written to
+/// `errors`, with a caret under its fault.
 #[tactic(auto, unfolding(crate::specs::Explain::Outcomes::Explains))]
 fn answer<A: Allocator + Copy, W: Write, E: Write>(
     alloc: A,
@@ -99,7 +99,7 @@ fn answer<A: Allocator + Copy, W: Write, E: Write>(
     }
 }
 
-/// Writes the lines of a pattern and a text, and returns the status.
+/// Writes why a parsed pattern matches the text, or does not, and returns the status.
 #[tactic(auto, unfolding(crate::specs::Explain::Outcomes::Explains))]
 fn write_explained<A: Allocator + Copy, W: Write, E: Write>(
     alloc: A,

@@ -1,80 +1,90 @@
-//! `globs find`: the paths below the current directory that one of the patterns matches and nothing excludes.
-ghost use Rattle.std.specs.Prelude.{◌≡◌, ◌≢◌, ◌≤◌, ◌++◌, ◌∷◌, Some, false, true, map, IsTrue};
-ghost use Rattle.glob_console.specs.FoundPaths.{IsFindStatus, WritesFound};
+//! `globs find`: writes the paths below a directory that any pattern matches and nothing excludes.
+ghost use Rattle.std.specs.Prelude.{◌≡◌, ◌≢◌, ◌≤◌, ◌⊎◌, ◌++◌, ◌∷◌, [], if◌then◌else◌, Option, Some, IfOk, false, true, map};
 ghost use Rattle.glob_console.specs.Outcomes.{IsRefused};
+ghost use Rattle.glob_search.specs.States.{HasGiven};
+ghost use Rattle.glob_search.specs.Visiting.{gifts};
 ghost use Rattle.glob_set.specs.BraceSets.{AreAccepted};
-ghost use Rattle.glob_tree.specs.Answers.{IsTold};
-ghost use Rattle.glob_tree.specs.Content.{Content};
-ghost use Rattle.glob_walk.specs.Goal.{is_readable};
-ghost use Rattle.globs.specs.Find.Filtering.{is_wanted};
-ghost use Rattle.globs.specs.Find.Finding.{IsFound, WritesExactly};
-ghost use Rattle.globs.specs.Find.Outcomes.{Finds, FindsUnignored};
-ghost use Rattle.globs.specs.Find.Planning.{are_below, walk_listing, walk_text};
-ghost use Rattle.globs.specs.Find.Searching.{searched};
-ghost use Rattle.globs.specs.Find.Skipping.{is_skipped};
-ghost use Rattle.globs.specs.Patterns.{set_of};
+ghost use Rattle.glob_text.specs.Text.{Text};
+ghost use Rattle.glob_tree.specs.Content.{Content, is_content};
+ghost use Rattle.globs.specs.Find.Aiming.{aim, rule_files};
+ghost use Rattle.globs.specs.Find.Below.{are_below};
+ghost use Rattle.globs.specs.Find.Outcomes.{Finds, FindsPaths, FindsUnignored};
 
+mod aim;
+pub mod below;
 pub mod disk;
-mod filter;
-pub mod plan;
-mod search;
-mod shallow;
-mod shared;
-pub mod skipping;
+mod fault;
+mod heeding;
+mod lines;
+mod searching;
 mod strays;
-mod walk;
 
 use crate::braces::expand_words;
 use crate::command::Asked;
 use crate::explain::notes::first_form;
 use crate::files::IgnoreFiles;
-use crate::ignoring::read_list;
+use crate::ignoring::read_rules;
 use crate::name::Name;
-use crate::options::Settings;
-use glob_console::{ErrorLines, UNFOUND, words_of};
-use glob_prune::Pruned;
+use crate::options::Options;
+use crate::patterns::{FaultLines, PatternFault};
+use crate::visible::Visible;
+use aim::{LastRules, heeds_files, last_rules, settings_of};
+use below::check_patterns;
+use disk::Disks;
+use glob_console::{ErrorLines, FAULT, UNFOUND, words_of};
 use glob_rules::IgnoreList;
+use glob_search::{RuleTexts, Search};
+use glob_set::SetRefusal;
 use glob_tree::Tree;
-use search::run_patterns;
-use shallow::Shallow;
-use skipping::{SharedRules, Skipping, share_list};
-use std::alloc::Allocator;
+use heeding::Heeded;
+use searching::run_search;
+use std::alloc::{AllocError, Allocator};
 use std::fmt::{self, Display};
 use std::io::Write;
-use std::rc::Rc;
 
-/// Searches the tree for what is asked, and returns the status. A list of rules that is refused is a fault, before
-/// anything is looked up or written; one that is not is in `rules` from then on.
+/// Searches as the command line asks, and returns the status. A refused rule or word is a fault, before anything is
+/// looked up or written, and so is a directory that is none, or not that of the disks, as without memory to ask for it.
 #[tactic(auto, unfolding(crate::specs::Find::Outcomes::FindsUnignored))]
-pub fn find_asked<T: Tree, F: IgnoreFiles, W: Write, E: Write>(
+pub fn find_asked<T, X, F, W, E>(
     alloc: T::Alloc,
-    tree: T,
-    rules: &SharedRules<T::Alloc>,
+    disks: Disks<'_, T, X, T::Alloc>,
     files: &F,
     asked: &Asked<'_, T::Alloc>,
     output: &mut W,
     errors: &mut ErrorLines<'_, T::Alloc, E>,
 ) -> u8
+where
+    T: Tree,
+    X: RuleTexts<Alloc = T::Alloc>,
+    F: IgnoreFiles,
+    W: Write,
+    E: Write,
     ensures most { result ≤ 2 }
-    ensures found { FindsUnignored W.contents (T.tells tree) (F.holds files.now) asked.now.options
-        (map (λ w. w.now) asked.now.operands.now) output.old output.new result }
+    ensures found { FindsUnignored W.contents (T.tells (if asked.now.options.settings.follows
+        then disks.entry.followed else disks.entry.kept)) (X.texts disks.entry.texts)
+        (F.holds files.now) asked.now.options (map (λ w. w.now) asked.now.operands.now)
+        output.old output.new result }
 {
     let options = &asked.options;
-    match read_list(
+    if options.directory != disks.directory {
+        return errors.fault("out of memory");
+    }
+    let read = read_rules(
         alloc,
         files,
         options.files.as_slice(),
         options.rules.as_slice(),
-    ) {
-        Ok(list) => {
-            let Ok(list) = share_list(alloc, list, rules) else {
-                return errors.fault("out of memory");
-            };
+    );
+    match read {
+        Ok((text, list)) => {
+            let _ = disks.rules.set(text);
+            let (tree, texts) = disks.chosen(options.settings.follows);
             find_words(
                 alloc,
                 tree,
+                texts,
                 list,
-                options.settings,
+                options,
                 asked.operands,
                 output,
                 errors,
@@ -84,35 +94,42 @@ pub fn find_asked<T: Tree, F: IgnoreFiles, W: Write, E: Write>(
     }
 }
 
-/// As [`run_find`], by the alternatives of the words: `*.{c,h}` as `*.c` and `*.h`. A word that is refused is lines of
-/// `errors`, before anything is looked up or written. Where one pattern finds nothing and has a form of another tool, a
-/// line says what that is here.
+/// Expands the braces of the words, `*.{c,h}` to `*.c` and `*.h`, and then does what [`find_below`] does. A refused word
+/// is a fault, before anything is looked up or written. If a single pattern finds nothing and contains another tool's
+/// syntax, a line says what that means here.
 #[tactic(auto, unfolding(crate::specs::Find::Outcomes::Finds))]
-fn find_words<T: Tree, W: Write, E: Write>(
+fn find_words<T, X, W, E>(
     alloc: T::Alloc,
     tree: T,
-    list: Rc<IgnoreList<T::Alloc>, T::Alloc>,
-    settings: Settings,
+    texts: X,
+    list: IgnoreList<T::Alloc>,
+    options: &Options<'_, T::Alloc>,
     words: &[&str],
     output: &mut W,
     errors: &mut ErrorLines<'_, T::Alloc, E>,
 ) -> u8
+where
+    T: Tree,
+    X: RuleTexts<Alloc = T::Alloc>,
+    W: Write,
+    E: Write,
     ensures most { result ≤ 2 }
-    ensures found { Finds W.contents (T.tells tree) settings list.value (map (λ w. w.now) words.now)
-        output.old output.new result }
+    ensures found { Finds W.contents (T.tells tree) (X.texts texts) options.now list
+        (map (λ w. w.now) words.now) output.old output.new result }
 {
-    let texts = match expand_words(alloc, Name::Find, words, errors) {
-        Ok(texts) => texts,
+    let expanded = match expand_words(alloc, Name::Find, words, errors) {
+        Ok(expanded) => expanded,
         Err(status) => return status,
     };
-    let Ok(patterns) = words_of(alloc, texts.as_slice()) else {
+    let Ok(patterns) = words_of(alloc, expanded.as_slice()) else {
         return errors.fault("out of memory");
     };
-    let status = run_find(
+    let status = find_below(
         alloc,
         tree,
+        texts,
         list,
-        settings,
+        options,
         patterns.as_slice(),
         output,
         errors,
@@ -123,7 +140,144 @@ fn find_words<T: Tree, W: Write, E: Write>(
     status
 }
 
-/// Writes what the first form of another tool is here, if the patterns are one that has such a form.
+/// Searches the tree, unless the directory where the search is to begin is none, or a pattern is refused. Each is a
+/// fault, before anything is written.
+fn find_below<T, X, W, E>(
+    alloc: T::Alloc,
+    tree: T,
+    texts: X,
+    list: IgnoreList<T::Alloc>,
+    options: &Options<'_, T::Alloc>,
+    patterns: &[&str],
+    output: &mut W,
+    errors: &mut ErrorLines<'_, T::Alloc, E>,
+) -> u8
+where
+    T: Tree,
+    X: RuleTexts<Alloc = T::Alloc>,
+    W: Write,
+    E: Write,
+    ensures most { result ≤ 2 }
+    ensures accepted { result ≢ 2 → AreAccepted (map (λ p. p.now) patterns.now) }
+    ensures below { result ≢ 2 → are_below (map (λ p. p.now) patterns.now) ≡ true }
+    ensures found { IsRefused output.old output.new result
+        ⊎ FindsPaths (T.tells tree) (X.texts texts) options.now list (map (λ p. p.now) patterns.now)
+        (W.contents output.old) (W.contents output.new) result }
+{
+    if let Err(fault) = check_patterns(alloc, patterns) {
+        return errors.fault(FaultLines {
+            name: Name::Find,
+            fault,
+        });
+    }
+    let mut tree = tree;
+    match is_directory(&mut tree, options.directory) {
+        Ok(true) => run_find(alloc, tree, texts, list, options, patterns, output, errors),
+        Ok(false) => errors.fault(NoDirectory {
+            path: options.directory,
+        }),
+        Err(_) => errors.fault("out of memory"),
+    }
+}
+
+/// Whether the directory of a tree is one. The current directory is.
+fn is_directory<T: Tree>(tree: &mut T, directory: &str) -> Result<bool, AllocError>
+    ensures { T.tells tree.new ≡ T.tells tree.old }
+{
+    if directory.is_empty() {
+        return Ok(true);
+    }
+    Ok(tree.look(".")?.is_dir())
+}
+
+/// Searches the tree, and writes each path below its current directory that any pattern matches, that has the kind in
+/// the settings, and that neither rules nor the depth exclude: once, in ascending byte order of the names. Returns the
+/// exit status: 0 if there is a path, 1 if there is none, and 2 if a directory could not be listed, a file with rules
+/// could not be read, or the search did not finish.
+///
+/// With the files `a.rs`, `b.c`, `d/a.rs` and `t/a.rs`, and a list that ignores `t`, the patterns `**/*.rs` and `d/*`
+/// write `a.rs` and `d/a.rs`.
+fn run_find<T, X, W, E>(
+    alloc: T::Alloc,
+    tree: T,
+    texts: X,
+    list: IgnoreList<T::Alloc>,
+    options: &Options<'_, T::Alloc>,
+    patterns: &[&str],
+    output: &mut W,
+    errors: &mut ErrorLines<'_, T::Alloc, E>,
+) -> u8
+where
+    T: Tree,
+    X: RuleTexts<Alloc = T::Alloc>,
+    W: Write,
+    E: Write,
+    ensures most { result ≤ 2 }
+    ensures found { IsRefused output.old output.new result
+        ⊎ FindsPaths (T.tells tree) (X.texts texts) options.now list (map (λ p. p.now) patterns.now)
+        (W.contents output.old) (W.contents output.new) result }
+{
+    let heeds = heeds_files(options);
+    let mut tree = tree;
+    let mut texts = Heeded { texts, heeds };
+    let (search, has_fault) = match begin(alloc, &mut texts, list, options, patterns, errors) {
+        Ok(begun) => begun,
+        Err(fault) => {
+            return errors.fault(FaultLines {
+                name: Name::Find,
+                fault,
+            });
+        }
+    };
+    let end = options.settings.end;
+    let status = run_search(
+        alloc, search, &mut tree, &mut texts, heeds, end, output, errors,
+    );
+    if has_fault { FAULT } else { status }
+}
+
+/// A search that has not begun, and whether some of its last rules could not be read.
+fn begin<'a, A, X, E>(
+    alloc: A,
+    texts: &mut X,
+    list: IgnoreList<A>,
+    options: &Options<'_, A>,
+    patterns: &[&'a str],
+    errors: &mut ErrorLines<'_, A, E>,
+) -> Result<(Search<A>, bool), PatternFault<'a>>
+where
+    A: Allocator + Copy,
+    X: RuleTexts<Alloc = A>,
+    E: Write,
+    ensures kept { X.texts texts.new ≡ X.texts texts.old }
+    ensures files { IfOk result (λ begun. begun.0.files ≡ rule_files options.now) }
+    ensures fault { IfOk result (λ begun. options.now.settings.is_git ≡ false
+        → begun.1 ≡ false) }
+    ensures fresh { (c : Content) (text_at : Text → Option Text) → is_content c ≡ true
+        → X.texts texts.old ≡ Some text_at → IfOk result (λ begun. begun.1 ≡ false
+        → let a = aim options.now list (map (λ p. p.now) patterns.now) text_at in
+        HasGiven (gifts c a) c a [] begun.0) }
+{
+    let LastRules { lists, has_fault } = last_rules(alloc, options.settings.is_git, texts, errors)?;
+    let settings = settings_of(alloc, options, list, lists)?;
+    match Search::new(alloc, patterns, settings) {
+        Ok(search) => Ok((search, has_fault)),
+        Err(refusal) => Err(fault_of(patterns, refusal)),
+    }
+}
+
+/// The fault for patterns that are refused.
+fn fault_of<'a>(patterns: &[&'a str], refusal: SetRefusal) -> PatternFault<'a> {
+    match refusal {
+        SetRefusal::Syntax(number, error) => match patterns.get(number) {
+            Some(pattern) => PatternFault::Syntax(*pattern, error),
+            None => PatternFault::Memory,
+        },
+        SetRefusal::Memory => PatternFault::Memory,
+    }
+}
+
+/// Writes what another tool's syntax means here, if there is a single pattern and it contains such syntax.
 fn note_form<A: Allocator + Copy, E: Write>(
     alloc: A,
     patterns: &[&str],
@@ -136,7 +290,7 @@ fn note_form<A: Allocator + Copy, E: Write>(
     }
 }
 
-/// The line of a form of another tool.
+/// The line about another tool's syntax.
 #[derive(Clone, Copy)]
 struct FormLine {
     form: &'static str,
@@ -151,52 +305,15 @@ impl Display for FormLine {
     }
 }
 
-/// Walks the tree, and writes the paths below its current directory that one of the patterns matches, that are of the
-/// kind of the settings, and that neither the list nor the depth excludes, in ascending byte order of their names, each
-/// once. It returns the exit status: 0 with a path, 1 without, and 2 where a directory could not be listed, the walk
-/// did not come to its end, or a pattern is refused. A refusal is lines of `errors`, before anything is looked up or
-/// written.
-///
-/// Over files `a.rs`, `b.c`, `d/a.rs` and `t/a.rs`, where the list ignores `t`, `**/*.rs` and `d/*` write `a.rs` and
-/// `d/a.rs`.
-fn run_find<T: Tree, W: Write, E: Write>(
-    alloc: T::Alloc,
-    tree: T,
-    list: Rc<IgnoreList<T::Alloc>, T::Alloc>,
-    settings: Settings,
-    patterns: &[&str],
-    output: &mut W,
-    errors: &mut ErrorLines<'_, T::Alloc, E>,
-) -> u8
-    ensures most { result ≤ 2 }
-    ensures refused { are_below (map (λ p. p.now) patterns.now) ≡ false
-        → IsRefused output.old output.new result }
-    ensures accepted { result ≢ 2 → AreAccepted (map (λ p. p.now) patterns.now) }
-    ensures below { result ≢ 2 → are_below (map (λ p. p.now) patterns.now) ≡ true }
-    ensures status { (c : Content) → IsTold (T.tells tree) c → IsFindStatus
-        (is_wanted (set_of settings.options (map (λ p. p.now) patterns.now)) settings.kind
-        (searched list.value settings c))
-        (walk_listing (searched list.value settings c)
-        settings.options (map (λ p. p.now) patterns.now)) settings.limit result }
-    ensures written { (c : Content) → IsTold (T.tells tree) c → WritesFound settings.end
-        (is_wanted (set_of settings.options (map (λ p. p.now) patterns.now)) settings.kind
-        (searched list.value settings c))
-        (walk_listing (searched list.value settings c)
-        settings.options (map (λ p. p.now) patterns.now)) settings.limit
-        (W.contents output.old) (W.contents output.new) result }
-    ensures exact { (c : Content) → IsTold (T.tells tree) c
-        → IsTrue (is_readable (searched list.value settings c)
-        (walk_text settings.options (map (λ p. p.now) patterns.now)))
-        → result ≢ 2 → WritesExactly settings.end
-        (IsFound (is_skipped list.value settings.depth)
-        (set_of settings.options (map (λ p. p.now) patterns.now)) settings.kind c)
-        (W.contents output.old) (W.contents output.new) }
-{
-    let skipping = Skipping {
-        list,
-        depth: settings.depth,
-    };
-    let pruned = Pruned::new(alloc, tree, skipping);
-    let shallow = Shallow::new(alloc, pruned, settings.depth);
-    run_patterns(alloc, shallow, patterns, settings, output, errors)
+/// The line about a directory that is none.
+#[derive(Clone, Copy)]
+struct NoDirectory<'a> {
+    path: &'a str,
+}
+
+impl Display for NoDirectory<'_> {
+    fn fmt<W: fmt::Write>(&self, f: &mut fmt::Formatter<W>) -> fmt::Result {
+        let path = Visible { text: self.path };
+        write!(f, "{path}: not a directory")
+    }
 }

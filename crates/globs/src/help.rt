@@ -4,10 +4,10 @@ ghost use Rattle.globs.specs.Help.{page_of};
 
 use crate::name::Name;
 
-/// The version, as the changelog has it at its top.
+/// The version: the one at the top of the changelog.
 pub const VERSION: &str = "globs 0.4.0\n";
 
-/// The page of a command, or that of all.
+/// The page of a command, or of the whole program.
 pub fn page_of(name: Option<Name>) -> &'static str
     ensures { result.now ≡ page_of name }
 {
@@ -21,11 +21,11 @@ pub fn page_of(name: Option<Name>) -> &'static str
     }
 }
 
-/// The page of all commands.
+/// The page of the whole program.
 const HELP: &str = "\
 globs: shell patterns, ignore lists and directory walks
 
-  globs find [OPTION].. PATTERN..    write the paths below the current directory that match
+  globs find [OPTION].. PATTERN..    write the paths below a directory that match
   globs match [OPTION].. PATTERN..   copy the lines of standard input that match
   globs ignore [OPTION].. FILE..     copy the paths of standard input that rules do not ignore
   globs explain [OPTION].. PATTERN TEXT
@@ -56,7 +56,7 @@ Status:
 
 /// The page of `find`.
 const FIND: &str = "\
-globs find: the paths below the current directory that patterns match and no rule ignores
+globs find: the paths below a directory that patterns match and no rule ignores
 
   globs find [OPTION].. PATTERN..
 
@@ -65,17 +65,26 @@ globs help shows what a PATTERN may have: ?, *, **, brackets and braces.
   -0             each path ends in a NUL in place of a line feed
   -i             ASCII letters in either case are the same
   -d             neither wildcards nor brackets take a . at the start of a name
+  -C DIR         search below DIR: patterns, rules and paths are taken from there, and FILE is not
+  --directory DIR
+                 the same as -C DIR
   -L             a symbolic link to a directory is one, and is entered. One that leads back to a
-                 directory of its own path, from the current directory on, is reported, and is none.
+                 directory of its own path, from the start on, is reported, and is none.
                  Without -L nothing is below a link: link/a is not found
-  -n LIMIT       the walk spends at most LIMIT units: one for each lookup, listing and entry. Where
-                 it takes more, paths may be missing, and a line says so
+  -n LIMIT       the search spends at most LIMIT units: one for each lookup, listing, entry and file
+                 of rules. Where it takes more, paths may be missing, and a line says so
   -t KIND        -t d writes only directories. -t f writes all else: files, pipes, devices, and
                  symbolic links, unless -L makes one a directory
   -x RULE        ignore what RULE names, as a line of an ignore file: -x target -x '*.o' -x '!a.o'.
                  In a rule braces are characters, [^a] is [!a], and case counts, with -i too
-  --ignore FILE  ignore what the rules of FILE name, which are taken from the current directory:
-                 --ignore .gitignore. See globs help ignore. Rules of -x come after those of files
+  --ignore FILE  ignore what the rules of FILE name, which are taken from the start:
+                 --ignore rules. See globs help ignore. Rules of -x come after those of files
+  --ignore-files NAME
+                 ignore what the files called NAME name in each directory, each for the paths
+                 below its own: --ignore-files .gitignore --ignore-files .ignore. A deeper file
+                 comes first, and in one directory the NAME that was given last
+  --git          ignore what git does by the files of a repository whose top is the start: each
+                 .gitignore, and .git/info/exclude after all others; and .git itself
   --max-depth N  write no path of more than N names. A directory of N names is not listed
   --             ends the options. A pattern that begins with - needs it
 
@@ -84,21 +93,22 @@ names here, and '**/*.rs' also of those below. One that begins or ends with /, o
 component, . or .., is refused.
 
 Nothing is skipped by default: neither names that begin with a . (see -d), nor what .gitignore
-names (--ignore .gitignore), nor .git (-x .git).
+names (--git), nor .git (-x .git). Rules of -x and --ignore come before those of --ignore-files and
+--git: -x '!a.o' finds a.o. A file of these two that cannot be read or has a refused line is
+reported, and the search goes on without its rules.
 
 Each path that one of the patterns matches is written once, in ascending byte order of its names.
-What is ignored is never listed, nor what is below it. Where one pattern finds nothing and contains
-a form of another tool, such as ~/ or [^a], a line on standard error says what that is here.
-
-Without -i a search by one pattern usually enters only directories that the pattern can reach. One
-by several patterns usually enters only the directories that all of them begin with, and those
-below: 'src/*.{c,h}' lists src alone.
+A directory is listed only where something in it may still be found: 'src/*.c' 'lib/**' lists src,
+lib and what is below lib, and src/main.c nothing. What is ignored is never listed. Where one
+pattern finds nothing and contains a form of another tool, such as ~/ or [^a], a line on standard
+error says what that is here.
 
 Status:
   0         a path was written
   1         no path was found
   2         a fault, a directory that could not be listed, a path that could not be looked up, a
-            name that is not UTF-8, ignored or not, a link that leads back, or the limit
+            name that is not UTF-8, ignored or not, a link that leads back, a file of rules that
+            could not be read or is refused, or the limit
 ";
 
 /// The page of `match`.

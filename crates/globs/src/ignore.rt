@@ -1,4 +1,4 @@
-//! `globs ignore`: the paths of the input that the rules of ignore files do not ignore.
+//! `globs ignore`: copies the paths of the input that the rules of ignore files do not ignore.
 ghost use Rattle.std.specs.Prelude.{◌≡◌, ◌≤◌, ◌++◌, Some, codes, decimal, false, map};
 ghost use Rattle.globs.specs.Copying.{input_of};
 ghost use Rattle.globs.specs.Unignored.{CopiesList, CopiesUnignored};
@@ -7,7 +7,7 @@ mod unignored;
 
 use crate::copying::copy;
 use crate::files::IgnoreFiles;
-use crate::ignoring::read_list;
+use crate::ignoring::read_rules;
 use glob_console::ErrorLines;
 use glob_lines::Watch;
 use glob_rules::IgnoreList;
@@ -17,11 +17,12 @@ use std::fmt::{self, Display};
 use std::io::{Read, Write};
 use unignored::Unignored;
 
-/// Copies the paths of the input that the rules of the files do not ignore, and returns the status. Of several files
-/// the later rules decide. They are read whole before the input. A list that is refused is a fault, before anything is
-/// read of the input or written. Paths that are not UTF-8 are left out: then the status is 2, and a line says how many.
+/// Copies the paths of the input that the rules of the files do not ignore, and returns the status. Later rules
+/// override earlier ones, also across files. The files are read whole before the input, and a refused rule is a fault,
+/// before any input is read or anything is written. Paths that are not UTF-8 are left out: the status is then 2, and a
+/// line says how many there were.
 ///
-/// Over the input `"a.o\na.c\n"` a file `*.o` writes `"a.c\n"`.
+/// With the input `"a.o\na.c\n"`, a file with the rule `*.o` writes `"a.c\n"`.
 pub fn run_ignore<A: Allocator + Copy, F: IgnoreFiles, R: Read, W: Write, E: Write>(
     alloc: A,
     files: &F,
@@ -36,8 +37,8 @@ pub fn run_ignore<A: Allocator + Copy, F: IgnoreFiles, R: Read, W: Write, E: Wri
     ensures copied { CopiesUnignored W.contents (F.holds files.now) end (map (λ w. w.now) names.now)
         (input_of R.remaining input.old input.new) output.old output.new result }
 {
-    match read_list(alloc, files, names, &[]) {
-        Ok(list) => copy_unignored(alloc, &list, end, input, output, errors),
+    match read_rules(alloc, files, names, &[]) {
+        Ok((_, list)) => copy_unignored(alloc, &list, end, input, output, errors),
         Err(rules_fault) => errors.fault(rules_fault),
     }
 }
@@ -67,7 +68,7 @@ fn copy_unignored<A: Allocator + Copy, R: Read, W: Write, E: Write>(
     }
 }
 
-/// The line of paths that were left out.
+/// The line about paths that were left out.
 #[derive(Clone, Copy)]
 struct StraysLine {
     strays: u64,

@@ -1,4 +1,4 @@
-//! The ignore list of some files and some rules.
+//! Makes an ignore list from files and single rules.
 ghost use Rattle.std.specs.Prelude.{◌≡◌, ◌++◌, List, IfOk, IfErr, OnOk, map, string_bytes};
 ghost use Rattle.glob_lines.specs.Lines.{line_feed, with_ends};
 ghost use Rattle.glob_rules.specs.Lists.{AreTaken, RefusesText, rules_of};
@@ -13,29 +13,29 @@ use std::alloc::{AllocError, AllocFailed, Allocator};
 use std::fmt::{self, Display};
 use std::io::{self, ErrorKind};
 
-/// Some rules, and where they come from: a file by its name, or `-x`.
+/// A text of rules, and where it comes from: a file's name, or `-x`.
 #[derive(Drop)]
 pub struct Source<'a, A: Allocator> {
     name: &'a str,
     text: String<A>,
 }
 
-/// Why there is no ignore list. It prints as a line of a fault, without the program's name.
+/// Why an ignore list could not be made. It prints as a line, without the program's name.
 #[derive(Drop)]
 pub enum RulesFault<'a> {
     /// The file is not UTF-8.
     NoText(&'a str),
-    /// The file cannot be read, for this reason.
+    /// The file could not be read, for this reason.
     Unread(&'a str, io::Error),
-    /// The source of this name has a line that is refused, counted from 1.
+    /// In the source of this name, the line of this number, counted from 1, is refused for this reason.
     Refused(&'a str, usize, Reason),
     /// Out of memory: an allocation failed.
     Memory,
 }
 
 impl<'a> RulesFault<'a> {
-    /// What an error of a read of the file means.
-    fn unread(file: &'a str, error: io::Error) -> Self
+    /// The fault for an error of reading the file.
+    pub fn unread(file: &'a str, error: io::Error) -> Self
         ensures { IsReadFault file.now error result }
     {
         match error.kind() {
@@ -80,22 +80,24 @@ impl Display for RulesFault<'_> {
     }
 }
 
-/// The list of the rules of the files and, after them, the single ones. A byte order mark at the start of a file is no
-/// part of its text.
-pub fn read_list<'a, A: Allocator + Copy, F: IgnoreFiles>(
+/// Reads the rules of the files and, after them, the single rules: their text, and their list. A byte order mark at the
+/// start of a file is skipped.
+pub fn read_rules<'a, A: Allocator + Copy, F: IgnoreFiles>(
     alloc: A,
     files: &F,
     names: &[&'a str],
     rules: &[&'a str],
-) -> Result<IgnoreList<A>, RulesFault<'a>>
-    ensures { IfOk result
-        (HasRules (F.holds files.now) (map (λ w. w.now) names.now) (map (λ w. w.now) rules.now)) }
+) -> Result<(String<A>, IgnoreList<A>), RulesFault<'a>>
+    ensures { IfOk result (λ read.
+        HasRules (F.holds files.now) (map (λ w. w.now) names.now) (map (λ w. w.now) rules.now)
+        read.1) }
 {
     let mut sources = Vec::new(alloc);
     add_files(alloc, files, names, &mut sources)?;
     add_rules(alloc, rules, &mut sources)?;
-    match list_of(alloc, sources.as_slice()) {
-        Ok(list) => Ok(list),
+    let text = joined(alloc, sources.as_slice())?;
+    match IgnoreList::new(alloc, text.as_str()) {
+        Ok(list) => Ok((text, list)),
         Err(RuleRefusal::Memory) => Err(RulesFault::Memory),
         Err(RuleRefusal::Line(line, reason)) => {
             Err(refusal_of(sources.as_slice(), line, reason))
@@ -152,27 +154,13 @@ fn text_of_file<'a, A: Allocator + Copy, F: IgnoreFiles>(
 }
 
 /// The text without a byte order mark at its start.
-fn unmarked(text: &str) -> &str
+pub fn unmarked(text: &str) -> &str
     ensures { IsUnmarked text.now result.now }
 {
     match text.strip_prefix('\u{feff}') {
         Some(rest) => rest,
         None => text,
     }
-}
-
-/// The list of the sources' rules, in order. A refused line is counted over all of them.
-fn list_of<A: Allocator + Copy>(
-    alloc: A,
-    sources: &[Source<'_, A>],
-) -> Result<IgnoreList<A>, RuleRefusal>
-    ensures rules { IfOk result (λ list.
-        list ≡ rules_of (with_ends line_feed (texts_of sources.now))) }
-    ensures taken { IfOk result (λ _. AreTaken (with_ends line_feed (texts_of sources.now))) }
-    ensures refused { IfErr result (RefusesText (with_ends line_feed (texts_of sources.now))) }
-{
-    let text = joined(alloc, sources)?;
-    IgnoreList::new(alloc, text.as_str())
 }
 
 /// The texts of the sources, each with a line feed at its end.
@@ -188,7 +176,7 @@ fn joined<A: Allocator + Copy>(alloc: A, sources: &[Source<'_, A>]) -> Result<St
     Ok(text)
 }
 
-/// The fault of a line that is refused, which is counted over all sources.
+/// The fault for a refused line, whose number counts the lines of all sources.
 fn refusal_of<'a, A: Allocator>(
     sources: &[Source<'a, A>],
     line: usize,
@@ -205,7 +193,7 @@ fn refusal_of<'a, A: Allocator>(
     RulesFault::Refused("-x", left, reason)
 }
 
-/// How many lines a text has, where one more follows its last line feed.
+/// How many lines a text has, counting one after its last line feed, even if it is empty.
 fn line_count(text: &str) -> usize {
     let mut count = 1usize;
     for byte in text.bytes() {

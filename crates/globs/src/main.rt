@@ -1,12 +1,12 @@
-//! Shell patterns for people: `globs find '**/*.rs'` writes the paths that patterns match, and other commands match
-//! lines, apply ignore lists, explain and escape.
+//! Shell patterns at the command line: `globs find '**/*.rs'` writes the paths that a pattern matches. Other commands
+//! match lines, apply ignore lists, explain matches and escape texts.
 #![tactic(auto)]
 
 ghost use Rattle.std.specs.Prelude.{◌≡◌, ◌≤◌, false, if◌then◌else◌, map};
 ghost use Rattle.globs.specs.CommandLine.{request_asked};
 ghost use Rattle.globs.specs.Copying.{input_of};
 ghost use Rattle.globs.specs.Faults.{WritesUsage};
-ghost use Rattle.globs.specs.Outcomes.{Fulfils};
+ghost use Rattle.globs.specs.Outcomes.{Fulfils, known_at};
 ghost use Rattle.globs.specs.Reading.{Runs};
 ghost use Rattle.globs.specs.Requests.{request_of};
 
@@ -31,41 +31,51 @@ use command::{Asked, Command};
 use escape::run_escape;
 use explain::run_explain;
 use files::{DiskFiles, IgnoreFiles};
-use find::disk::{Disks, disk_of, last_status};
+use find::disk::{Disks, SharedRules, Start, StartTexts, disk_of, last_status};
 use find::find_asked;
-use find::skipping::SharedRules;
 use glob_console::{ErrorLines, FAULT, arguments, words_of, write_line, write_text};
 use glob_lines::Watch;
-use glob_prune::Links;
-use glob_tree::Tree;
+use glob_search::RuleTexts;
+use glob_tree::{Links, Tree};
 use ignore::run_ignore;
 use matching::match_words;
 use name::Name;
+use std::alloc::Allocator;
 use std::cell::Cell;
 use std::io::{Read, Write};
 use std::process::ExitCode;
 
-/// What each fault of standard error begins with.
+/// The prefix of each fault on standard error.
 const PREFIX: &str = "globs: ";
 
-/// Does what the words after the program's name ask, and returns the exit status: 0 where something was written, 1
-/// where nothing was found, copied or matched, and 2 at a fault, which is lines of `errors`. A usage fault is one line,
-/// and leaves the output as it was.
+/// Runs the command that `words`, the arguments after the program's name, ask for, and returns the exit status: 0 if
+/// something was found, copied or matched, or a text was written; 1 if nothing was found, copied or matched; 2 after a
+/// fault, which is reported on `errors` unless the reader of the output went away. A usage fault is one line, and
+/// leaves the output unchanged.
 ///
-/// Over the input `"a.rs\nb.c\n"` the words `match` and `*.rs` write `"a.rs\n"`, and the status is 0.
-pub fn run_words<T: Tree, F: IgnoreFiles, R: Read, W: Write, E: Write>(
+/// With the input `"a.rs\nb.c\n"`, the words `match` and `*.rs` write `"a.rs\n"`, and the status is 0.
+pub fn run_words<T, X, F, R, W, E>(
     alloc: T::Alloc,
-    disks: Disks<'_, T, T::Alloc>,
+    disks: Disks<'_, T, X, T::Alloc>,
     files: &F,
     words: &[&str],
     input: &mut Watch<R>,
     output: &mut W,
     errors: &mut E,
 ) -> u8
+where
+    T: Tree,
+    X: RuleTexts<Alloc = T::Alloc>,
+    F: IgnoreFiles,
+    R: Read,
+    W: Write,
+    E: Write,
     requires { input.old.failed ≡ false }
     ensures most { result ≤ 2 }
     ensures request { Fulfils W.contents (record {
-      content = λ follows. T.tells (if follows then disks.entry.followed else disks.entry.kept);
+      content = λ follows d. known_at d disks.entry.directory.now
+          (T.tells (if follows then disks.entry.followed else disks.entry.kept));
+      texts = λ d. known_at d disks.entry.directory.now (X.texts disks.entry.texts);
       holds = F.holds files.now;
       input = input_of R.remaining input.old input.new;
     })
@@ -85,20 +95,29 @@ pub fn run_words<T: Tree, F: IgnoreFiles, R: Read, W: Write, E: Write>(
     }
 }
 
-/// Does what is asked, and returns the exit status.
-fn run_asked<T: Tree, F: IgnoreFiles, R: Read, W: Write, E: Write>(
+/// Runs a parsed command line, and returns the exit status.
+fn run_asked<T, X, F, R, W, E>(
     alloc: T::Alloc,
-    disks: Disks<'_, T, T::Alloc>,
+    disks: Disks<'_, T, X, T::Alloc>,
     files: &F,
     command: &Command<'_, T::Alloc>,
     input: &mut Watch<R>,
     output: &mut W,
     errors: &mut ErrorLines<'_, T::Alloc, E>,
 ) -> u8
+where
+    T: Tree,
+    X: RuleTexts<Alloc = T::Alloc>,
+    F: IgnoreFiles,
+    R: Read,
+    W: Write,
+    E: Write,
     requires { input.old.failed ≡ false }
     ensures most { result ≤ 2 }
     ensures request { Fulfils W.contents (record {
-      content = λ follows. T.tells (if follows then disks.entry.followed else disks.entry.kept);
+      content = λ follows d. known_at d disks.entry.directory.now
+          (T.tells (if follows then disks.entry.followed else disks.entry.kept));
+      texts = λ d. known_at d disks.entry.directory.now (X.texts disks.entry.texts);
       holds = F.holds files.now;
       input = input_of R.remaining input.old input.new;
     })
@@ -115,9 +134,9 @@ fn run_asked<T: Tree, F: IgnoreFiles, R: Read, W: Write, E: Write>(
 
 /// Runs a command, and returns the exit status.
 #[tactic(auto, unfolding(crate::specs::Outcomes::Fulfils))]
-fn run_command<T: Tree, F: IgnoreFiles, R: Read, W: Write, E: Write>(
+fn run_command<T, X, F, R, W, E>(
     alloc: T::Alloc,
-    disks: Disks<'_, T, T::Alloc>,
+    disks: Disks<'_, T, X, T::Alloc>,
     files: &F,
     name: Name,
     asked: &Asked<'_, T::Alloc>,
@@ -125,10 +144,19 @@ fn run_command<T: Tree, F: IgnoreFiles, R: Read, W: Write, E: Write>(
     output: &mut W,
     errors: &mut ErrorLines<'_, T::Alloc, E>,
 ) -> u8
+where
+    T: Tree,
+    X: RuleTexts<Alloc = T::Alloc>,
+    F: IgnoreFiles,
+    R: Read,
+    W: Write,
+    E: Write,
     requires { input.old.failed ≡ false }
     ensures most { result ≤ 2 }
     ensures request { Fulfils W.contents (record {
-      content = λ follows. T.tells (if follows then disks.entry.followed else disks.entry.kept);
+      content = λ follows d. known_at d disks.entry.directory.now
+          (T.tells (if follows then disks.entry.followed else disks.entry.kept));
+      texts = λ d. known_at d disks.entry.directory.now (X.texts disks.entry.texts);
       holds = F.holds files.now;
       input = input_of R.remaining input.old input.new;
     })
@@ -138,15 +166,20 @@ fn run_command<T: Tree, F: IgnoreFiles, R: Read, W: Write, E: Write>(
     let settings = asked.options.settings;
     let operands = asked.operands;
     match name {
-        Name::Find => {
-            let rules = disks.rules;
-            let tree = disks.chosen(settings.follows);
-            find_asked(alloc, tree, rules, files, asked, output, errors)
-        }
+        Name::Find => find_asked(alloc, disks, files, asked, output, errors),
         Name::Match => match_words(alloc, settings, operands, input, output, errors),
         Name::Ignore => run_ignore(alloc, files, settings.end, operands, input, output, errors),
         Name::Explain => run_explain(alloc, settings.options, operands, output, errors),
         Name::Escape => run_escape(alloc, operands, output, errors),
+    }
+}
+
+/// The directory that the words ask to begin in: the current one if it is empty, as it is where they ask for none, or
+/// without memory to read them.
+fn directory_asked<'a, A: Allocator + Copy>(alloc: A, words: &'a [&'a str]) -> &'a str {
+    match Command::parse(alloc, words) {
+        Ok(Command::Run(_, asked)) => asked.options.directory,
+        Ok(Command::Help(_) | Command::Version) | Err(_) => "",
     }
 }
 
@@ -165,16 +198,22 @@ fn main(rt: HostRuntime) -> ExitCode {
     };
     let has_stray = Cell::new(false);
     let rules = SharedRules::new();
+    let start = Start {
+        rt,
+        directory: directory_asked(alloc, words.as_slice()),
+    };
     let (mut kept_errors, mut followed_errors) = (rt.stderr(), rt.stderr());
     let disks = Disks {
-        kept: disk_of(rt, Links::Kept, &mut kept_errors, &has_stray, &rules),
+        kept: disk_of(start, Links::Kept, &mut kept_errors, &has_stray, &rules),
         followed: disk_of(
-            rt,
+            start,
             Links::Followed,
             &mut followed_errors,
             &has_stray,
             &rules,
         ),
+        texts: StartTexts { start },
+        directory: start.directory,
         rules: &rules,
     };
     let status = run_words(

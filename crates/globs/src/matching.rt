@@ -1,4 +1,4 @@
-//! `globs match`: the records of the input that one of the patterns matches, or those that none matches.
+//! `globs match`: copies the records of the input that any pattern matches or, with `-v`, that none matches.
 ghost use Rattle.std.specs.Prelude.{◌≡◌, ◌≤◌, ◌↔◌, false, map, IfOk, IsTrue};
 ghost use Rattle.std.specs.Str.{chars};
 ghost use Rattle.globs.specs.Copying.{input_of};
@@ -16,8 +16,8 @@ use std::alloc::{AllocError, Allocator};
 use std::io::{Read, Write};
 use std::str;
 
-/// As [`run_match`], by the alternatives of the words: `*.{c,h}` as `*.c` and `*.h`. A word that is refused is a fault,
-/// before anything is read or written.
+/// Expands the braces of the words, `*.{c,h}` to `*.c` and `*.h`, and then does what [`run_match`] does. A refused word
+/// is a fault, before anything is read or written.
 #[tactic(auto, unfolding(crate::specs::Matching::CopiesMatches))]
 pub fn match_words<A: Allocator + Copy, R: Read, W: Write, E: Write>(
     alloc: A,
@@ -42,10 +42,10 @@ pub fn match_words<A: Allocator + Copy, R: Read, W: Write, E: Write>(
     run_match(alloc, settings, patterns.as_slice(), input, output, errors)
 }
 
-/// Copies the records of the input that one of the patterns matches, or, where the settings invert that, those that
-/// none matches, and returns the status. A pattern that is refused is a fault, before anything is read or written.
+/// Copies the records of the input that any pattern matches or, if the settings invert that, that none matches, and
+/// returns the status. A refused pattern is a fault, before anything is read or written.
 ///
-/// Over the input `"a.rs\nb.c\n"` the pattern `*.rs` writes `"a.rs\n"`, and inverted `"b.c\n"`.
+/// With the input `"a.rs\nb.c\n"`, the pattern `*.rs` writes `"a.rs\n"`, and `"b.c\n"` if inverted.
 #[tactic(auto, unfolding(crate::specs::Matching::CopiesChosen))]
 fn run_match<A: Allocator + Copy, R: Read, W: Write, E: Write>(
     alloc: A,
@@ -75,7 +75,7 @@ fn run_match<A: Allocator + Copy, R: Read, W: Write, E: Write>(
     }
 }
 
-/// The records that one of the patterns matches, or those that none matches.
+/// Selects the records that any pattern matches or, if it `inverts`, that none matches.
 #[derive(Drop)]
 struct Chosen<A: Allocator> {
     patterns: PatternSet<A>,
@@ -91,7 +91,7 @@ impl<A: Allocator + Copy> Selection for Chosen<A> {
     }
 }
 
-/// Whether a record is text that one of the patterns matches.
+/// Whether a record is UTF-8 and any pattern matches it.
 fn is_record_match<A: Allocator + Copy>(
     patterns: &PatternSet<A>,
     bytes: &[u8],

@@ -1,4 +1,4 @@
-//! The options of the commands: which there are, which command has each, and what they set.
+//! The options of the commands: which command accepts each, and what it sets.
 ghost use Rattle.std.specs.Prelude.{◌≡◌, Ok, IfErr, OnOk};
 ghost use Rattle.globs.specs.Options.{kind_of, new_options, new_settings, value_taken, valued_of, with_flag};
 ghost use Rattle.globs.specs.Requests.{IsValueFault};
@@ -7,10 +7,11 @@ use crate::name::Name;
 use crate::usage::{UsageFault, Why};
 use glob_console::{parse_limit, set_match_option};
 use glob_pattern::MatchOptions;
+use glob_tree::is_proper;
 use std::alloc::Allocator;
 use std::marker::Model;
 
-/// An option that takes the word after it.
+/// An option with a value, the word after it.
 #[derive(Clone, Copy)]
 pub enum Valued {
     Limit,
@@ -18,42 +19,52 @@ pub enum Valued {
     Kind,
     Rule,
     File,
+    /// The name of files with rules, each for the paths below its directory.
+    RuleFile,
+    /// The directory where a search begins.
+    Directory,
 }
 
 /// Which paths are written.
 #[derive(Clone, Copy, PartialEq, Eq)]
 pub enum Kind {
     Any,
-    /// What is no directory.
+    /// Anything but a directory.
     File,
     Directory,
 }
 
-/// What the options set, but for files and rules.
+/// What the options set, except for ignore files and rules.
 #[derive(Clone, Copy)]
 pub struct Settings {
     pub options: MatchOptions,
     /// The byte that ends each record.
     pub end: u8,
-    /// Whether what no pattern matches is copied.
+    /// Whether to copy the records that no pattern matches, rather than those that one does.
     pub inverts: bool,
     /// How many units the walk may spend.
     pub limit: u64,
-    /// How many names a path has at most.
+    /// The most names that a path may have.
     pub depth: Option<u64>,
     pub kind: Kind,
-    /// Whether a symbolic link to a directory is one.
+    /// Whether symbolic links to directories are followed.
     pub follows: bool,
+    /// Whether what git ignores is passed over.
+    pub is_git: bool,
 }
 
-/// What all options set.
+/// Everything that the options set.
 #[derive(Drop)]
 pub struct Options<'a, A: Allocator> {
     pub settings: Settings,
     /// The ignore files.
     pub files: Vec<&'a str, A>,
-    /// The rules after theirs.
+    /// Single rules, which come after those of the files.
     pub rules: Vec<&'a str, A>,
+    /// The names of files with rules, each for the paths below its directory.
+    pub rule_files: Vec<&'a str, A>,
+    /// The directory where a search begins: the current one, if it is empty.
+    pub directory: &'a str,
 }
 
 impl<'a, A: Allocator> Model for Options<'a, A> {
@@ -66,11 +77,13 @@ impl<'a, A: Allocator> Model for Options<'a, A> {
       settings = o.settings;
       files = map (λ w. w.now) o.files.items;
       rules = map (λ w. w.now) o.rules.items;
+      rule_files = map (λ w. w.now) o.rule_files.items;
+      directory = o.directory.now;
     } };
 }
 
 impl Valued {
-    /// The option with a value that the word names, if the command has it.
+    /// The option that the word names, if it has a value and the command accepts it.
     pub fn asked(name: Name, word: &str) -> Option<Self>
         ensures { result ≡ valued_of name word.now }
     {
@@ -80,13 +93,15 @@ impl Valued {
             ("-x", Name::Find) => Some(Valued::Rule),
             ("--max-depth", Name::Find) => Some(Valued::Depth),
             ("--ignore", Name::Find) => Some(Valued::File),
+            ("--ignore-files", Name::Find) => Some(Valued::RuleFile),
+            ("-C" | "--directory", Name::Find) => Some(Valued::Directory),
             _ => None,
         }
     }
 }
 
 impl Settings {
-    /// Those that a command has where no option is given.
+    /// The defaults of a command.
     pub fn new(name: Name) -> Self
         ensures { result ≡ new_settings name }
     {
@@ -101,11 +116,11 @@ impl Settings {
             depth: None,
             kind: Kind::Any,
             follows: false,
+            is_git: false,
         }
     }
 
-    /// These with what the word sets, if it is an option without a value of the command. Options of matching are those
-    /// of `MatchOptions`.
+    /// These settings with a flag set. `None` unless the word is a flag, an option without a value, of the command.
     pub fn with_flag(self, name: Name, word: &str) -> Option<Self>
         ensures { result ≡ with_flag name word.now self }
     {
@@ -114,6 +129,7 @@ impl Settings {
             ("-0", Name::Find | Name::Match | Name::Ignore) => settings.end = 0,
             ("-v", Name::Match) => settings.inverts = true,
             ("-L", Name::Find) => settings.follows = true,
+            ("--git", Name::Find) => settings.is_git = true,
             ("-s", Name::Find) => return None,
             (_, Name::Find | Name::Match | Name::Explain)
                 if set_match_option(&mut settings.options, word) => {}
@@ -124,7 +140,7 @@ impl Settings {
 }
 
 impl<'a, A: Allocator + Copy> Options<'a, A> {
-    /// Those that a command has before any word.
+    /// The defaults of a command.
     pub fn new(alloc: A, name: Name) -> Self
         ensures { result ≡ new_options name }
     {
@@ -132,10 +148,13 @@ impl<'a, A: Allocator + Copy> Options<'a, A> {
             settings: Settings::new(name),
             files: Vec::new(alloc),
             rules: Vec::new(alloc),
+            rule_files: Vec::new(alloc),
+            directory: "",
         }
     }
 
-    /// Takes the value of an option. The error says why the word is none, or that memory was missing.
+    /// Sets an option to the value `word`. The error says why that is not a value of the option, or that an allocation
+    /// failed.
     pub fn take(&mut self, option: Valued, word: &'a str) -> Result<(), UsageFault<'a>>
         ensures taken { OnOk result (value_taken option word.now self.old ≡ Ok self.new) }
         ensures wrong { IfErr result (IsValueFault option word.now self.old) }
@@ -153,12 +172,19 @@ impl<'a, A: Allocator + Copy> Options<'a, A> {
             }
             Valued::Rule => self.rules.push(word)?,
             Valued::File => self.files.push(word)?,
+            Valued::RuleFile => {
+                if !is_proper(word) {
+                    return Err(UsageFault::Word(Why::RuleFile, word));
+                }
+                self.rule_files.push(word)?;
+            }
+            Valued::Directory => self.directory = word,
         }
         Ok(())
     }
 }
 
-/// A kind: `f` or `d`.
+/// Parses a kind: `f` or `d`.
 fn parse_kind(word: &str) -> Option<Kind>
     ensures { result ≡ kind_of word.now }
 {

@@ -18,11 +18,11 @@ use std::fmt::{self, Display};
 /// Why a pattern is refused. Columns are in characters of the pattern, counted from 0.
 #[derive(Drop)]
 pub enum PatternFault<'a> {
-    /// The component at this column is no name, so the pattern does not lead below the current directory.
+    /// The component at this column is empty, `.` or `..`, which `find` refuses.
     Astray(&'a str, usize),
-    /// The pattern is not accepted.
+    /// The pattern has this syntax error.
     Syntax(&'a str, PatternError),
-    /// The braces of the pattern are refused.
+    /// The pattern has this error in its braces.
     Braces(&'a str, BraceError),
     /// Out of memory: an allocation failed.
     Memory,
@@ -40,8 +40,9 @@ impl From<AllocError> for PatternFault<'_> {
     }
 }
 
-/// The lines of a pattern that is refused, for the command of this name: what is wrong, the pattern, a caret under the
-/// place, and where help is. They print without the program's name and the last line feed.
+/// The lines for a refused pattern of a command: what is wrong, the pattern, a caret under the place, if there is one,
+/// and where to find help. A failed allocation is one line. They print without the program's name and the last line
+/// feed.
 #[derive(Drop)]
 pub struct FaultLines<'a> {
     pub name: Name,
@@ -79,7 +80,7 @@ impl Display for FaultLines<'_> {
     }
 }
 
-/// The message of a kind of fault here: a bracket that is not closed says so.
+/// The message for a kind of syntax error: the library's, except for an unclosed bracket.
 pub fn message_of(kind: PatternErrorKind) -> &'static str
     ensures { result.now ≡ message_words kind }
 {
@@ -89,7 +90,7 @@ pub fn message_of(kind: PatternErrorKind) -> &'static str
     }
 }
 
-/// Writes what is wrong with the braces of a text, the text, and a caret under the place, if it is one.
+/// Writes what is wrong with the braces of a text, the text, and a caret under the place, if there is one.
 fn write_braces<W: fmt::Write>(
     f: &mut fmt::Formatter<W>,
     text: &str,
@@ -109,7 +110,8 @@ fn write_braces<W: fmt::Write>(
     }
 }
 
-/// The set of the patterns of some words. The error names the first word that is no pattern, and its fault's place.
+/// Makes a set of the patterns. The error has the first text that is not a valid pattern and its syntax error, or
+/// reports a failed allocation.
 pub fn read_set<'a, A: Allocator + Copy>(
     alloc: A,
     patterns: &[&'a str],
@@ -125,7 +127,7 @@ pub fn read_set<'a, A: Allocator + Copy>(
     }
 }
 
-/// The fault of patterns that make no set.
+/// The fault for patterns that make no set.
 fn fault_of<'a>(patterns: &[&'a str], refusal: SetRefusal) -> PatternFault<'a>
     requires { RefusesTexts (map (λ p. p.now) patterns.now) refusal }
     ensures { IsPatternFault (map (λ p. p.now) patterns.now) result }
@@ -136,7 +138,7 @@ fn fault_of<'a>(patterns: &[&'a str], refusal: SetRefusal) -> PatternFault<'a>
     }
 }
 
-/// Whether one of the patterns of a set matches the text. The error is an allocation failure.
+/// Whether any pattern of the set matches the text. The error is an allocation failure.
 pub fn is_any_match<A: Allocator + Copy>(
     patterns: &PatternSet<A>,
     text: &str,

@@ -11,31 +11,33 @@ use std::fmt::{self, Display};
 /// Why a word of the command line is wrong.
 #[derive(Clone, Copy)]
 pub enum Why {
-    /// It is no option of the command.
+    /// It is not an option of the command.
     Unknown,
-    /// It is an option that lacks its value.
+    /// It is an option without its value.
     Valueless,
-    /// It is no limit.
+    /// It is not a limit.
     Limit,
-    /// It is no number of names.
+    /// It is not a number of names.
     Depth,
-    /// It is no kind.
+    /// It is not a kind.
     Kind,
-    /// It begins with `-` and stands after an operand.
+    /// It is not a name of files with rules.
+    RuleFile,
+    /// It begins with `-` and comes after an operand.
     Late,
-    /// There is no operand. The word is empty.
+    /// An operand is missing. The word is empty.
     Bare,
-    /// There is no text to explain. The word is empty.
+    /// The text to explain is missing. The word is empty.
     Textless,
-    /// It stands after the text to explain.
+    /// It comes after the text to explain.
     Extra,
-    /// It is no command.
+    /// It is not a command.
     Command,
-    /// There is no command. The word is empty.
+    /// The command is missing. The word is empty.
     Empty,
 }
 
-/// Why the words of a command are refused.
+/// Why a command line is refused.
 #[derive(Clone, Copy)]
 pub enum UsageFault<'a> {
     /// This word is wrong.
@@ -56,16 +58,16 @@ impl<T: Drop> From<AllocFailed<T>> for UsageFault<'_> {
     }
 }
 
-/// A fault of the words of a command, or of those before one. It prints as a line, without the program's name.
+/// A usage fault. It prints as a line, without the program's name.
 #[derive(Clone, Copy)]
 pub struct UsageLine<'a> {
-    /// The command that the words are of.
+    /// The command, if one was given.
     pub name: Option<Name>,
     pub fault: UsageFault<'a>,
 }
 
 impl<'a> UsageLine<'a> {
-    /// The line of a word that is wrong.
+    /// The line for a wrong word.
     pub fn new(name: Option<Name>, why: Why, word: &'a str) -> Self
         ensures { result ≡ record { name = name; fault = Word why word.entry } }
     {
@@ -91,7 +93,7 @@ impl Display for UsageLine<'_> {
     }
 }
 
-/// The word that is wrong, in backquotes, where there is one.
+/// The wrong word in backquotes, or nothing if no word is wrong.
 #[derive(Clone, Copy)]
 struct Subject<'a> {
     why: Why,
@@ -110,6 +112,7 @@ impl Display for Subject<'_> {
             | Why::Limit
             | Why::Depth
             | Why::Kind
+            | Why::RuleFile
             | Why::Late
             | Why::Extra
             | Why::Command => write!(f, "`{word}`"),
@@ -118,7 +121,7 @@ impl Display for Subject<'_> {
 }
 
 impl Why {
-    /// What is said of the word.
+    /// What the line says after the word.
     fn words(self, name: Option<Name>) -> &'static str
         ensures { result.now ≡ why_words name self }
     {
@@ -128,6 +131,7 @@ impl Why {
             Why::Limit => " is no limit: -n takes a number below 2 to the power of 64",
             Why::Depth => " is no depth: --max-depth takes a number below 2 to the power of 64",
             Why::Kind => " is no kind: -t takes f or d",
+            Why::RuleFile => " is no name: --ignore-files takes one, such as .gitignore",
             Why::Late => " stands after an operand: options come first",
             Why::Bare => match name {
                 Some(Name::Ignore) => "there is no FILE",
@@ -142,7 +146,7 @@ impl Why {
     }
 }
 
-/// Where help is: `try globs help`, and the word of the command, if there is one.
+/// Where to find help: `try globs help`, and the command's name, if there is one.
 #[derive(Clone, Copy)]
 pub struct Help {
     pub name: Option<Name>,

@@ -1,18 +1,18 @@
-//! Texts as lines on which each character is seen.
+//! Prints texts with their control characters escaped.
 ghost use Rattle.std.specs.Prelude.{◌≡◌, Some, replicate};
 ghost use Rattle.std.specs.Fmt.{WritesOnOk};
 ghost use Rattle.globs.specs.Visible.{caret_lines, indent, visible, visible_character, width};
 
 use std::fmt::{self, Display};
 
-/// A text, whose control characters print as in a literal of Rust: `\r`, `\t`, `\u{1b}`.
+/// A text that prints its control characters as in a Rust literal: `\r`, `\t`, `\u{1b}`.
 #[derive(Clone, Copy)]
 pub struct Visible<'a> {
     pub text: &'a str,
 }
 
-/// A text that prints with a caret below it, under the character of this number, counted from 0, and without a line
-/// feed at the end. A character is a column, and a control character as many as it prints.
+/// A text that prints on one line, with a caret on the next under the character at index `column`, counted from 0. No
+/// line feed follows. A character takes one column, and a control character as many as its escape.
 #[derive(Clone, Copy)]
 pub struct Caret<'a> {
     pub text: &'a str,
@@ -27,7 +27,7 @@ impl Display for Visible<'_> {
     }
 }
 
-/// Writes a text, in which control characters are seen.
+/// Writes a text with its control characters escaped.
 fn write_visible<W: fmt::Write>(f: &mut fmt::Formatter<W>, text: &str) -> fmt::Result
     ensures { WritesOnOk W.write_str_gives f.old result (visible text.now) f.new }
 {
@@ -37,7 +37,7 @@ fn write_visible<W: fmt::Write>(f: &mut fmt::Formatter<W>, text: &str) -> fmt::R
     Ok(())
 }
 
-/// Writes a character, or what is seen in place of a control character.
+/// Writes a character, or its escape if it is a control character.
 fn write_character<W: fmt::Write>(f: &mut fmt::Formatter<W>, c: char) -> fmt::Result
     ensures { WritesOnOk W.write_str_gives f.old result (visible_character c) f.new }
 {
@@ -65,7 +65,7 @@ impl Display for Caret<'_> {
     }
 }
 
-/// Writes as many blanks as the first characters of the text take columns.
+/// Writes blanks as wide as the first `characters` characters of the text.
 fn write_indent<W: fmt::Write>(
     f: &mut fmt::Formatter<W>,
     text: &str,
@@ -79,7 +79,7 @@ fn write_indent<W: fmt::Write>(
     Ok(())
 }
 
-/// Writes so many blanks.
+/// Writes `count` blanks.
 fn write_blanks<W: fmt::Write>(f: &mut fmt::Formatter<W>, count: u8) -> fmt::Result
     ensures { WritesOnOk W.write_str_gives f.old result (replicate count 32) f.new }
 {
@@ -104,7 +104,7 @@ fn width(c: char) -> u8
     }
 }
 
-/// Whether the text has no control character, so that it is seen as it is.
+/// Whether the text has no control character, so that it prints unchanged.
 pub fn is_seen(text: &str) -> bool {
     !text.chars().any(|c| c.is_control())
 }

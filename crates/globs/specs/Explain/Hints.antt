@@ -1,4 +1,4 @@
--- Which single change of the options, the pattern or the text gives a match, and the lines that say so.
+-- Which single changes of the options, the pattern or the text give a match, and the lines that say so.
 use Rattle.std.specs.Prelude.{◌≡◌, ◌++◌, ◌⊎◌, ℕ, List, [], ◌∷◌, false, chars, codes}
 use Rattle.std.specs.Str.{trim_end}
 use Rattle.std.specs.StrCase.Lower.{str_to_lowercase}
@@ -8,11 +8,11 @@ use Rattle.globs.specs.declared.explain.hints.TheConstants.{CHANGES}
 use Rattle.globs.specs.declared.explain.hints.Change.{Change}
 use Rattle.globs.specs.declared.explain.hints.Change.TheVariants.{EitherCase, AnySeparator, AnyDot, PatternHere, TextHere, NotBelow, PatternEnd, TextEnd, LowerCase}
 
--- the first text is a pattern, which matches the second one
+-- the pattern is valid, and matches the text
 abbrev pub IsMatch : MatchOptions → (pattern text : List ℕ) → Type 0
 IsMatch o pattern text = Matches o (chars pattern) (chars text)
 
--- the pattern matches the text after the change, which can be made
+-- the change can be made, and after it the pattern matches the text
 abbrev pub GivesMatch : Change → MatchOptions → (pattern text : List ℕ) → Type 0
 GivesMatch EitherCase o pattern text = IsMatch (record o { case_sensitive = false }) pattern text
 GivesMatch AnySeparator o pattern text = IsMatch (record o { require_literal_separator = false }) pattern text
@@ -25,7 +25,7 @@ GivesMatch TextEnd o pattern text = IsMatch o pattern (trim_end text)
 GivesMatch LowerCase o pattern text =
     (o.case_sensitive ≡ false) × IsMatch o (str_to_lowercase pattern) (str_to_lowercase text)
 
--- what a line says of a change
+-- the words of the line about a change
 abbrev pub words_of : Change → List ℕ
 words_of EitherCase = codes "it matches with -i"
 words_of AnySeparator = codes "it matches without -s"
@@ -37,13 +37,13 @@ words_of PatternEnd = codes "it matches without white space at the end of the pa
 words_of TextEnd = codes "it matches without white space at the end of the text"
 words_of LowerCase = codes "it matches in lower case, but -i is of ASCII letters alone"
 
--- the lines gained that of each of the changes which gives a match, and no other
+-- the line of each change that gives a match was added, and no other
 abbrev pub AddsHints : MatchOptions → (pattern text : List ℕ) → List Change → (old new : List ℕ) → Type 0
 AddsHints o pattern text [] old new = new ≡ old
 AddsHints o pattern text (change ∷ more) old new =
     (GivesMatch change o pattern text × AddsHints o pattern text more (old ++ words_of change ++ 10 ∷ []) new)
     ⊎ ((¬ (GivesMatch change o pattern text)) × AddsHints o pattern text more old new)
 
--- the lines of the changes that give a match
+-- the lines are those of the changes that give a match
 unfoldable pub AreHints : MatchOptions → (pattern text lines : List ℕ) → Type 0
 AreHints o pattern text lines = AddsHints o pattern text CHANGES [] lines

@@ -5,7 +5,7 @@ use Rattle.std.specs.List.{flat_map}
 use Rattle.glob_text.specs.Text.{Text}
 use Rattle.globs.specs.Visible.{escape, visible}
 
--- the byte is written as it is: from `!` to `~`, and no backslash
+-- the byte is written as it is: from `!` to `~`, except a backslash
 abbrev pub is_shown : ℕ → Bool
 is_shown byte = nat_le 33 byte && (nat_le byte 126 && not (byte == 92))
 
@@ -15,7 +15,7 @@ byte_words byte =
     if is_shown byte then byte ∷ []
     else escape 120 ++ (digits 16 false (byte / 16) ++ digits 16 false (byte % 16))
 
--- what the line of a name says
+-- the line about a name
 abbrev pub stray_words : (directory : Text) → (name : List ℕ) → Text
 stray_words directory name =
     (codes "a name in `" ++ (visible directory ++ codes "` is not UTF-8: ")) ++ flat_map byte_words name

@@ -16,16 +16,16 @@ use std::alloc::{AllocError, Allocator};
 #[derive(Drop)]
 pub struct Explanation<A: Allocator> {
     pub is_match: bool,
-    /// Of a match a line for each token: how it is written, a tab, and its piece. Otherwise the text, a caret under the
-    /// character where it stops, what each token wants that waits there, what is easily missed, which single change
-    /// gives a match, and what to write instead.
+    /// For a match, a line for each token: the token as written, a tab, and its piece. Otherwise the text, a caret
+    /// under the character where the match stops, what the tokens that wait there want, what is easily missed, which
+    /// single changes give a match, and what to write instead.
     pub lines: String<A>,
 }
 
 /// Explains whether the pattern matches the whole text.
 ///
-/// So of `*.rs` and `a.rs` the lines are `*`, a tab and `a`, then `.`, a tab and `.`, and so on; of `a?` and `ab/` they
-/// are `ab/`, a caret under the `/`, and `the pattern ends here`. The errors are:
+/// For `*.rs` and `a.rs` the lines begin with `"*\ta\n"` and `".\t.\n"`. For `a?` and `ab/` they are `ab/`, a caret
+/// under the `/`, and `the pattern ends here`. The errors are:
 ///
 /// - [`CapturesError::TooLarge`]: the tokens times the bytes are more than [`MOST_STEPS`].
 /// - [`CapturesError::Memory`]: an allocation failed.
@@ -60,7 +60,7 @@ pub fn explain<A: Allocator + Copy>(
     }
 }
 
-/// A line for each token: how it is written, a tab, and its piece.
+/// A line for each token: the token as written, a tab, and its piece.
 fn piece_lines<A: Allocator + Copy>(
     alloc: A,
     pattern: &Pattern<A>,

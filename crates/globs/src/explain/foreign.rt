@@ -1,4 +1,4 @@
-//! What to write instead of a pattern with a form of another tool, as `*.[ch]` for `*.{c,h}`.
+//! What to write instead of a pattern with another tool's syntax: `*.[ch]` for `*.{c,h}`.
 ghost use Rattle.std.specs.Prelude.{◌≡◌, true, All, IfOk, chars, string_bytes};
 ghost use Rattle.glob_pattern.specs.Grammar.Units.{IsAccepted};
 
@@ -9,20 +9,20 @@ use crate::visible::is_seen;
 use bracket::add_bracket;
 use std::alloc::{AllocError, Allocator};
 
-/// At most so many patterns are written instead of one.
+/// The most patterns that are suggested instead of one.
 const MOST_WAYS: usize = 8;
 
-/// Characters for which a bracket is no substitute for braces: some have a meaning here or in a bracket, and under the
-/// rules a bracket takes neither a `/` nor a leading `.`.
+/// Characters for which a bracket cannot stand for braces: some have a meaning here or in a bracket, and under the
+/// rules a bracket matches neither a `/` nor a leading `.`.
 static UNLIKE_IN_BRACKETS: &[char] = &['*', '?', '!', '^', '-', ']', '/', '.'];
 
-/// The characters that have a meaning here, and what stands for each where it is escaped.
+/// The characters that have a meaning here, each with its escaped form.
 static ESCAPED: &[(&str, &str)] = &[("*", "[*]"), ("?", "[?]"), ("[", "[[]"), ("]", "[]]")];
 
-/// What stands for a pattern with forms of other tools: one pattern, or one for each alternative. There is none where
-/// the pattern has no such form, where its meaning is not certain, and where it would take more than [`MOST_WAYS`].
+/// What to write instead of a pattern with other tools' syntax: one pattern, or one for each alternative. The list is
+/// empty if the pattern has no such syntax, if its meaning is not certain, or if it would take more than [`MOST_WAYS`].
 ///
-/// So for `*.{cpp,h}` these are `*.cpp` and `*.h`.
+/// For `*.{cpp,h}` they are `*.cpp` and `*.h`.
 fn foreign_instead<A: Allocator + Copy>(
     alloc: A,
     pattern: &str,
@@ -37,10 +37,10 @@ fn foreign_instead<A: Allocator + Copy>(
     Ok(ways)
 }
 
-/// A line with what to write instead of a pattern with a form of another tool, or none. The error is an allocation
-/// failure.
+/// A line with what to write instead of a pattern with another tool's syntax, or an empty text. The error is an
+/// allocation failure.
 ///
-/// So of `*.{cpp,h}` it is `write one pattern for each: *.cpp, *.h`.
+/// For `*.{cpp,h}` it is `write one pattern for each: *.cpp, *.h`.
 pub fn advice_line<A: Allocator + Copy>(alloc: A, pattern: &str) -> Result<String<A>, AllocError> {
     let mut line = String::new(alloc);
     if is_seen(pattern) {
@@ -50,7 +50,7 @@ pub fn advice_line<A: Allocator + Copy>(alloc: A, pattern: &str) -> Result<Strin
     Ok(line)
 }
 
-/// Adds a line with the pattern to write instead, or with those that do so together.
+/// Adds a line with the patterns to write instead, if there are any.
 fn add_patterns<A: Allocator>(
     lines: &mut String<A>,
     patterns: &[String<A>],
@@ -72,7 +72,7 @@ fn is_alone<A: Allocator>(list: &[String<A>], text: &str) -> bool {
     matches!(list, [only] if only.as_str() == text)
 }
 
-/// Whether each text is a pattern.
+/// Whether each text is a valid pattern.
 fn are_accepted<A: Allocator + Copy>(alloc: A, texts: &[String<A>]) -> Result<bool, AllocError>
     ensures { IfOk result (λ yes. yes ≡ true
         → All (λ text. IsAccepted (chars (string_bytes text))) texts.now) }
@@ -85,7 +85,7 @@ fn are_accepted<A: Allocator + Copy>(alloc: A, texts: &[String<A>]) -> Result<bo
     Ok(true)
 }
 
-/// The patterns that take, all together, what the pattern takes in another tool. None where that is not certain.
+/// Patterns that together match what the pattern matches in another tool. The list is empty if that is not certain.
 fn native_ways<A: Allocator + Copy>(
     alloc: A,
     pattern: &str,
@@ -93,7 +93,7 @@ fn native_ways<A: Allocator + Copy>(
     let mut ways = Vec::new(alloc);
     ways.push(String::new(alloc))?;
     let mut rest = pattern;
-    // Each form has at least one byte, so that these turns suffice. Those that are left add nothing.
+    // Each part has at least one byte, so this many rounds suffice. Any rounds left over add nothing.
     for _ in 0..pattern.len() {
         let Some(after) = add_form(alloc, &mut ways, rest)? else {
             return Ok(Vec::new(alloc));
@@ -103,8 +103,8 @@ fn native_ways<A: Allocator + Copy>(
     Ok(ways)
 }
 
-/// Adds what stands for the first form of a text to each way, and returns what follows that form. `None` where its
-/// meaning is not certain.
+/// Translates the first part of a text, adds it to each way, and returns what follows that part. `None` if its meaning
+/// is not certain.
 fn add_form<'a, A: Allocator + Copy>(
     alloc: A,
     ways: &mut Vec<String<A>, A>,
@@ -118,7 +118,7 @@ fn add_form<'a, A: Allocator + Copy>(
     }
 }
 
-/// Adds what stands for the first form of a text to each way, if that is no choice of longer texts, as `add_form`.
+/// Like `add_form`, for a first part that is not a choice of longer texts.
 fn add_to_each<'a, A: Allocator>(
     ways: &mut [String<A>],
     text: &'a str,
@@ -130,7 +130,7 @@ fn add_to_each<'a, A: Allocator>(
     Ok(after)
 }
 
-/// Adds what stands for the first form of a text. A choice is one of single characters here: `add_form` took the
+/// Adds the translation of the first part of a text. A choice is one of single characters here: `add_form` handled the
 /// others.
 fn add_native<'a, A: Allocator>(
     made: &mut String<A>,
@@ -151,7 +151,7 @@ fn add_native<'a, A: Allocator>(
     }
 }
 
-/// Adds the first character, if there is one, and returns what follows it.
+/// Adds the first character, if there is one, and returns the rest.
 fn add_first<'a, A: Allocator>(
     made: &mut String<A>,
     text: &'a str,
@@ -163,7 +163,7 @@ fn add_first<'a, A: Allocator>(
     Ok(Some(characters.as_str()))
 }
 
-/// What stands for the first text of a table that a text begins with, and what follows it there.
+/// Finds the first entry of a table that the text begins with: its translation, and the rest of the text.
 fn listed<'a>(table: &[(&str, &'static str)], text: &'a str) -> Option<(&'static str, &'a str)> {
     for (form, native) in table {
         if let Some(after) = text.strip_prefix(*form) {
@@ -173,8 +173,8 @@ fn listed<'a>(table: &[(&str, &'static str)], text: &'a str) -> Option<(&'static
     None
 }
 
-/// Adds the character that another tool escapes by a backslash: in a bracket if it has a meaning here. `None` before a
-/// letter or digit, where a backslash has several meanings, and at the end.
+/// Adds the character that another tool escapes with a backslash: in a bracket if it has a meaning here. `None` before
+/// an ASCII letter or digit, where a backslash has several meanings, and at the end of the text.
 fn add_escaped<'a, A: Allocator>(
     made: &mut String<A>,
     text: &'a str,
@@ -189,8 +189,8 @@ fn add_escaped<'a, A: Allocator>(
     }
 }
 
-/// What is between the braces that a text begins with, and what follows them. `None` where there is no comma, without
-/// which braces stand for themselves.
+/// What is between the braces at the start of a text, and what follows them. `None` if there are none, or no comma
+/// between them: such braces are literal.
 fn split_choice(text: &str) -> Option<(&str, &str)> {
     let (inner, after) = text.strip_prefix('{')?.split_once('}')?;
     if inner.contains(',') {
@@ -200,7 +200,7 @@ fn split_choice(text: &str) -> Option<(&str, &str)> {
     }
 }
 
-/// Whether each part between commas is one character, which a bracket takes, too.
+/// Whether each part between commas is one character that a bracket can list.
 fn are_characters(inner: &str) -> bool {
     !inner.contains(UNLIKE_IN_BRACKETS) && inner.split(',').all(|part| part.chars().count() == 1)
 }
@@ -214,8 +214,8 @@ fn add_characters<A: Allocator>(made: &mut String<A>, inner: &str) -> Result<(),
     made.push(']')
 }
 
-/// In place of each way one for each alternative, which ends in it. `None` where these are too many, where an
-/// alternative has a form of another tool itself, and where `*` would come together.
+/// Replaces each way by one for each alternative, with the alternative at its end. `None` if there are too many, if an
+/// alternative itself has another tool's syntax, or if two `*` would become adjacent.
 fn add_alternatives<'a, A: Allocator + Copy>(
     alloc: A,
     ways: &mut Vec<String<A>, A>,
@@ -239,7 +239,7 @@ fn add_alternatives<'a, A: Allocator + Copy>(
     Ok(if are_few { Some(after) } else { None })
 }
 
-/// Whether two `*` meet where the three texts are joined.
+/// Whether joining the three texts makes two `*` adjacent.
 fn joins_stars(before: &str, between: &str, after: &str) -> bool {
     let follows = if between.is_empty() { after } else { between };
     (before.ends_with('*') && follows.starts_with('*'))

@@ -1,4 +1,4 @@
-//! Which single change gives a match. Each line that says so was asked.
+//! Which single changes give a match. Each one reported was tried.
 ghost use Rattle.std.specs.Prelude.{◌≡◌, ◌↔◌, ◌++◌, ◌≢◌, ◌∷◌, IfOk, IsTrue, List, ℕ, MatchOption, codes, string_bytes};
 ghost use Rattle.globs.specs.Explain.Hints.{AreHints, GivesMatch, words_of};
 ghost use Rattle.globs.specs.declared.explain.hints.Change.TheVariants.{LowerCase};
@@ -12,21 +12,21 @@ use std::alloc::{AllocError, Allocator};
 pub enum Change {
     /// ASCII letters in either case are the same.
     EitherCase,
-    /// Wildcards and brackets take a `/`.
+    /// Wildcards and brackets match a `/`.
     AnySeparator,
-    /// They take a leading `.`.
+    /// They match a leading `.`.
     AnyDot,
-    /// The pattern lacks the `./` that it begins with.
+    /// The pattern without the `./` at its start.
     PatternHere,
-    /// The text lacks the `./` that it begins with.
+    /// The text without the `./` at its start.
     TextHere,
-    /// The pattern lacks the `/**` that it ends in.
+    /// The pattern without the `/**` at its end.
     NotBelow,
-    /// The pattern lacks the white space that it ends in.
+    /// The pattern without the white space at its end.
     PatternEnd,
-    /// The text lacks the white space that it ends in.
+    /// The text without the white space at its end.
     TextEnd,
-    /// Under `-i` both are in lower case, beyond ASCII, too.
+    /// Under `-i`, the pattern and the text in lower case, beyond ASCII too.
     LowerCase,
 }
 
@@ -43,10 +43,10 @@ const CHANGES: [Change; 9] = [
     Change::LowerCase,
 ];
 
-/// A line for each change that gives a match where there is none. So `it matches with -i` is there exactly if `-i`
-/// gives one. The error is an allocation failure.
+/// A line for each change that makes the pattern match the text, and no other. So `it matches with -i` is there exactly
+/// if the pattern matches with `-i`. The error is an allocation failure.
 ///
-/// For `*.RS` and `a.rs` it is that line, and for `./a` and `a` it is `it matches without ./ before the pattern`.
+/// For `*.RS` and `a.rs` it is that line; for `./a` and `a`, `it matches without ./ before the pattern`.
 pub fn hint_lines<A: Allocator + Copy>(
     alloc: A,
     pattern: &str,
@@ -67,7 +67,7 @@ pub fn hint_lines<A: Allocator + Copy>(
 }
 
 impl Change {
-    /// What the line says, without its end.
+    /// The line for this change, without its line feed.
     fn words(self) -> &'static str
         ensures { result.now ≡ words_of self }
     {
@@ -154,7 +154,7 @@ fn is_lower_match<A: Allocator + Copy>(
     is_match(alloc, lower_pattern.as_str(), lower_text.as_str(), options)
 }
 
-/// What follows the `./` that a text begins with.
+/// What follows the `./` at the start of a text. `None` if there is no `./` there.
 pub fn without_here(text: &str) -> Option<&str>
     ensures { MatchOption result
         ((rest : List ℕ) → text.now ≢ 46 ∷ 47 ∷ rest) (λ rest. text.now ≡ 46 ∷ 47 ∷ rest.now) }
@@ -162,7 +162,7 @@ pub fn without_here(text: &str) -> Option<&str>
     text.strip_prefix('.')?.strip_prefix('/')
 }
 
-/// What is before the `/**` that a text ends in.
+/// What precedes the `/**` at the end of a text. `None` if there is no `/**` there.
 fn without_below(text: &str) -> Option<&str>
     ensures { MatchOption result ((above : List ℕ) → text.now ≢ above ++ codes "/**")
         (λ above. text.now ≡ above.now ++ codes "/**") }

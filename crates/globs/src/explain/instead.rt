@@ -1,4 +1,4 @@
-//! What to write instead of a pattern that is refused.
+//! What to write instead of a refused pattern.
 ghost use Rattle.std.specs.Prelude.{◌≡◌, ◌↔◌, true, IfOk, IfSome, IsTrue, chars, string_bytes};
 ghost use Rattle.globs.specs.Explain.Hints.{IsMatch};
 ghost use Rattle.glob_pattern.specs.Grammar.Units.{IsAccepted};
@@ -6,9 +6,9 @@ ghost use Rattle.glob_pattern.specs.Grammar.Units.{IsAccepted};
 use glob_pattern::{MatchOptions, Pattern, PatternRefusal};
 use std::alloc::{AllocError, Allocator};
 
-/// What stands for a pattern that is refused, under these options. `None` where nothing simple does.
+/// What to write instead of a refused pattern under these options. `None` if nothing simple will do.
 ///
-/// So for `**.rs` it is `**/*.rs`, and for `a[b` it is `a[[]b`. For `a**b` it is `a*b`, or, where a `*` takes no `/`,
+/// For `**.rs` it is `**/*.rs`, and for `a[b` it is `a[[]b`. For `a**b` it is `a*b` or, if a `*` does not match `/`,
 /// `a*/**/*b`.
 pub fn accepted_instead<A: Allocator + Copy>(
     alloc: A,
@@ -25,7 +25,7 @@ pub fn accepted_instead<A: Allocator + Copy>(
     Ok(None)
 }
 
-/// Whether the first text is a pattern that matches the other one.
+/// Whether `pattern` is a valid pattern that matches `text`.
 pub fn is_match<A: Allocator + Copy>(
     alloc: A,
     pattern: &str,
@@ -41,7 +41,7 @@ pub fn is_match<A: Allocator + Copy>(
     }
 }
 
-/// Whether the text is a pattern.
+/// Whether the text is a valid pattern.
 pub fn is_accepted<A: Allocator + Copy>(alloc: A, text: &str) -> Result<bool, AllocError>
     ensures { IfOk result (λ yes. yes ≡ true → IsAccepted (chars text.now)) }
 {
@@ -52,8 +52,8 @@ pub fn is_accepted<A: Allocator + Copy>(alloc: A, text: &str) -> Result<bool, Al
     }
 }
 
-/// The pattern, where two or more `*` are a component of their own, and a `[` that no `]` closes is in a bracket. What
-/// brackets list stays.
+/// The pattern with each run of two or more `*` made a component of its own, and each unclosed `[` put in a bracket.
+/// What brackets list is unchanged.
 fn with_plain_forms<A: Allocator>(
     alloc: A,
     pattern: &str,
@@ -61,15 +61,15 @@ fn with_plain_forms<A: Allocator>(
 ) -> Result<String<A>, AllocError> {
     let mut made = String::new(alloc);
     let mut rest = pattern;
-    // Each part has at least one byte, so that these turns suffice. Those that are left add nothing.
+    // Each part has at least one byte, so this many rounds suffice. Any rounds left over add nothing.
     for _ in 0..pattern.len() {
         rest = add_part(&mut made, rest, options)?;
     }
     Ok(made)
 }
 
-/// Adds what stands for the first part of a text, which is two or more `*`, a bracket or a character, and returns what
-/// follows it.
+/// Translates the first part of a text, which is two or more `*`, a bracket or a character, and returns what follows
+/// it.
 fn add_part<'a, A: Allocator>(
     made: &mut String<A>,
     text: &'a str,
@@ -94,7 +94,7 @@ fn add_part<'a, A: Allocator>(
     Ok(characters.as_str())
 }
 
-/// What follows the bracket that a text begins with. `None` where it begins with none that is closed.
+/// What follows the bracket at the start of a text. `None` if there is no closed bracket there.
 fn after_bracket(text: &str) -> Option<&str> {
     let listed = text.strip_prefix('[')?;
     let mut characters = listed.strip_prefix('!').unwrap_or(listed).chars();
@@ -103,8 +103,8 @@ fn after_bracket(text: &str) -> Option<&str> {
     Some(rest)
 }
 
-/// Adds two or more `*`, which `rest` follows, as a component of their own: `a**/b` becomes `a*/**/b`. Behind other
-/// text of the last component, or between two texts of one, they are one `*` where that takes a `/`.
+/// Adds two or more `*`, followed by `rest`, as a component of their own: `a**/b` becomes `a*/**/b`. If `*` matches
+/// `/`, and they are neither at the start of a component nor before a `/`, one `*` is added instead.
 fn add_stars<A: Allocator>(
     made: &mut String<A>,
     rest: &str,

@@ -1,14 +1,14 @@
-//! What is easily missed in a pattern and a text that it does not match: forms that have a meaning elsewhere and none
-//! here, and white space at an end.
+//! What is easily missed in a pattern and a text that it does not match: syntax of other tools that means nothing here,
+//! and white space at the end.
 use crate::explain::rows::add_row;
 use glob_captures::{Written, tokens};
 use glob_pattern::Pattern;
 use std::alloc::{AllocError, Allocator};
 
-/// What a parenthesis is here.
+/// What a parenthesis means here.
 const GROUPLESS: &str = "opens a group in bash. ( is a character here";
 
-/// Forms of shells and other tools, and what each is here.
+/// Syntax of shells and other tools, and what each means here.
 static FORMS: &[(&str, &str)] = &[
     ("{", "is a character here. find and match expand braces"),
     (
@@ -28,7 +28,7 @@ static FORMS: &[(&str, &str)] = &[
     ("!(", GROUPLESS),
 ];
 
-/// Forms that have a meaning elsewhere at the start of a pattern, and what each is here.
+/// The same for syntax that has a meaning elsewhere only at the start of a pattern.
 static STARTS: &[(&str, &str)] = &[
     (
         "~/",
@@ -40,7 +40,7 @@ static STARTS: &[(&str, &str)] = &[
     ),
 ];
 
-/// White space, and its names.
+/// White space characters and their names.
 static BLANKS: &[(char, &str)] = &[
     (' ', "a blank"),
     ('\t', "a tab"),
@@ -48,10 +48,10 @@ static BLANKS: &[(char, &str)] = &[
     ('\n', "a line feed"),
 ];
 
-/// Adds a line for each form of another tool in the pattern, whose tokens are in `written`. What a bracket lists is
-/// none: a form begins where a token does.
+/// Adds a line for each piece of another tool's syntax in the pattern, whose tokens are in `written`. It is looked for
+/// only where a token begins, so not among the characters that a bracket lists.
 ///
-/// So for `!a|b` these are a line for `!` and one for `|`.
+/// For `!a|b` there is a line for `!` and one for `|`.
 pub fn add_forms<A: Allocator>(
     lines: &mut String<A>,
     pattern: &str,
@@ -70,9 +70,9 @@ pub fn add_forms<A: Allocator>(
     Ok(())
 }
 
-/// The first such form of a pattern whose braces are expanded, and what it is here.
+/// The first piece of such syntax in a pattern whose braces are expanded, and what it means here.
 ///
-/// So for `!a|b` it is `!`, and that it negates nothing.
+/// For `!a|b` it is `!`, and that it negates nothing.
 pub fn first_form<A: Allocator + Copy>(
     alloc: A,
     pattern: &str,
@@ -94,19 +94,19 @@ pub fn first_form<A: Allocator + Copy>(
     Ok(None)
 }
 
-/// Whether the form is at a token of the pattern.
+/// Whether the form begins at a token of the pattern.
 fn is_among(pattern: &str, written: &[Written], form: &str) -> bool {
     written.iter().any(|token| begins_at(*token, pattern, form))
 }
 
-/// Whether the pattern goes on with the form where the token is written.
+/// Whether the pattern has the form where the token begins.
 fn begins_at(token: Written, pattern: &str, form: &str) -> bool {
     pattern
         .get(token.piece.start..)
         .is_some_and(|rest| rest.starts_with(form))
 }
 
-/// Adds a line if the text, which `name` names, ends in white space.
+/// Adds a line if the text ends in white space. `name` is what the line calls the text.
 pub fn add_blank_end<A: Allocator>(
     lines: &mut String<A>,
     name: &str,

@@ -6,11 +6,10 @@ use glob_pattern::{MatchOptions, PatternError};
 use std::alloc::{AllocError, Allocator};
 
 /// Explains why `Pattern::new` refused `written` with this error, in five lines: the fault, the pattern, a caret under
-/// the character of the fault, what to write instead under the options, and where help is. The last has no line feed.
-/// The error is an allocation failure.
+/// the character at fault, what to write instead under the options, and where to find help. The last line has no line
+/// feed. The error is an allocation failure.
 ///
-/// So of `a[b` they are `unclosed [`, `a[b`, a caret below the `[`, `write instead: a[[]b` and
-/// `try globs help explain`.
+/// For `a[b` they are `unclosed [`, `a[b`, a caret below the `[`, `write instead: a[[]b` and `try globs help explain`.
 pub fn explain_refusal<A: Allocator + Copy>(
     alloc: A,
     written: &str,
@@ -28,7 +27,7 @@ pub fn explain_refusal<A: Allocator + Copy>(
     Ok(lines)
 }
 
-/// Adds what to write instead of a text that is refused.
+/// Adds what to write instead of a refused text.
 fn add_instead<A: Allocator + Copy>(
     alloc: A,
     lines: &mut String<A>,

@@ -3,12 +3,12 @@ use crate::visible::Visible;
 use glob_captures::Piece;
 use std::alloc::{AllocError, Allocator};
 
-/// A part of a text.
+/// The piece of a text, or an empty text if it is out of range.
 pub fn part_of(text: &str, piece: Piece) -> &str {
     text.get(piece.start..piece.end).unwrap_or("")
 }
 
-/// Adds how a token is written, a tab, words and a line feed.
+/// Adds a line: a token as written, a tab and some words.
 pub fn add_row<A: Allocator>(
     lines: &mut String<A>,
     token: &str,

@@ -1,4 +1,4 @@
-//! Where a text that does not match stops, and what is wanted there.
+//! Where the match of a text stops, and what the pattern wants there.
 ghost use Rattle.std.specs.Prelude.{◌≡◌, ◌<◌, ◌*◌, ◌↔◌, length, chars};
 ghost use Rattle.glob_pattern.specs.Computing.Tokens.{tokens_of};
 
@@ -13,14 +13,14 @@ use glob_pattern::{MatchOptions, Pattern};
 use std::alloc::{AllocError, Allocator};
 use wanted::{add_want, grows, run_end};
 
-/// Where a text stops, and why.
+/// Where a match stops, and why.
 #[derive(Clone, Copy)]
 struct Stop<'a> {
-    /// How the pattern is written.
+    /// The text of the pattern.
     pattern: &'a str,
     /// All its tokens.
     tokens: &'a [Written],
-    /// The numbers of those that wait there.
+    /// The indices of the tokens that wait there.
     waiting: &'a [usize],
     /// The text up to there.
     before: &'a str,
@@ -29,8 +29,8 @@ struct Stop<'a> {
     options: MatchOptions,
 }
 
-/// The text with a caret where it stops, and below it what is wanted there and what is easily missed. The errors are
-/// those of [`reach`].
+/// The text with a caret where the match stops, and below it what the pattern wants there and what is easily missed.
+/// The errors are those of [`reach`].
 pub fn stop_lines<A: Allocator + Copy>(
     alloc: A,
     pattern: &Pattern<A>,
@@ -44,7 +44,7 @@ pub fn stop_lines<A: Allocator + Copy>(
     Ok(reached_lines(alloc, pattern, text, options, &reached)?)
 }
 
-/// The lines of a text that is taken up to this place.
+/// The lines for a text that is matched up to `reached.place`.
 fn reached_lines<A: Allocator + Copy>(
     alloc: A,
     pattern: &Pattern<A>,
@@ -73,7 +73,7 @@ fn reached_lines<A: Allocator + Copy>(
     Ok(lines)
 }
 
-/// Adds what is wanted where the text stops.
+/// Adds what the pattern wants where the match stops.
 fn add_reason<A: Allocator + Copy>(
     alloc: A,
     lines: &mut String<A>,
@@ -89,8 +89,8 @@ fn add_reason<A: Allocator + Copy>(
     }
 }
 
-/// The tokens after the last wildcard, where that took the whole text and the text does not end as they say. So of
-/// `*.rs` and `a.c` this is `.rs`.
+/// The tokens after the last `*` or `**`, as written, if the match got through the whole text and waits for the first
+/// of them, and the text does not end in what they match. For `*.rs` and `a.c` they are `.rs`.
 fn missing_ending<'a, A: Allocator + Copy>(
     alloc: A,
     stop: &Stop<'a>,
@@ -105,8 +105,8 @@ fn missing_ending<'a, A: Allocator + Copy>(
     }
 }
 
-/// The first token after the last one that takes any number of characters, and its number. `None` where there is no
-/// such token, or none after it.
+/// The first token after the last `*` or `**`, and its index. `None` if there is no such wildcard, or no token after
+/// it.
 fn first_of_ending(tokens: &[Written]) -> Option<(usize, Written)> {
     let mut first = None;
     let mut was_wildcard = false;
@@ -122,7 +122,7 @@ fn first_of_ending(tokens: &[Written]) -> Option<(usize, Written)> {
     first
 }
 
-/// Whether the text ends in a text that the last tokens of a pattern match, whatever is before it.
+/// Whether the text ends in something that `ending`, the last tokens of a pattern, matches.
 fn ends_in<A: Allocator + Copy>(
     alloc: A,
     text: &str,
@@ -137,8 +137,8 @@ fn ends_in<A: Allocator + Copy>(
     is_match(alloc, written.as_str(), text, options)
 }
 
-/// Adds a line for each token that waits: how it is written, a tab, and what it wants. Neighbouring characters are on
-/// one line. At the end of the text a wildcard that may be empty is left out where another token waits.
+/// Adds a line for each waiting token: the token as written, a tab, and what it wants. Adjacent characters share a
+/// line. At the end of the text, a `*` or `**` is left out if a token of another kind waits.
 fn add_waiting<A: Allocator>(lines: &mut String<A>, stop: &Stop<'_>) -> Result<(), AllocError> {
     let at_end = stop.rest.is_empty() && waits_for_one(stop);
     for number in stop.waiting {
@@ -165,7 +165,7 @@ fn add_waiting<A: Allocator>(lines: &mut String<A>, stop: &Stop<'_>) -> Result<(
     Ok(())
 }
 
-/// Whether a token waits that takes one character alone.
+/// Whether a token waits that matches exactly one character.
 fn waits_for_one(stop: &Stop<'_>) -> bool {
     let takes_one = |number: &usize| {
         stop.tokens
@@ -175,7 +175,7 @@ fn waits_for_one(stop: &Stop<'_>) -> bool {
     stop.waiting.iter().any(takes_one)
 }
 
-/// Adds a line if the pattern may end where the text stops.
+/// Adds a line if the pattern ends, or may end, where the match stops.
 fn add_end<A: Allocator + Copy>(
     lines: &mut String<A>,
     pattern: &Pattern<A>,

@@ -7,10 +7,11 @@ ghost use Rattle.globs.specs.Visible.{visible};
 
 use crate::PREFIX;
 use crate::explain::hints::without_here;
-use crate::find::skipping::SharedRules;
+use crate::find::disk::SharedRules;
 use crate::visible::Visible;
 use glob_console::write_line;
-use glob_prune::Strays;
+use glob_rules::IgnoreList;
+use glob_tree::Strays;
 use std::alloc::Allocator;
 use std::cell::Cell;
 use std::collections::BTreeSet;
@@ -18,8 +19,8 @@ use std::fmt::{self, Display};
 use std::io::{self, Write};
 
 /// Writes a line for each name that is not UTF-8, ignored or not, and for each path that could not be looked up and
-/// that the rules do not ignore; and notes that there was one. A path has one line, however often it is looked up, as
-/// far as there is memory to know it. Tests, not clauses, show it.
+/// that the rules of the command line do not ignore; and notes that there was one. A path has one line, however often
+/// it is looked up, as far as there is memory to know it. Tests, not clauses, show it.
 #[derive(Drop)]
 pub struct StrayLines<'a, A: Allocator, E> {
     pub alloc: A,
@@ -38,7 +39,9 @@ impl<A: Allocator + Copy, E: Write> Strays for StrayLines<'_, A, E> {
 
     fn unsettled(&mut self, path: &str, error: &io::Error) {
         let path = without_here(path).unwrap_or(path);
-        if is_ignored(self.rules, path) || !is_new(self.alloc, &mut self.reported, path) {
+        if !is_new(self.alloc, &mut self.reported, path)
+            || is_ignored(self.alloc, self.rules, path)
+        {
             return;
         }
         self.has_any.set(true);
@@ -48,10 +51,13 @@ impl<A: Allocator + Copy, E: Write> Strays for StrayLines<'_, A, E> {
 }
 
 /// Whether the rules ignore what is at a path, which is taken for no directory. Without memory to tell they do not.
-fn is_ignored<A: Allocator + Copy>(rules: &SharedRules<A>, path: &str) -> bool {
+fn is_ignored<A: Allocator + Copy>(alloc: A, rules: &SharedRules<A>, path: &str) -> bool {
     match rules.get() {
-        Some(list) => list.is_ignored(path, false).unwrap_or(false),
-        None => false,
+        Some(text) if !text.is_empty() => match IgnoreList::new(alloc, text.as_str()) {
+            Ok(list) => list.is_ignored(path, false).unwrap_or(false),
+            Err(_) => false,
+        },
+        Some(_) | None => false,
     }
 }
 

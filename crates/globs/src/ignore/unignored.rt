@@ -11,9 +11,9 @@ use std::str;
 
 /// Selects the records that the list does not ignore.
 ///
-/// A record is a path, and that of a directory if it ends in `/`. A `./` at its start is passed over: by `/a` neither
-/// `a` nor `./a` is selected. The list's own directory, as `.`, `./`, `/` or an empty record, is always selected, and a
-/// path that is not UTF-8 never: it is counted.
+/// A record is a path; a `/` at its end marks a directory. A `./` at its start is skipped, so the rule `/a` ignores
+/// both `a` and `./a`. The list's own directory, written `.`, `./`, `/` or as an empty record, is always selected. A
+/// path that is not UTF-8 is never selected, but counted.
 #[derive(Drop)]
 pub struct Unignored<'l, A: Allocator> {
     pub list: &'l IgnoreList<A>,
@@ -36,14 +36,14 @@ impl<A: Allocator + Copy> Selection for Unignored<'_, A> {
     }
 }
 
-/// Whether the path is that of the list's own directory.
+/// Whether the path names the list's own directory.
 fn is_here(path: &str) -> bool
     ensures { result ≡ is_here path.now }
 {
     path.is_empty() || path == "."
 }
 
-/// The path of a record.
+/// The path of a record, without the `./` at its start and the `/` at its end.
 fn path_of(bytes: &[u8]) -> &[u8]
     ensures { result.now ≡ path_of bytes.now }
 {
@@ -55,7 +55,7 @@ fn path_of(bytes: &[u8]) -> &[u8]
     }
 }
 
-/// Whether a record is the path of a directory.
+/// Whether a record marks its path as a directory.
 fn is_directory(bytes: &[u8]) -> bool
     ensures { result ≡ is_directory bytes.now }
 {
@@ -80,7 +80,7 @@ fn without_here(bytes: &[u8]) -> &[u8]
     }
 }
 
-/// Whether the byte at a place is `c`.
+/// Whether the byte at offset `place` is `c`.
 fn has(bytes: &[u8], place: usize, c: u8) -> bool
     ensures { result ≡ has bytes.now place c }
 {

@@ -6,6 +6,6 @@ pub returns-in-Ok-clause-copied : goal.returns-in-Ok-clause-copied
 unfolding CopiesUnignored
 returns-in-Ok-clause-copied g c = inr (c.in-Ok.list, c.in-Ok.ensures, c.copy_unignored.ensures.copied)
 
-pub returns-in-Err-clause-copied : goal.returns-in-Err-clause-copied
+pub returns-clause-copied : goal.returns-clause-copied
 unfolding CopiesUnignored
-returns-in-Err-clause-copied g c = inl ((c.requires, refl), (c.fault.ensures.status, refl))
+returns-clause-copied g c = inl ((c.requires, refl), (c.fault.ensures.status, refl))

@@ -1,8 +1,8 @@
-//! Brackets of other tools.
+//! Translates brackets of other tools.
 use super::{add_first, listed};
 use std::alloc::{AllocError, Allocator};
 
-/// Classes of characters, as other tools write them in a bracket, and the ranges that stand for each.
+/// Character classes, as other tools write them in a bracket, and the ranges that replace them.
 static CLASSES: &[(&str, &str)] = &[
     ("[:alpha:]", "a-zA-Z"),
     ("[:digit:]", "0-9"),
@@ -12,8 +12,8 @@ static CLASSES: &[(&str, &str)] = &[
     ("[:xdigit:]", "0-9a-fA-F"),
 ];
 
-/// Adds the bracket whose `[` is before a text, and returns what follows it. `None` where its meaning is not certain:
-/// where it does not end, or has a backslash or a class that is not listed.
+/// Adds the bracket whose `[` comes just before `text`, and returns what follows it. `None` if its meaning is not
+/// certain: if it is unclosed, or has a backslash or an unlisted class.
 pub fn add_bracket<'a, A: Allocator>(
     made: &mut String<A>,
     text: &'a str,
@@ -35,7 +35,7 @@ pub fn add_bracket<'a, A: Allocator>(
     Ok(None)
 }
 
-/// Adds the class, range or character that a text begins with, and returns what follows it.
+/// Adds the class, range or character at the start of a text, and returns what follows it.
 fn add_member<'a, A: Allocator>(
     made: &mut String<A>,
     text: &'a str,
@@ -55,7 +55,8 @@ fn add_member<'a, A: Allocator>(
     }
 }
 
-/// Adds the ranges of the class that a text begins with. A class is no end of a range.
+/// Adds the ranges of the class at the start of a text, and returns what follows it. `None` if the class is unlisted,
+/// or starts a range.
 fn add_class<'a, A: Allocator>(
     made: &mut String<A>,
     text: &'a str,
@@ -69,7 +70,8 @@ fn add_class<'a, A: Allocator>(
     }
 }
 
-/// Adds the character that a text begins with, or that is the end of a range.
+/// Adds the character at the start of a text: a member, or an end of a range. `None` before a backslash or a class, and
+/// at the end of the text.
 fn add_end<'a, A: Allocator>(
     made: &mut String<A>,
     text: &'a str,

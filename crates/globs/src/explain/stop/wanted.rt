@@ -4,12 +4,12 @@ use glob_captures::{TokenKind, Written};
 use glob_pattern::MatchOptions;
 use std::alloc::{AllocError, Allocator};
 
-/// Whether a token of this kind takes any number of characters.
+/// Whether a token of this kind matches any number of characters.
 pub fn grows(kind: TokenKind) -> bool {
     matches!(kind, TokenKind::AnySequence | TokenKind::Recursive)
 }
 
-/// Where the token ends that others follow or, if it is a character, the last of its neighbours that are characters.
+/// Where the token ends or, if it is a character, the last of the characters that follow it directly.
 pub fn run_end(token: Written, after: &[Written]) -> usize {
     let mut end = token.piece.end;
     if token.kind == TokenKind::Literal {
@@ -23,8 +23,8 @@ pub fn run_end(token: Written, after: &[Written]) -> usize {
     end
 }
 
-/// Adds a line for a token of this kind: how it is written, with the characters beside it, a tab, and what it wants
-/// where a text stops, under the options. `rest` is what follows in the text.
+/// Adds a line for a token of this kind: `written`, which includes the characters after it, a tab, and what it wants
+/// under the options where the match stops. `rest` is the rest of the text.
 pub fn add_want<A: Allocator>(
     lines: &mut String<A>,
     kind: TokenKind,
@@ -48,7 +48,7 @@ pub fn add_want<A: Allocator>(
     writeln!(lines, "{written}\t{wish}{case}{rules}")
 }
 
-/// What a token of this kind wants under no rule.
+/// What a token of this kind wants, apart from the rules.
 fn wish_of(kind: TokenKind, written: &str) -> &'static str {
     match kind {
         TokenKind::Literal if written.chars().count() > 1 => "wants these characters",
@@ -71,7 +71,7 @@ fn has_case(kind: TokenKind, written: &str) -> bool {
     }
 }
 
-/// What the rules of the options forbid a token of this kind.
+/// What the rules in the options forbid to a token of this kind.
 fn rules_of(kind: TokenKind, options: MatchOptions) -> &'static str {
     if kind == TokenKind::Literal {
         return "";

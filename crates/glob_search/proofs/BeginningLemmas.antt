@@ -1,0 +1,14 @@
+pub mod Adding
+pub mod Fronts
+pub mod Growing
+pub mod Keys
+pub mod LastName
+pub mod Leading
+pub mod Literals
+pub mod Looking
+pub mod Names
+pub mod Patterns
+pub mod Queries
+pub mod SameTexts
+pub mod Trees
+pub mod Walking

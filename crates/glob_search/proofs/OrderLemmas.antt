@@ -1,0 +1,10 @@
+pub mod Ascending
+pub mod Beginnings
+pub mod Complete
+pub mod Found
+pub mod GoingOn
+pub mod Named
+pub mod OneFile
+pub mod Parts
+pub mod Sound
+pub mod Ways

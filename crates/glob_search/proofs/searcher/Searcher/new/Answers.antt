@@ -1,0 +1,34 @@
+use Rattle.std.proofs.Common.{refl, arith}
+use Rattle.glob_search.proofs.EngineLemmas.Fresh.{fresh-none, fresh-start}
+use Rattle.glob_search.proofs.EngineLemmas.Past.{start-none, start-past}
+use Rattle.glob_search.proofs.searcher.Searcher.new.Goals.{then-depth-gt0, else-depth-gt0}
+use Rattle.glob_search.proofs.searcher.Searcher.new.Goals as goal
+
+pub returns : goal.returns
+returns g c = record {
+  begun = record { most = refl; spent = refl; deep = refl; levels = c.new.ensures.len; files = refl };
+  fresh = λ content known good. elim c.if-depth-gt0.branch [
+    | then-depth-gt0 w ↦ fresh-start content good _ _ (record {
+      beginnings = c.in_ok-beginnings.ensures.beginnings;
+      depth = refl;
+      wanted = λ kind. refl;
+      first = c.in_ok-heard.ensures.first;
+    }) c.in_ok-heard.ensures.files c.new.ensures.items (record {
+      path = c.in_ok-path.path;
+      alive = c.in_ok-alive.alive;
+    }) w.entering-is c.in_ok-path.ensures.ok c.in_ok-alive.ensures.alive
+        w.if-depth-gt0.true
+    | else-depth-gt0 w ↦ fresh-none content good _ _ (record {
+      beginnings = c.in_ok-beginnings.ensures.beginnings;
+      depth = refl;
+      wanted = λ kind. refl;
+      first = c.in_ok-heard.ensures.first;
+    }) c.in_ok-heard.ensures.files c.new.ensures.items w.entering-is (omega (arith, w.if-depth-gt0.false))
+  ];
+  past = elim c.if-depth-gt0.branch [
+    | then-depth-gt0 w ↦ start-past (record { entering = c.if-depth-gt0.entering; frames = c.new.result })
+        (record { path = c.in_ok-path.path; alive = c.in_ok-alive.alive })
+        w.entering-is c.in_ok-path.ensures.ok c.new.ensures.items
+    | else-depth-gt0 w ↦ start-none (record { entering = c.if-depth-gt0.entering; frames = c.new.result }) w.entering-is c.new.ensures.items
+  ];
+}

@@ -1,0 +1,125 @@
+use Rattle.std.proofs.Common.{◌++◌, ◌∷◌, [], Ok, Some, map, string_bytes, ap, sym, subst, ◌∙◌, arith}
+use Rattle.std.proofs.lemmas.List.{append_assoc}
+use Rattle.glob_search.specs.Aims.{AreTextsOf}
+use Rattle.glob_search.specs.Visiting.{Found}
+use Rattle.glob_search.specs.Private.Engine.{Turns, file_names, work_left}
+use Rattle.glob_search.specs.Private.Order.{IsPastWay, TurnsLater}
+use Rattle.glob_search.specs.Private.Steps.{NextWork}
+use Rattle.glob_search.specs.Private.Ways.{search_left}
+use Rattle.glob_search.proofs.EngineLemmas.Going.{ends-fault, gives-fault, same-files}
+use Rattle.glob_search.specs.declared.searcher.Searcher.{Searcher}
+use Rattle.glob_search.proofs.EngineLemmas.Past.{done-past, works-past}
+use Rattle.glob_search.proofs.EngineLemmas.Working.{works-next}
+use Rattle.glob_search.proofs.searcher.Searcher.next.Goals.{then-is_last, else-is_last}
+use Rattle.glob_search.proofs.searcher.Searcher.next.Goals as goal
+
+pub loop-work-preserved : goal.loop-work-preserved
+loop-work-preserved g c =
+    let i = c.loop-work.invariant in
+    record {
+      limit = c.in-Ok-None.ensures.limit ∙ i.limit;
+      depth = c.in-Ok-None.ensures.depth ∙ i.depth;
+      spent = omega (arith, c.in-Ok-None.ensures.spent, i.spent);
+      files = c.in-Ok-None.ensures.files ∙ i.files;
+      content = c.in-Ok-None.ensures.content ∙ i.content;
+      texts = c.in-Ok-None.ensures.texts ∙ i.texts;
+      goes = λ content a known answers ready.
+          let k = i.goes content a known answers ready in
+          let s = c.loop-work.self in
+          let fit : AreTextsOf content a (file_names s) known = subst (λ fs. AreTextsOf content a fs known)
+          (sym (same-files c.args.self.now s i.files)) answers.fit in
+          let next = subst (λ xs. NextWork (map (λ f. string_bytes f) xs) s.way (Some c.in-Some.work) c.next.new.self)
+          c.as_slice.ensures.value c.in-Some.ensures.work in
+          let step = works-next content a known s fit answers.told.1 c.next.new.self k.sound c.in-Some.work next in
+          let x = c.in-Ok-None.ensures.turns content a known
+          (record {
+            told = (i.content ∙ answers.told.0, answers.told.1);
+            same = i.texts ∙ answers.same;
+            fit =
+                fit;
+          }) step.0 in
+          let t = record s { way = c.next.new.self } in
+          let y = subst (λ o. Turns content a known (work_left content a t c.in-Some.work ++ search_left content a t)
+          (Ok o) c.turn.new.self) c.in-Ok-None.field-0-is x in
+          record { sound = y.sound; rest = k.rest ∙ step.1 ∙ y.rest };
+      ascends = λ past was.
+          let s = c.loop-work.self in
+          let next = subst (λ xs. NextWork (map (λ f. string_bytes f) xs) s.way (Some c.in-Some.work) c.next.new.self)
+          c.as_slice.ensures.value c.in-Some.ensures.work in
+          subst (λ o. TurnsLater past (Ok o) c.turn.new.self.way) c.in-Ok-None.field-0-is
+          (c.in-Ok-None.ensures.later past (works-past past _ s.way c.next.new.self c.in-Some.work next (i.ascends past was)));
+    }
+
+pub returns-in-Ok-Some-clause-gives : goal.returns-in-Ok-Some-clause-gives
+returns-in-Ok-Some-clause-gives g c = λ content a known answers all given had.
+    let i = c.loop-work.invariant in
+    let k = i.goes content a known answers had.agrees in
+    let s = c.loop-work.self in
+    let fit : AreTextsOf content a (file_names s) known = subst (λ fs. AreTextsOf content a fs known)
+    (sym (same-files c.args.self.now s i.files)) answers.fit in
+    let next = subst (λ xs. NextWork (map (λ f. string_bytes f) xs) s.way (Some c.in-Some.work) c.next.new.self)
+    c.as_slice.ensures.value c.in-Some.ensures.work in
+    let step = works-next content a known s fit answers.told.1 c.next.new.self k.sound c.in-Some.work next in
+    let x = c.in-Ok-Some.ensures.turns content a known (record {
+      told = (i.content ∙ answers.told.0, answers.told.1);
+      same = i.texts ∙ answers.same;
+      fit = fit;
+    }) step.0 in
+    let t = record s { way = c.next.new.self } in
+    let y = subst (λ o. Turns content a known (work_left content a t c.in-Some.work ++ search_left content a t)
+    (Ok o) c.turn.new.self) c.in-Ok-Some.field-0-is x in
+    record {
+      names = y.names;
+      path = y.path;
+      kind = y.kind;
+      goes = record {
+        agrees = y.ready;
+        upto = had.upto ∙ ap (λ gs. given ++ gs) (k.rest ∙ step.1 ∙ y.rest) ∙ sym (append_assoc given
+            (Found y.names ∷ []) (search_left content a c.turn.new.self));
+      };
+    }
+
+pub returns-in-Err-clause-gives : goal.returns-in-Err-clause-gives
+returns-in-Err-clause-gives g c = λ content a known answers all given had.
+    let i = c.loop-work.invariant in
+    let k = i.goes content a known answers had.agrees in
+    let s = c.loop-work.self in
+    let fit : AreTextsOf content a (file_names s) known = subst (λ fs. AreTextsOf content a fs known)
+    (sym (same-files c.args.self.now s i.files)) answers.fit in
+    let next = subst (λ xs. NextWork (map (λ f. string_bytes f) xs) s.way (Some c.in-Some.work) c.next.new.self)
+    c.as_slice.ensures.value c.in-Some.ensures.work in
+    let step = works-next content a known s fit answers.told.1 c.next.new.self k.sound c.in-Some.work next in
+    let x = c.in-Err.ensures.turns content a known (record {
+      told = (i.content ∙ answers.told.0, answers.told.1);
+      same
+          = i.texts ∙ answers.same;
+      fit = fit;
+    }) step.0 in
+    elim c.if-is_last.branch [
+      | then-is_last w ↦ ends-fault content a all given c.in-Err.fault c.if-is_last.self (sym c.is_last.ensures ∙ w.if-is_last.true)
+      | else-is_last w ↦ gives-fault content a all given c.in-Err.fault c.turn.new.self c.if-is_last.self _ w.self-is
+          (had.upto ∙ ap (λ gs. given ++ gs) (k.rest ∙ step.1)) x
+    ]
+
+pub returns-in-Ok-Some-clause-ascends : goal.returns-in-Ok-Some-clause-ascends
+returns-in-Ok-Some-clause-ascends g c = λ past was.
+    let s = c.loop-work.self in
+    let next = subst (λ xs. NextWork (map (λ f. string_bytes f) xs) s.way (Some c.in-Some.work) c.next.new.self)
+    c.as_slice.ensures.value c.in-Some.ensures.work in
+    let x = subst (λ o. TurnsLater past (Ok o) c.turn.new.self.way) c.in-Ok-Some.field-0-is
+    (c.in-Ok-Some.ensures.later past (works-past past _ s.way c.next.new.self c.in-Some.work next
+    (c.loop-work.invariant.ascends past was))) in
+    record { names = x.names; path = x.path; later = x.later; goes = x.goes }
+
+pub returns-in-Err-clause-ascends : goal.returns-in-Err-clause-ascends
+returns-in-Err-clause-ascends g c = λ past was.
+    let s = c.loop-work.self in
+    let next = subst (λ xs. NextWork (map (λ f. string_bytes f) xs) s.way (Some c.in-Some.work) c.next.new.self)
+    c.as_slice.ensures.value c.in-Some.ensures.work in
+    let x = c.in-Err.ensures.later past (works-past past _ s.way c.next.new.self c.in-Some.work next
+    (c.loop-work.invariant.ascends past was)) in
+    elim c.if-is_last.branch [
+      | then-is_last w ↦ subst (λ (t : Searcher _). IsPastWay past t.way) (sym w.self-is)
+          (done-past past w.end.new.self.way w.end.ensures.done)
+      | else-is_last w ↦ subst (λ (t : Searcher _). IsPastWay past t.way) (sym w.self-is) (x (sym c.is_last.ensures ∙ w.if-is_last.false))
+    ]

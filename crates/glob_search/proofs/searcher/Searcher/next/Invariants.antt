@@ -1,0 +1,26 @@
+use Rattle.std.proofs.Common.{◌≡◌, ◌≤◌, Option}
+use Rattle.glob_text.specs.Text.{Text}
+use Rattle.glob_tree.specs.Content.{Content, Key}
+use Rattle.glob_search.specs.Searching.{Aim}
+use Rattle.glob_search.specs.Private.Engine.{AreAnswers, IsReady, Keeps, file_names}
+use Rattle.glob_search.specs.Private.Order.{IsPastSearch}
+use Rattle.glob_search.specs.Private.Ways.{search_left}
+use Rattle.glob_search.specs.Private.Weights.{weight}
+use Rattle.glob_search.proofs.searcher.Searcher.next.Given as goal
+
+abbrev pub invariant-loop-work : goal.invariant-loop-work
+invariant-loop-work g l = record {
+  limit : l.self.meter.limit ≡ l.initial.self.meter.limit;
+  depth : l.self.depth ≡ l.initial.self.depth;
+  spent : l.initial.self.meter.spent ≤ l.self.meter.spent;
+  files : l.self.rule_files ≡ l.initial.self.rule_files;
+  content : g.T.Tree.tells l.tree ≡ g.T.Tree.tells l.initial.tree;
+  texts : g.R.RuleTexts.texts l.texts ≡ g.R.RuleTexts.texts l.initial.texts;
+  goes : (c : Content) (a : Aim) (known : Text → Option Text) → AreAnswers (g.T.Tree.tells l.initial.tree)
+      (g.R.RuleTexts.texts l.initial.texts) (file_names l.initial.self) c a known
+      → IsReady c a l.initial.self → Keeps c a known (search_left c a l.initial.self) l.self;
+  ascends : (past : Key) → IsPastSearch past l.initial.self → IsPastSearch past l.self;
+}
+
+abbrev pub decreases-loop-work : goal.decreases-loop-work
+decreases-loop-work g l = weight l.self.meter l.self.way

@@ -1,0 +1,22 @@
+-- What contracts see of a search.
+use Rattle.std.specs.Prelude.{vec_len}
+use Rattle.glob_search.specs.States.{Progress, SearchState}
+use Rattle.glob_search.specs.Private.Engine.{IsReady, file_names}
+use Rattle.glob_search.specs.Private.Order.{IsPastSearch}
+use Rattle.glob_search.specs.Private.Ways.{search_left}
+use Rattle.glob_search.specs.declared.searcher.Searcher.{Searcher}
+
+-- what contracts know of a searcher
+abbrev pub Find : Type 0 → Progress
+Find A = record { State = Searcher A; left = search_left; Agrees = IsReady; IsPast = IsPastSearch }
+
+-- what contracts see of a search
+abbrev pub state_of : {A : Type 0} → Searcher A → SearchState (Find A)
+state_of s = record {
+  limit = s.meter.limit;
+  spent = s.meter.spent;
+  depth = s.depth;
+  levels = vec_len s.way.frames;
+  files = file_names s;
+  state = s;
+}

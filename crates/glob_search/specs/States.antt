@@ -1,0 +1,97 @@
+-- What contracts see of a search, and what it has given over a known content.
+use Rattle.std.specs.Prelude.{◌≡◌, ℕ, List, [], ◌∷◌, ◌++◌, Option, Some, None, Result, Ok, Err, string_bytes, ⊤}
+use Rattle.std.specs.IoError.{error_kind}
+use Rattle.std.specs.declared.io.ErrorKind.{ErrorKind}
+use Rattle.std.specs.Option.{ForSome}
+use Rattle.std.specs.declared.cmp.Ordering.TheVariants.{Less}
+use Rattle.glob_text.specs.Text.{Text}
+use Rattle.glob_tree.specs.Content.{Content, Key, is_dir_at}
+use Rattle.glob_search.specs.Aims.{path_down, path_of}
+use Rattle.glob_search.specs.Laws.{key_cmp}
+use Rattle.glob_search.specs.Searching.{Aim}
+use Rattle.glob_search.specs.Visiting.{Gift, Found, Unread}
+use Rattle.glob_search.specs.declared.fault.SearchFault.{SearchFault}
+use Rattle.glob_search.specs.declared.fault.SearchFault.TheVariants as fault
+use Rattle.glob_search.specs.declared.found.Found.{Found as FoundPath}
+
+-- How far a search has come is its own affair, of a type of its own. What a caller knows of it is what is left of the
+-- gifts over a content, and whether the answers so far agree with that content. Over any tree, each path that is still
+-- to be found comes after the names that the search is past.
+pub record Progress : Type 1 where
+  pub State : Type 0
+  pub left : Content → Aim → State → List Gift
+  pub Agrees : Content → Aim → State → Type 0
+  pub IsPast : Key → State → Type 0
+
+-- what contracts see of a search
+pub record SearchState (P : Progress) : Type 0 where
+  pub limit : ℕ
+  -- the units of work that were charged
+  pub spent : ℕ
+  -- the most names of a path that is found
+  pub depth : ℕ
+  -- the directories on the way down to where the search is
+  pub levels : ℕ
+  -- the names of files with rules
+  pub files : List Text
+  -- how far it has come
+  pub state : P.State
+
+-- nothing was asked yet
+pub record IsBegun {P : Progress} (limit depth : ℕ) (names : List Text) (s : SearchState P) : Type 0 where
+  pub most : s.limit ≡ limit
+  pub spent : s.spent ≡ 0
+  pub deep : s.depth ≡ depth
+  pub levels : s.levels ≡ 0
+  pub files : s.files ≡ names
+
+-- Over a content that has answered so: these gifts were given, and the others of all gifts are left.
+pub record HasGiven {P : Progress} (all : List Gift) (c : Content) (a : Aim) (given : List Gift) (s : SearchState P) : Type 0 where
+  pub agrees : P.Agrees c a s.state
+  pub upto : all ≡ given ++ P.left c a s.state
+
+-- The path is that of the next gift, and its kind the content's, if it was learned.
+pub record GivesFound {A : Type 0} {P : Progress} (all : List Gift) (c : Content) (a : Aim) (given : List Gift)
+    (found : FoundPath A) (s : SearchState P) : Type 0 where
+  pub names : Key
+  pub path : string_bytes found.path ≡ path_of names
+  pub kind : ForSome found.is_dir (λ d. d ≡ is_dir_at c (c.current ++ names))
+  pub goes : HasGiven all c a (given ++ Found names ∷ []) s
+
+-- The next gift is a directory that cannot be listed, with its error.
+pub record GivesUnread {P : Progress} (all : List Gift) (c : Content) (a : Aim) (given : List Gift) (text : Text)
+    (kind : ErrorKind) (s : SearchState P) : Type 0 where
+  pub names : Key
+  pub path : text ≡ path_of names
+  pub goes : HasGiven all c a (given ++ Unread names kind ∷ []) s
+
+-- What a further call makes of it: nothing is left, or the next gift is given. After a fault of a file with rules the
+-- search goes on by other rules, and at the limit or out of memory it ends.
+abbrev pub GivesNext : {A : Type 0} {P : Progress} → (all : List Gift) → Content → Aim → (given : List Gift)
+    → Option (Result (FoundPath A) (SearchFault A)) → SearchState P → Type 0
+GivesNext all c a given None s = all ≡ given
+GivesNext all c a given (Some (Ok found)) s = GivesFound all c a given found s
+GivesNext all c a given (Some (Err (fault.Unread path e))) s = GivesUnread all c a given (string_bytes path) (error_kind e) s
+GivesNext all c a given (Some (Err (fault.UnreadRules path e))) s = ⊤
+GivesNext all c a given (Some (Err (fault.RefusedRules path line reason))) s = ⊤
+GivesNext all c a given (Some (Err fault.Limit)) s = ⊤
+GivesNext all c a given (Some (Err fault.Memory)) s = ⊤
+
+-- each path that is still to be found comes after these names
+abbrev pub IsPast : {P : Progress} → (past : Key) → SearchState P → Type 0
+IsPast {P} past s = P.IsPast past s.state
+
+-- The path that is found is that of later names, which the search is then past.
+pub record FindsAfter {A : Type 0} {P : Progress} (past : Key) (found : FoundPath A) (s : SearchState P)
+    : Type 0 where
+  pub names : Key
+  pub path : string_bytes found.path ≡ path_down names
+  pub later : key_cmp past names ≡ Less
+  pub goes : IsPast names s
+
+-- What a further call makes of it, over any tree: each path that is found comes after those before it.
+abbrev pub GoesAfter : {A : Type 0} {P : Progress} → (past : Key) → Option (Result (FoundPath A) (SearchFault A))
+    → SearchState P → Type 0
+GoesAfter past None s = IsPast past s
+GoesAfter past (Some (Ok found)) s = FindsAfter past found s
+GoesAfter past (Some (Err f)) s = IsPast past s

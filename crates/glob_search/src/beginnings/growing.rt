@@ -1,0 +1,153 @@
+//! How the tree of beginnings grows by a pattern.
+ghost use Rattle.std.specs.Prelude.{◌≡◌, ◌<◌, vec_len, IfOk, false, map, [], ◌∷◌, ◌++◌};
+ghost use Rattle.std.specs.List.{All, list_any};
+ghost use Rattle.glob_pattern.specs.Grammar.Characters.{is_wildcard};
+
+use crate::beginnings::Beginnings;
+use crate::beginnings::node::{Component, Node};
+use glob_pattern::{Pattern, PatternRefusal};
+use std::alloc::{AllocError, Allocator};
+
+impl<A: Allocator + Copy> Beginnings<A> {
+    ghost use Rattle.std.specs.Prelude.{ℕ, List, slice_get, string_bytes};
+    ghost use Rattle.std.specs.Str.{IsUtf8};
+    ghost use Rattle.std.specs.Prelude.{None, Some, true};
+    ghost use Rattle.glob_text.specs.Pieces.{pieces};
+    ghost use Rattle.glob_search.specs.Private.NodeGrowth.{Added, FitsKind, GrownTo, IsComponentOf, IsMarked, Led, component_text, finished, is_deep_component, pushed, walked};
+    ghost use Rattle.glob_text.specs.Text.{Text};
+    ghost use Rattle.glob_search.specs.Private.Nodes.{Adds, IsTree, folded, key_of};
+
+    /// Adds the beginnings of a pattern.
+    pub(super) fn add(&mut self, pattern: &str) -> Result<(), PatternRefusal>
+        ensures options { self.new.options ≡ self.old.options }
+        ensures added { (front : ℕ → List Text)
+            → IsTree self.old.options self.old.nodes.items front
+            → IfOk result (λ _. Added self.old.options self.old.nodes.items self.new.nodes.items
+            front pattern.now) }
+    {
+        Pattern::new(self.alloc, pattern)?;
+        let at = self.walk(pattern)?;
+        let end = self.end_of(at)?;
+        self.mark_whole(end);
+        Ok(())
+    }
+
+    /// Adds the beginnings to which the components of a pattern lead. The last of them is returned.
+    fn walk(&mut self, pattern: &str) -> Result<usize, PatternRefusal>
+        ensures options { self.new.options ≡ self.old.options }
+        ensures within { IfOk result (λ node. node < vec_len self.new.nodes) }
+        ensures walked { (front : ℕ → List Text)
+            → IsTree self.old.options self.old.nodes.items front
+            → IfOk result (GrownTo self.old.options self.old.nodes.items self.new.nodes.items front
+            (walked (map (key_of self.old.options) (pieces pattern.now)))) }
+        ensures utf8 { IfOk result (λ _. All IsUtf8 (pieces pattern.now)) }
+    {
+        let mut at = 0;
+        for component in pattern.split('/') {
+            at = self.child(at, component)?;
+        }
+        Ok(at)
+    }
+
+    /// The beginning that is a whole pattern, where the last component leads to this one: after `**` a name more.
+    fn end_of(&mut self, at: usize) -> Result<usize, PatternRefusal>
+        requires { at < vec_len self.old.nodes }
+        ensures options { self.new.options ≡ self.old.options }
+        ensures within { IfOk result (λ node. node < vec_len self.new.nodes) }
+        ensures ended { (front : ℕ → List Text)
+            → IsTree self.old.options self.old.nodes.items front
+            → IfOk result (GrownTo self.old.options self.old.nodes.items self.new.nodes.items front
+            (finished (front at))) }
+    {
+        if self.nodes[at].is_deep {
+            return self.child(at, "*");
+        }
+        Ok(at)
+    }
+
+    /// Notes that a beginning is a whole pattern.
+    fn mark_whole(&mut self, at: usize)
+        requires { at < vec_len self.old.nodes }
+        ensures options { self.new.options ≡ self.old.options }
+        ensures tree { (front : ℕ → List Text) → IsTree self.old.options self.old.nodes.items front
+            → IsTree self.new.options self.new.nodes.items front }
+        ensures marked { IsMarked self.old.nodes.items self.new.nodes.items at }
+    {
+        self.nodes[at].mark_whole();
+    }
+
+    /// The beginning that goes on by a component. Where one ends in `**`, a further `**` leads to itself.
+    fn child(&mut self, at: usize, component: &str) -> Result<usize, PatternRefusal>
+        requires { at < vec_len self.old.nodes }
+        ensures options { self.new.options ≡ self.old.options }
+        ensures within { IfOk result (λ node. node < vec_len self.new.nodes) }
+        ensures child { (front : ℕ → List Text) → IsTree self.old.options self.old.nodes.items front
+            → IfOk result (GrownTo self.old.options self.old.nodes.items self.new.nodes.items front
+            (pushed (front at) (key_of self.old.options component.now))) }
+        ensures utf8 { IsUtf8 component.now }
+    {
+        let component = self.component(component)?;
+        if component.is_deep() && self.nodes[at].is_deep {
+            return Ok(at);
+        }
+        if let Some(node) = self.nodes[at].led_to(&component) {
+            return Ok(node);
+        }
+        Ok(self.lead(at, component)?)
+    }
+
+    /// Reads a component.
+    fn component(&self, text: &str) -> Result<Component<A>, PatternRefusal>
+        ensures { IfOk result (IsComponentOf self.now.options text.now) }
+    {
+        if text == "**" {
+            return Ok(Component::Deep);
+        }
+        if !has_wildcard(text) {
+            return Ok(Component::Literal(self.key_of(text)?));
+        }
+        Ok(Component::Wild(Pattern::new(self.alloc, text)?))
+    }
+
+    /// Adds a beginning that goes on by a component.
+    fn lead(&mut self, at: usize, component: Component<A>) -> Result<usize, AllocError>
+        requires { at < vec_len self.old.nodes }
+        ensures options { self.new.options ≡ self.old.options }
+        ensures within { IfOk result (λ node. node < vec_len self.new.nodes) }
+        ensures led { (front : ℕ → List Text) (node : Node A)
+            → IsTree self.old.options self.old.nodes.items front
+            → slice_get self.old.nodes.items at ≡ Some node → FitsKind self.old.options component
+            → Led node component None
+            → (is_deep_component component ≡ true → node.is_deep ≡ false)
+            → IfOk result (GrownTo self.old.options self.old.nodes.items self.new.nodes.items front
+            (front at ++ component_text component ∷ [])) }
+    {
+        let node = self.nodes.len();
+        let is_deep = component.is_deep();
+        self.nodes.push(Node::new(self.alloc, is_deep))?;
+        self.nodes[at].lead(component, node)?;
+        Ok(node)
+    }
+
+    /// The text by which literals are compared.
+    fn key_of(&self, text: &str) -> Result<String<A>, AllocError>
+        ensures { IfOk result (λ key. string_bytes key
+            ≡ folded self.now.options.case_sensitive text.now) }
+    {
+        if self.options.case_sensitive {
+            String::from_str(self.alloc, text)
+        } else {
+            text.to_ascii_lowercase(self.alloc)
+        }
+    }
+}
+
+/// Whether some character of the component is a wildcard.
+fn has_wildcard(component: &str) -> bool
+    ensures { result ≡ list_any is_wildcard component.now }
+{
+    component
+        .as_bytes()
+        .iter()
+        .any(|&byte| byte == b'?' || byte == b'*' || byte == b'[')
+}

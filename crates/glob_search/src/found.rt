@@ -1,0 +1,14 @@
+//! What a search finds.
+
+use std::alloc::{Allocator, Global};
+
+/// A path that a search finds.
+#[derive(Drop)]
+#[derive_where(Debug)]
+pub struct Found<A: Allocator = Global> {
+    /// The names from the start directory on, joined by `/`, as `src/main.rs`.
+    pub path: String<A>,
+    /// Whether it is a directory, if the search has learned it. It has where [`Settings::kinds`](crate::Settings::kinds)
+    /// is set.
+    pub is_dir: Option<bool>,
+}

@@ -1,0 +1,128 @@
+//! How a directory is entered.
+ghost use Rattle.std.specs.Prelude.{◌≡◌, ◌+◌, ◌*◌, ◌≤◌, ◌<◌, ◌++◌, Option, Some, Bool, true, IsTrue, OnOk, IfOk, IfErr, false, string_bytes, vec_len};
+ghost use Rattle.glob_text.specs.Text.{Text};
+ghost use Rattle.glob_tree.specs.Answers.{IsTold};
+ghost use Rattle.glob_tree.specs.Content.{Content, Key, is_dir_at};
+ghost use Rattle.glob_search.specs.Aims.{path_of};
+ghost use Rattle.glob_search.specs.Searching.{Aim};
+ghost use Rattle.glob_search.specs.Private.Engine.{EntriesGive, FitsSource, GoesOn, HasWork, StepsInto};
+ghost use Rattle.glob_search.specs.Private.Faults.{is_last, is_unread};
+ghost use Rattle.glob_search.specs.Private.Listings.{AreFalling};
+ghost use Rattle.glob_search.specs.Private.Nodes.{AreAlive, AreBeginnings};
+ghost use Rattle.glob_search.specs.Private.Order.{IsPastWork, StaysPast};
+ghost use Rattle.glob_search.specs.Private.Ways.{opening_left, search_left};
+ghost use Rattle.glob_search.specs.Private.Weights.{way_weight, weight};
+ghost use Rattle.glob_search.specs.declared.way.Work.TheVariants.{Enter};
+
+use crate::entries::{list, look_up};
+use crate::fault::SearchFault;
+use crate::frame::{Frame, Opening, Source};
+use crate::searcher::Searcher;
+use glob_tree::{Entry, Tree};
+use std::alloc::Allocator;
+
+impl<A: Allocator + Copy> Searcher<A> {
+    /// Enters a directory.
+    pub(super) fn enter<T: Tree<Alloc = A>>(
+        &mut self,
+        tree: &mut T,
+        opening: Opening<A>,
+    ) -> Result<(), SearchFault<A>>
+        ensures limit { self.new.meter.limit ≡ self.old.meter.limit }
+        ensures depth { self.new.depth ≡ self.old.depth }
+        ensures spent { self.old.meter.spent ≤ self.new.meter.spent }
+        ensures falls { OnOk result (weight self.new.meter self.new.way
+            ≤ weight self.old.meter self.old.way) }
+        ensures files { self.new.rule_files ≡ self.old.rule_files }
+        ensures content { T.tells tree.new ≡ T.tells tree.old }
+        ensures enters { (c : Content) (a : Aim) (known : Text → Option Text)
+            → IsTold (T.tells tree.old) c → HasWork c a known self.old (Enter opening)
+            → GoesOn c a known (opening_left c a (Some opening) ++ search_left c a self.old)
+            result self.new }
+        ensures later { (past : Key) → IsPastWork past (Enter opening) self.old.way
+            → StaysPast past result self.new.way }
+    {
+        let source = self.source_of(&opening);
+        let entries = self.entries(tree, &opening, source)?;
+        self.step_into(opening, source, entries)
+    }
+
+    /// Puts a directory on the way, unless it has no entries.
+    fn step_into(
+        &mut self,
+        opening: Opening<A>,
+        source: Source,
+        entries: Vec<Entry<A>, A>,
+    ) -> Result<(), SearchFault<A>>
+        ensures same { self.new ≡ record self.old { way = self.new.way } }
+        ensures none { vec_len entries ≡ 0 → self.new.way ≡ self.old.way }
+        ensures weight { way_weight self.new.way
+            ≤ way_weight self.old.way + (2 * vec_len entries + 1) }
+        ensures some { OnOk result (0 < vec_len entries
+            → StepsInto opening source entries self.old self.new) }
+        ensures other { IfErr result (λ fault. is_unread fault ≡ false) }
+        ensures last { IfErr result (λ fault. is_last fault ≡ true) }
+    {
+        if entries.is_empty() {
+            return Ok(());
+        }
+        let heard = self.heard.files.len();
+        let Opening { path, alive } = opening;
+        self.way.frames.push(Frame {
+            path,
+            alive,
+            source,
+            entries,
+            files: 0,
+            heard,
+        })?;
+        Ok(())
+    }
+
+    /// How what is in a directory is known: names are looked up where only literals go on. It is listed without kinds
+    /// where only entries that literals name may be entered.
+    fn source_of(&self, opening: &Opening<A>) -> Source
+        ensures { (a : Aim) (names : Key) → AreBeginnings a.options a.patterns self.now.beginnings
+            → AreAlive self.now.beginnings names opening.now.alive.items → FitsSource a names result }
+    {
+        let alive = opening.alive.as_slice();
+        if self.beginnings.is_literal(alive) {
+            return Source::LookedUp;
+        }
+        let enters = self.way.frames.len() + 1 < self.depth && self.beginnings.enters_many(alive);
+        if enters || self.needs_kinds() {
+            Source::Listed
+        } else {
+            Source::Named
+        }
+    }
+
+    /// The entries of a directory, in descending order of names.
+    fn entries<T: Tree<Alloc = A>>(
+        &mut self,
+        tree: &mut T,
+        opening: &Opening<A>,
+        source: Source,
+    ) -> Result<Vec<Entry<A>, A>, SearchFault<A>>
+        ensures same { self.new ≡ record self.old { meter = self.new.meter } }
+        ensures limit { self.new.meter.limit ≡ self.old.meter.limit }
+        ensures spent { self.old.meter.spent ≤ self.new.meter.spent }
+        ensures charged { IfOk result (λ entries.
+            self.old.meter.spent + vec_len entries ≤ self.new.meter.spent) }
+        ensures content { T.tells tree.new ≡ T.tells tree.old }
+        ensures entries { (c : Content) (a : Aim) (names : Key) → IsTold (T.tells tree.old) c
+            → IsTrue (is_dir_at c (c.current ++ names))
+            → string_bytes opening.now.path ≡ path_of names
+            → AreBeginnings a.options a.patterns self.old.beginnings
+            → AreAlive self.old.beginnings names opening.now.alive.items → FitsSource a names source
+            → EntriesGive c a names source (string_bytes opening.now.path) result }
+        ensures falls { IfOk result (λ entries. AreFalling entries.items) }
+    {
+        match source {
+            Source::LookedUp => {
+                look_up(self.alloc, &mut self.meter, tree, &self.beginnings, opening)
+            }
+            Source::Listed | Source::Named => list(&mut self.meter, tree, opening, source),
+        }
+    }
+}

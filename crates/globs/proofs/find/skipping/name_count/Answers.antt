@@ -1,9 +1,0 @@
-use Rattle.std.proofs.Common.{lit<}
-use Rattle.std.proofs.lemmas.Iterator.Consumers.{count_from_yields_List}
-use Rattle.std.proofs.lemmas.Iterator.Splits.{YieldsList-from_str_split}
-use Rattle.globs.proofs.find.skipping.name_count.Goals as goal
-
-pub returns : goal.returns
-returns c =
-    let split = c.split.ensures in
-    count_from_yields_List _ c.count.result c.count.ensures.ran (YieldsList-from_str_split 47 c.args.path.now (lit< tt) split.text split.has_more split.pattern)

@@ -1,0 +1,62 @@
+-- What a search writes of what it gives.
+use Rattle.std.specs.Prelude.{◌≡◌, ◌≢◌, ℕ, Bool, true, false, not, if◌then◌else◌, List, [], ◌∷◌, Option, Result, Ok, Err, filter_map, map, string_bytes}
+use Rattle.std.specs.Io.KnownBytes.{Appends}
+use Rattle.glob_console.specs.FoundPaths.{has_any}
+use Rattle.glob_lines.specs.Lines.{AppendsFront, ended_record, with_ends}
+use Rattle.glob_search.specs.Aims.{path_of}
+use Rattle.glob_search.specs.Laws.{found_names}
+use Rattle.glob_search.specs.Visiting.{Gift, Found, Unread}
+use Rattle.glob_search.specs.declared.fault.SearchFault.{SearchFault}
+use Rattle.glob_search.specs.declared.fault.SearchFault.TheVariants as fault
+use Rattle.glob_search.specs.declared.found.Found.{Found as FoundPath}
+use Rattle.glob_text.specs.Text.{Text}
+use Rattle.globs.specs.declared.find.searching.Findings.{Findings}
+
+-- the paths that are found
+abbrev pub found_paths : List Gift → List Text
+found_paths gifts = map path_of (filter_map found_names gifts)
+
+-- a directory cannot be listed
+abbrev pub has_unread : List Gift → Bool
+has_unread [] = false
+has_unread (Found names ∷ gifts) = has_unread gifts
+has_unread (Unread names kind ∷ gifts) = true
+
+-- the status: 2 if a directory cannot be listed, else 0 if there is a path, else 1
+abbrev pub search_status : List Gift → ℕ
+search_status gifts = if has_unread gifts then 2 else (if has_any (found_paths gifts) then 0 else 1)
+
+-- With a status other than 2, exactly the paths that are found were written, a record each, in order, and the status says
+-- whether there is one. With the status 2, the first bytes of these were, perhaps all, unless the search heeds files with
+-- rules: one that cannot be read, or has a line that is refused, has no rules.
+unfoldable pub WritesGifts : (end : ℕ) → (heeds : Bool) → List Gift → (old new : Option (List ℕ)) → (status : ℕ) → Type 0
+WritesGifts end heeds gifts old new status =
+    (status ≢ 2 → Appends old new (with_ends end (found_paths gifts)) × (status ≡ search_status gifts))
+    × (status ≡ 2 → heeds ≡ false → AppendsFront old new (with_ends end (found_paths gifts)))
+
+-- the status of what was found
+abbrev pub status_of : Findings → ℕ
+status_of findings = if findings.has_fault then 2 else (if findings.has_path then 0 else 1)
+
+-- the record of what a search gives; a fault has none
+abbrev pub item_record : {A : Type 0} → (end : ℕ) → Result (FoundPath A) (SearchFault A) → List ℕ
+item_record end (Ok found) = ended_record end (string_bytes found.path)
+item_record end (Err e) = []
+
+-- the findings with one more item
+abbrev pub noting : {A : Type 0} → Findings → Result (FoundPath A) (SearchFault A) → Findings
+noting findings (Ok found) = record findings { has_path = true }
+noting findings (Err e) = record findings { has_fault = true }
+
+-- the search ends with this fault; one of a file with rules comes only if it heeds such files
+abbrev pub is_end : {A : Type 0} → (heeds : Bool) → SearchFault A → Bool
+is_end heeds (fault.Unread path e) = false
+is_end heeds (fault.UnreadRules path e) = not heeds
+is_end heeds (fault.RefusedRules path line reason) = not heeds
+is_end heeds fault.Limit = true
+is_end heeds fault.Memory = true
+
+-- it ends with this item
+abbrev pub is_last : {A : Type 0} → (heeds : Bool) → Result (FoundPath A) (SearchFault A) → Bool
+is_last heeds (Ok found) = false
+is_last heeds (Err e) = is_end heeds e

@@ -1,0 +1,231 @@
+//! What a search is asked for.
+ghost use Rattle.std.specs.Prelude.{◌≡◌, ◌++◌, [], List, Option, Some, false, IfOk, OnOk, map, codes, option_map, string_bytes};
+ghost use Rattle.glob_rules.specs.Lists.{rules_of};
+ghost use Rattle.glob_text.specs.Text.{Text};
+ghost use Rattle.globs.specs.Find.Aiming.{IgnoresByList, IsAsked, depth_of, first_lists, git_lists, git_names, heeds, is_ruled, last_lists, lists_of, rule_files, wanted_of};
+
+use crate::find::fault::report_search;
+use crate::options::{Kind, Options};
+use glob_console::ErrorLines;
+use glob_rules::{IgnoreList, RuleRefusal};
+use glob_search::{RuleTexts, SearchFault, Settings, Wanted};
+use glob_tree::ListError;
+use std::alloc::{AllocError, Allocator};
+use std::io::Write;
+
+/// The rules that git heeds beside the files of each directory, from the top of a repository on.
+const EXCLUDE: &str = ".git/info/exclude";
+
+/// The file with rules in each directory that git heeds.
+const GITIGNORE: &str = ".gitignore";
+
+/// The rule for what git keeps to itself.
+const GIT: &str = ".git";
+
+/// Rules that come after those of files in directories, and whether some of them could not be read.
+#[derive(Drop)]
+pub struct LastRules<A: Allocator> {
+    pub lists: Vec<IgnoreList<A>, A>,
+    pub has_fault: bool,
+}
+
+/// What a search is asked for by the options, where `list` has the rules of the command line, and `last` those that come
+/// after the rules of files in directories.
+pub fn settings_of<A: Allocator + Copy>(
+    alloc: A,
+    options: &Options<'_, A>,
+    list: IgnoreList<A>,
+    last: Vec<IgnoreList<A>, A>,
+) -> Result<Settings<A>, AllocError>
+    ensures { IfOk result (IsAsked options.now list last.items) }
+{
+    let settings = options.settings;
+    let first = first_lists(alloc, settings.is_git, is_ruled(options), list)?;
+    Ok(Settings {
+        options: settings.options,
+        depth: depth_of(settings.depth),
+        wanted: wanted_of(settings.kind),
+        kinds: false,
+        limit: settings.limit,
+        first,
+        last,
+        rule_files: rule_files(alloc, options)?,
+    })
+}
+
+/// Whether the search asks for the texts of files with rules.
+pub fn heeds_files<A: Allocator>(options: &Options<'_, A>) -> bool
+    ensures heeds { result ≡ heeds (rule_files options.now) }
+    ensures list { IgnoresByList options.now }
+{
+    options.settings.is_git || !options.rule_files.is_empty()
+}
+
+/// The most names of a path.
+fn depth_of(depth: Option<u64>) -> usize
+    ensures { result ≡ depth_of depth }
+{
+    match depth {
+        Some(depth) => depth as usize,
+        None => usize::MAX,
+    }
+}
+
+/// Which kinds are found.
+fn wanted_of(kind: Kind) -> Wanted
+    ensures { result ≡ wanted_of kind }
+{
+    match kind {
+        Kind::Any => Wanted::All,
+        Kind::File => Wanted::Others,
+        Kind::Directory => Wanted::Directories,
+    }
+}
+
+/// The names of files with rules in each directory. Of two that speak of a path the later decides.
+fn rule_files<A: Allocator + Copy>(
+    alloc: A,
+    options: &Options<'_, A>,
+) -> Result<Vec<String<A>, A>, AllocError>
+    ensures { IfOk result (λ names. map string_bytes names.items ≡ rule_files options.now) }
+{
+    let mut names = git_names(alloc, options.settings.is_git)?;
+    add_names(alloc, options.rule_files.as_slice(), &mut names)?;
+    Ok(names)
+}
+
+/// The lists before those of files in directories: that of the command line comes first. Where it has no rules it is left
+/// out, so that no kinds are asked for it.
+fn first_lists<A: Allocator + Copy>(
+    alloc: A,
+    is_git: bool,
+    is_ruled: bool,
+    list: IgnoreList<A>,
+) -> Result<Vec<IgnoreList<A>, A>, AllocError>
+    ensures { IfOk result (λ lists. lists.items ≡ first_lists is_git is_ruled list) }
+{
+    let mut lists = git_lists(alloc, is_git)?;
+    if !is_ruled {
+        return Ok(lists);
+    }
+    lists.push(list)?;
+    Ok(lists)
+}
+
+/// Whether there are rules on the command line.
+fn is_ruled<A: Allocator>(options: &Options<'_, A>) -> bool
+    ensures { result ≡ is_ruled options.now }
+{
+    !options.files.is_empty() || !options.rules.is_empty()
+}
+
+/// Git's name of files with rules, if git decides.
+fn git_names<A: Allocator + Copy>(alloc: A, is_git: bool) -> Result<Vec<String<A>, A>, AllocError>
+    ensures { IfOk result (λ names. map string_bytes names.items ≡ git_names is_git) }
+{
+    let mut names = Vec::new(alloc);
+    if is_git {
+        names.push(String::from_str(alloc, GITIGNORE)?)?;
+    }
+    Ok(names)
+}
+
+/// Adds names.
+fn add_names<A: Allocator + Copy>(
+    alloc: A,
+    words: &[&str],
+    names: &mut Vec<String<A>, A>,
+) -> Result<(), AllocError>
+    ensures { OnOk result (map string_bytes names.new.items
+        ≡ map string_bytes names.old.items ++ map (λ w. w.now) words.now) }
+{
+    for word in words {
+        let name = String::from_str(alloc, word)?;
+        names.push(name)?;
+    }
+    Ok(())
+}
+
+/// The lists before all others. Where git decides, each `.git` is ignored.
+fn git_lists<A: Allocator + Copy>(
+    alloc: A,
+    is_git: bool,
+) -> Result<Vec<IgnoreList<A>, A>, AllocError>
+    ensures { IfOk result (λ lists. lists.items ≡ git_lists is_git) }
+{
+    let mut lists = Vec::new(alloc);
+    if is_git {
+        let Ok(list) = IgnoreList::new(alloc, GIT) else {
+            return Err(AllocError);
+        };
+        lists.push(list)?;
+    }
+    Ok(lists)
+}
+
+/// The rules that come after those of files in directories. Where they cannot be read there are none, and a line of
+/// `errors` says so.
+pub fn last_rules<A: Allocator + Copy, X: RuleTexts<Alloc = A>, E: Write>(
+    alloc: A,
+    is_git: bool,
+    texts: &mut X,
+    errors: &mut ErrorLines<'_, A, E>,
+) -> Result<LastRules<A>, AllocError>
+    ensures kept { X.texts texts.new ≡ X.texts texts.old }
+    ensures lists { (known : Text → Option Text) → X.texts texts.old ≡ Some known
+        → IfOk result (λ last. last.has_fault ≡ false
+        → last.lists.items ≡ last_lists is_git known) }
+    ensures fault { IfOk result (λ last. is_git ≡ false → last.has_fault ≡ false) }
+{
+    if !is_git {
+        return Ok(LastRules {
+            lists: Vec::new(alloc),
+            has_fault: false,
+        });
+    }
+    match exclude_lists(alloc, texts) {
+        Ok(lists) => Ok(LastRules {
+            lists,
+            has_fault: false,
+        }),
+        Err(fault) => {
+            report_search(fault, true, errors);
+            Ok(LastRules {
+                lists: Vec::new(alloc),
+                has_fault: true,
+            })
+        }
+    }
+}
+
+/// The list of the rules that git heeds beside the files of each directory, if there are any.
+fn exclude_lists<A: Allocator + Copy, X: RuleTexts<Alloc = A>>(
+    alloc: A,
+    texts: &mut X,
+) -> Result<Vec<IgnoreList<A>, A>, SearchFault<A>>
+    ensures kept { X.texts texts.new ≡ X.texts texts.old }
+    ensures lists { (known : Text → Option Text) → X.texts texts.old ≡ Some known
+        → IfOk result (λ lists. lists.items
+        ≡ lists_of (option_map rules_of (known (codes ".git/info/exclude")))) }
+{
+    let mut lists = Vec::new(alloc);
+    let text = match texts.text(EXCLUDE) {
+        Ok(Some(text)) => text,
+        Ok(None) => return Ok(lists),
+        Err(ListError::Read(error)) => {
+            return Err(SearchFault::UnreadRules(String::from_str(alloc, EXCLUDE)?, error));
+        }
+        Err(ListError::Memory) => return Err(SearchFault::Memory),
+    };
+    match IgnoreList::new(alloc, text.as_str()) {
+        Ok(list) => {
+            lists.push(list)?;
+            Ok(lists)
+        }
+        Err(RuleRefusal::Line(line, reason)) => {
+            let path = String::from_str(alloc, EXCLUDE)?;
+            Err(SearchFault::RefusedRules(path, line, reason))
+        }
+        Err(RuleRefusal::Memory) => Err(SearchFault::Memory),
+    }
+}

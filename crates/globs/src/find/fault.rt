@@ -1,0 +1,88 @@
+//! Why a search failed, and the lines about what it could not do.
+ghost use Rattle.std.specs.Prelude.{◌≡◌};
+ghost use Rattle.globs.specs.Find.Writing.{is_end};
+
+use crate::find::strays::UnsettledLine;
+use crate::ignoring::RulesFault;
+use glob_console::ErrorLines;
+use glob_search::SearchFault;
+use std::alloc::{AllocError, AllocFailed, Allocator};
+use std::io::{self, Write};
+
+/// Why a search failed.
+#[derive(Drop)]
+pub enum FindFault {
+    /// Out of memory: an allocation failed.
+    Memory,
+    /// A line could not be written.
+    Write(io::Error),
+}
+
+/// A failed allocation.
+impl From<AllocError> for FindFault {
+    fn from(_error: AllocError) -> FindFault {
+        FindFault::Memory
+    }
+}
+
+/// A failed allocation.
+impl<T: Drop> From<AllocFailed<T>> for FindFault {
+    fn from(_error: AllocFailed<T>) -> FindFault {
+        FindFault::Memory
+    }
+}
+
+/// A line that could not be written.
+impl From<io::Error> for FindFault {
+    fn from(error: io::Error) -> FindFault {
+        FindFault::Write(error)
+    }
+}
+
+impl FindFault {
+    /// Writes the line of the fault, and returns its exit status.
+    pub fn report<A: Allocator + Copy, E: Write>(self, errors: &mut ErrorLines<'_, A, E>) -> u8
+        ensures { result ≡ 2 }
+    {
+        match self {
+            FindFault::Memory => errors.fault("out of memory"),
+            FindFault::Write(error) => errors.write_fault(&error),
+        }
+    }
+}
+
+/// Writes the line about what a search could not do. Returns whether the search ends with that, as it would with a fault
+/// of a file with rules if it heeded none.
+pub fn report_search<A: Allocator + Copy, E: Write>(
+    fault: SearchFault<A>,
+    heeds: bool,
+    errors: &mut ErrorLines<'_, A, E>,
+) -> bool
+    ensures { result ≡ is_end heeds fault }
+{
+    match fault {
+        SearchFault::Unread(path, error) => {
+            errors.write(&UnsettledLine {
+                path: path.as_str(),
+                error: &error,
+            });
+            false
+        }
+        SearchFault::UnreadRules(path, error) => {
+            errors.write(&RulesFault::unread(path.as_str(), error));
+            !heeds
+        }
+        SearchFault::RefusedRules(path, line, reason) => {
+            errors.write(&RulesFault::Refused(path.as_str(), line, reason));
+            !heeds
+        }
+        SearchFault::Limit => {
+            errors.write(&"the limit of -n is reached: the output is incomplete");
+            true
+        }
+        SearchFault::Memory => {
+            errors.write(&"out of memory");
+            true
+        }
+    }
+}
