@@ -7,12 +7,37 @@ set -uo pipefail
 crate=$work/rust
 # Cargo asks no registry.
 export CARGO_NET_OFFLINE=true CARGO_TARGET_DIR=$work/target
-# The folder of the original's sources, if there is one.
-original=$(ls -d /usr/share/cargo/registry/glob-0.3.* 2>/dev/null | tail -1)
+# The folder of the original's sources, if there is one: that of the variable ORIGINAL, or Debian's.
+original=${ORIGINAL-$(ls -d /usr/share/cargo/registry/glob-0.3.* 2>/dev/null | tail -1)}
 
 # The generated files are those of the sources now.
 made_anew() {
     "$root/bin/rust_crate" "$root/crates" "$work/proved" && diff -r "$work/proved" "$root/rust/src/proved"
+}
+
+# Without the exceptions clippy finds exactly what they name, and no other file has any.
+exceptions() {
+    cp -r "$crate" "$work/bare" && sed -i '/^#!\[allow(/d' "$work/bare/src/proved/mod.rs" || return
+    env -C "$work/bare" cargo clippy -q --lib --message-format=json 2>/dev/null | grep -o '"clippy::[a-z_]*"' | tr -d '"' |
+        sort -u >"$work/found"
+    grep '^#!\[allow(' "$crate/src/proved/mod.rs" | grep -o 'clippy::[a-z_]*' | sort -u >"$work/named"
+    [ -s "$work/named" ] && diff "$work/named" "$work/found" &&
+        ! grep -rn 'allow(clippy' "$crate/src" --include='*.rs' | grep -v '/proved/mod.rs:'
+}
+
+# A build for Windows is an error that says why.
+no_windows() {
+    ! rustc --crate-type lib --edition 2021 --cfg windows -A explicit_builtin_cfgs_in_flags --emit metadata \
+        -o "$work/windows" "$crate/src/lib.rs" 2>"$work/why" && grep -q '^error: paths of Windows have prefixes' "$work/why"
+}
+
+# Debian's `rustc-web` is the oldest compiler that is tried, if it is unpacked in the folder OLDEST.
+oldest() {
+    local root=$OLDEST lib=$OLDEST/usr/lib/x86_64-linux-gnu
+    [ "$(LD_LIBRARY_PATH=$lib "$root/usr/bin/rustc" --version | cut -d. -f1,2)" = \
+        "rustc $(sed -n 's/^rust-version = "\(.*\)"/\1/p' "$crate/Cargo.toml")" ] &&
+        env -C "$crate" LD_LIBRARY_PATH="$lib" RUSTC="$root/usr/bin/rustc" RUSTDOC="$root/usr/bin/rustdoc" \
+            CARGO_TARGET_DIR="$work/oldest" "$root/usr/bin/cargo" test -q
 }
 
 # The package is all that a user gets: its tests and examples run in a folder of its own.
@@ -56,19 +81,27 @@ if [ "$(id -u)" = 0 ]; then
 fi
 
 check_with rustfmt 'made anew it is the same' made_anew
+check 'nothing is added to a function' python3 "$root/tests/erased.py"
 if has cargo; then
     "$root/bin/rust_package" "$crate" && chmod -R a+rX "$crate"
     check 'the layout' env -C "$crate" cargo fmt -q --check
     check 'the tests' env -C "$crate" cargo test -q
     [ "${#as[@]}" = 0 ] || check 'the tests as another user' \
         env -C "$crate" cargo test -q --tests --config "target.'cfg(unix)'.runner = '${as[*]}'"
+    check 'a build for Windows' no_windows
+    if [ -n "${OLDEST-}" ]; then
+        check 'the oldest compiler' oldest
+    else
+        left_out 'the oldest compiler, since OLDEST names no folder with it'
+    fi
     check 'the package alone' packed
     check 'the documentation' env -C "$crate" RUSTDOCFLAGS='-D warnings' cargo doc -q
     check_with cargo-clippy 'clippy' env -C "$crate" cargo clippy -q --all-targets -- -D warnings
+    check_with cargo-clippy 'exceptions of clippy' exceptions
     if [ -n "$original" ]; then
         beside_the_original
     else
-        left_out 'what is beside the original crate, since librust-glob-dev is not installed'
+        left_out 'what is beside the original crate, since ORIGINAL is no folder and librust-glob-dev is not installed'
     fi
 else
     left_out 'the tests of the crate, since there is no cargo'

@@ -1,18 +1,18 @@
-"""Changes of a text by places."""
+"""Edits of a text by offsets."""
 
 
 class Edits:
-    """Changes of one text, each from a place to another. Of two that overlap the outer one counts."""
+    """Replacements in one text, each between two offsets. If two overlap, the outer one counts."""
 
     def __init__(self, text):
         self.text, self.changes = text, []
 
     def put(self, start, end, new=""):
-        """`new` in place of what is there."""
+        """Replaces what is between two offsets with `new`."""
         self.changes.append((start, end, new))
 
     def drop(self, start, end):
-        """Drops what is between two places, with its lines where nothing else is on them."""
+        """Deletes what is between two offsets, and whole lines if nothing else is on them."""
         first, last = start, end
         while first > 0 and self.text[first - 1] in " \t":
             first -= 1
@@ -23,7 +23,7 @@ class Edits:
         self.put(start, end)
 
     def result(self, start=0, end=None):
-        """What is between two places then."""
+        """The text between two offsets, after the edits."""
         end = len(self.text) if end is None else end
         inside = sorted((change for change in self.changes if start <= change[0] and change[1] <= end
             and (change[0], change[1]) != (start, end)), key=lambda change: (change[0], -change[1]))
@@ -35,7 +35,7 @@ class Edits:
         return "".join(out) + self.text[at:end]
 
     def without(self, nodes, gone, brackets=None):
-        """Without some nodes of a list that commas part, and without its brackets if all go."""
+        """Deletes some nodes of a comma-separated list, and its brackets if all go."""
         kept = [node for node in nodes if not gone(node)]
         if len(kept) == len(nodes):
             return

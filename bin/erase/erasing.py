@@ -1,16 +1,16 @@
-"""What is erased: contracts and ghost lines, allocators, and failed allocations."""
+"""Erases contracts and ghost lines, allocators, and failed allocations."""
 import re
 
 from .edits import Edits
 from .facts import is_allocator, last, memory_result
 
-# Functions of std that have another name where nothing fails.
+# Functions of std that have another name if they cannot fail.
 RENAMED = {("Vec", "from_slice"): "from", ("String", "from_str"): "from"}
 # Clauses that say when an allocation fails.
 ABOUT_MEMORY = re.compile(r"\bIsOk result\b|\bNoMemory\b|\bOnErr result\b")
 # Functions that Rust has in a trait.
 OF_TRAITS = {"clone", "default", "from_str"}
-# Left to hands: traits that have more methods in Rust.
+# Left to handwritten code: traits that have more methods in Rust.
 BY_HAND = {("Error", "PatternError"), ("Error", "GlobError"), ("Display", "Pattern"), ("Debug", "Pattern"),
     ("Error", "SetRefusal"), ("Error", "BraceSetRefusal")}
 
@@ -24,10 +24,10 @@ class Eraser:
         self.memory_types = [set()]  # allocator types in scope
         self.memory_names = [set()]  # variables that are allocators
         self.copies = [set()]  # parameters that are borrowed or copied
-        self.answers = [set()]  # parameters that are answers of calls that fail for lack of memory alone
+        self.answers = [set()]  # parameters that are results of calls that fail only for lack of memory
         self.owner, self.in_trait, self.of = None, False, None
-        self.heard = set()  # calls that fail for lack of memory alone, whose answers are taken as such
-        self.reasons = set()  # of what else is changed
+        self.heard = set()  # calls that fail only for lack of memory, and whose results are handled so
+        self.reasons = set()  # why something else is changed
 
     def visit(self, node):
         getattr(self, f"visit_{node.kind}", self.visit_parts)(node)
@@ -114,7 +114,7 @@ class Eraser:
                 self.visit(part)
 
     def scope(self, node, inside):
-        """Does what is inside with the allocators that the generic parameters of a node name."""
+        """Runs `inside` with the allocators among the generic parameters of a node in scope."""
         params = node.generics.params if node.generics else []
         self.memory_types.append(self.memory_types[-1] | {param.name for param in params if is_allocator(param)})
         inside()
@@ -161,6 +161,10 @@ class Eraser:
         self.edits.without(node.params, lambda param: is_allocator(param) or is_writer(param), (node.start, node.end))
         for param in node.params:
             self.visit_parts(param)
+
+    def visit_where(self, node):
+        self.edits.without(node.bounds, lambda bound: self.is_memory(bound.type), (node.start, node.end))
+        self.visit_parts(node)
 
     def visit_fn(self, node):
         self.memory_names.append({param.name for param in node.params if param.type and self.in_scope(node, param.type)})
@@ -217,10 +221,13 @@ class Eraser:
         indent = self.text[self.text.rfind("\n", 0, start) + 1:start]
         lines = ["", "<details><summary>Contract</summary>", "", "```text"]
         for clause in node.contracts:
-            if memory_result(node.answer) is not None and ABOUT_MEMORY.search(self.text, clause.start, clause.end):
+            types = [node.answer, *(param.type for param in node.params)]
+            if any(memory_result(kind) is not None for kind in types if kind) \
+                    and ABOUT_MEMORY.search(self.text, clause.start, clause.end):
                 continue
             said = self.text[clause.start:clause.end].split("\n")
             lines += [said[0], *("    " + line.strip() for line in said[1:])]
+        self.facts.stated.add("\n".join(lines[4:]))
         lines += ["```", "", "</details>"]
         self.edits.put(start, start, "".join(f"/// {line}".rstrip() + f"\n{indent}" for line in lines))
 
@@ -279,7 +286,7 @@ class Eraser:
         return node.kind == "method" and node.name == "allocator" and not node.arguments
 
     def fails(self, node):
-        """Whether an expression fails for lack of memory alone."""
+        """Whether an expression fails only for lack of memory."""
         if node.kind == "paren":
             return self.fails(node.parts[0])
         if node.kind == "method":
@@ -304,11 +311,11 @@ class Eraser:
             self.edits.put(node.value.end, node.end)
 
     def hear(self, node):
-        """What becomes of the failure of a call is known."""
+        """Records that the failure of a call is handled."""
         self.heard.add(id(node))
 
     def check(self, node):
-        """Stops where the failure of a call is taken in another way."""
+        """Stops with an error if the failure of a call is handled in another way."""
         name = node.name if node.kind == "method" else last(node.callee)
         if self.fails(node) and id(node) not in self.heard and name not in self.facts.certain:
             raise SystemExit(f"a failed allocation is heard in another way: {self.text[node.start:node.end]}")
@@ -325,7 +332,7 @@ class Eraser:
                 self.unwrap(argument)
 
     def unwrap(self, call):
-        """`x` in place of `Some(x)`."""
+        """Replaces `Some(x)` by `x`."""
         self.edits.put(call.start, call.arguments[0].start)
         self.edits.put(call.arguments[-1].end, call.end)
 
@@ -412,7 +419,7 @@ class Eraser:
             self.edits.put(node.value.end, node.end, ";")
 
     def fill(self, node):
-        """Memory that is filled after it was asked for, in place of memory that is asked for as filled."""
+        """Replaces an allocation of filled memory by one that is filled afterwards."""
         value = node.value.value if node.value and node.value.kind == "try" else node.value
         if value and value.kind == "macro" and value.name == "vec" and value.count:
             if not (self.facts.is_pure(value.count) and self.facts.is_pure(value.arguments[0])):
@@ -433,7 +440,7 @@ class Eraser:
             self.edits.put(node.body.end, node.other.end)
 
     def is_memory_pattern(self, pattern):
-        """Whether a pattern takes a failed allocation alone."""
+        """Whether a pattern matches only a failed allocation."""
         if pattern.kind == "call_pattern" and len(pattern.patterns) == 1 and pattern.segments[-1].name == "Err":
             return self.is_memory_pattern(pattern.patterns[0])
         return pattern.kind == "path_pattern" and len(pattern.segments) > 1 and pattern.segments[-1].name == "Memory"
@@ -473,7 +480,7 @@ class Eraser:
             self.edits.put(pattern.patterns[-1].end, pattern.end)
 
     def is_plain(self, pattern):
-        """Whether a pattern takes all."""
+        """Whether a pattern matches everything."""
         if pattern.kind == "call_pattern" and pattern.segments[-1].name == "Ok":
             return self.is_plain(pattern.patterns[0])
         if pattern.kind == "call_pattern" and len(pattern.segments) > 1:
@@ -484,7 +491,7 @@ class Eraser:
         return pattern.kind in ("bind", "any") and not getattr(pattern, "sub", None)
 
     def one_arm(self, node, arm):
-        """In place of a `match` what its one arm does."""
+        """Replaces a `match` by the body of its only arm."""
         value = self.edits.result(node.value.start, node.value.end)
         pattern = self.edits.result(arm.pattern.start, arm.pattern.end)
         body = self.edits.result(arm.body.start, arm.body.end)
@@ -505,7 +512,7 @@ class Eraser:
             self.splice(node.value)
 
     def splice(self, value):
-        """A `match` of one arm that is a statement needs no braces."""
+        """Removes the braces of a `match` of one arm that is a statement."""
         if getattr(value, "statements", None):
             self.edits.changes = [change for change in self.edits.changes if change[:2] != (value.start, value.end)]
             self.edits.put(value.start, value.end, value.statements)
@@ -524,7 +531,7 @@ def is_unit_ok(node):
 
 
 def mark_answers(body):
-    """Marks what a function answers, so that `Ok(x)` becomes `x`. Returns the answers."""
+    """Marks the results of a function, so that `Ok(x)` becomes `x`. Returns them."""
     return [answer for node in returns(body) if node.value for answer in mark_answer(node.value)] + mark_answer(body)
 
 
@@ -541,7 +548,7 @@ def mark_answer(node, in_arm=False):
 
 
 def is_writer(param):
-    """Whether a generic parameter is what a formatter writes to, which is none of a formatter in Rust."""
+    """Whether a generic parameter is the writer of a formatter, which is not a parameter in Rust."""
     return any(bound.kind == "path_type" and [part.name for part in bound.segments] == ["fmt", "Write"] for bound in param.bounds)
 
 

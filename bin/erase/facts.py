@@ -1,9 +1,9 @@
-"""What the sources say of each other: which functions fail for lack of memory alone, and which errors are little else."""
+"""Facts about all sources together: which functions fail only for lack of memory, and which errors are little else."""
 from .syntax import Node
 
 # What allocates in std: Rattle's returns a `Result`.
-ALLOCATES = {"append", "clone", "extend", "extend_from_slice", "from_slice", "from_str", "push", "push_str", "to_lowercase",
-    "with_capacity"}
+ALLOCATES = {"append", "clone", "extend", "extend_from_slice", "from_slice", "from_str", "insert", "push", "push_str",
+    "to_ascii_lowercase", "to_lowercase", "with_capacity"}
 
 # Expressions that change nothing, and calls that do not.
 PURE = {"path", "segment", "get", "literal", "borrow", "unary", "binary", "cast", "paren", "index"}
@@ -11,12 +11,12 @@ PURE_CALLS = {"as_bytes", "as_slice", "as_str", "checked_add", "checked_mul", "d
 
 
 def last(node):
-    """The last name of a type or path, and of what begins with one."""
+    """The last name of a type or path, or of the path at the start of a node."""
     return node.segments[-1].name if getattr(node, "segments", None) else None
 
 
 def memory_result(node):
-    """Of the type `Result<T, AllocError>` the type `T`, and of others None."""
+    """The type `T` of `Result<T, AllocError>`, and None for other types."""
     if last(node) == "Result" and node.segments[-1].arguments:
         types = node.segments[-1].arguments.types
         if len(types) == 2 and last(types[1]) == "AllocError":
@@ -31,12 +31,13 @@ class Facts:
         self.fails = {(kind, name): True for kind in ("Vec", "String") for name in ALLOCATES}
         self.fails["Box", "new"] = True
         self.memory_fields = set()  # fields that are allocators
-        self.wrappers = {}  # of errors that are another error or a failed allocation: its variant, and that one's type
-        self.hearers = set()  # functions whose arguments are such answers
+        self.wrappers = {}  # errors that wrap an error or a failed allocation: that variant, and the wrapped type
+        self.hearers = set()  # functions whose arguments are results of such calls
         self.copies = set()  # types that are copied
-        self.changing = set()  # methods of which some change what they are called on, or an argument
+        self.stated = set()  # contracts that are in the documentation
+        self.changing = set()  # methods, some of which change their receiver or an argument
         self.methods = set()
-        self.certain = set()  # functions of which some return what cannot fail
+        self.certain = {"to_ascii_lowercase"}  # functions of which some, as that of a character, return what cannot fail
         for tree in files:
             self.read(tree, None)
 
@@ -72,12 +73,13 @@ class Facts:
                 raise SystemExit(f"{node.name}: functions of this name fail in several ways")
 
     def is_pure(self, node):
-        """Whether an expression changes nothing, so that it may go, or be evaluated twice."""
-        return all(part.kind in PURE or part.kind == "method" and (part.name in PURE_CALLS
-            or part.name in self.methods - self.changing) for part in node.walk())
+        """Whether an expression has no side effects, so that it may go or be evaluated twice."""
+        return all(part.kind in PURE or part.kind == "method" and part.name in PURE_CALLS
+            or part.kind in ("method", "call") and (part.name if part.kind == "method" else last(part.callee))
+            in self.methods - self.changing for part in node.walk())
 
     def call_fails(self, kind, name, is_method):
-        """Whether a call fails for lack of memory alone."""
+        """Whether a call fails only for lack of memory."""
         if is_method or kind and not kind[0].isupper():
             kinds = {fails for (of, known), fails in self.fails.items() if known == name and (of is None) != is_method}
         else:

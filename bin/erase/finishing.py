@@ -1,4 +1,5 @@
-"""What is left of the sources, as modules of one crate: impls of Rust's traits, paths, imports, and nothing that is dead."""
+"""Makes the erased sources modules of one crate: with impls of Rust's traits, paths and imports, and without dead
+code."""
 import re
 from collections import Counter
 
@@ -27,7 +28,7 @@ def owned(tree, owner=None, in_trait=False):
 
 
 def names_in(parser, node):
-    """How often each name is in the code of a node, also in texts as those of `format!`, and not as that of a field."""
+    """How often each name is in the code of a node, including format strings, and not counting names of fields."""
     found, before = Counter(), ""
     for token in parser.tokens:
         if node.start <= token.start < node.end:
@@ -64,7 +65,8 @@ def heads_of(parser):
 # In one file
 
 def with_traits(text):
-    """With functions that are of a trait in Rust in an `impl` of that, at the end, and neighbouring `impl`s as one."""
+    """The text with functions that belong to a trait in Rust moved into an `impl` of it, at the end, and with adjacent
+    `impl`s joined."""
     parser = parsed(text)
     edits, traits = Edits(text), []
     last_block = None
@@ -94,7 +96,7 @@ def with_traits(text):
 
 
 class Crate:
-    """The files by crate and name. `hand`: the files that are by hand."""
+    """The files by crate and name. `hand` are the handwritten files."""
 
     def __init__(self, texts, crates, hand, facts):
         self.texts, self.crates, self.facts = texts, crates, facts
@@ -107,11 +109,12 @@ class Crate:
         self.wrappers = {name: [part.name for part in kind.segments] for name, (_, kind) in facts.wrappers.items()}
 
     def without_dead(self):
-        """Without parameters, fields and items that nothing reads, until there are none."""
+        """Removes parameters, fields and items that nothing reads, until none are left."""
         while True:
             files = {key: parsed(text) for key, text in self.texts.items()}
             edits = {key: Edits(text) for key, text in self.texts.items()}
             self.parameters(files, edits)
+            self.flags(files, edits)
             self.fields(files, edits)
             self.items(files, edits)
             made = {key: one.result() for key, one in edits.items()}
@@ -121,7 +124,7 @@ class Crate:
             self.texts = made
 
     def parameters(self, files, edits):
-        """Without parameters that contracts alone read, and variables and generic parameters that go with them."""
+        """Removes parameters that only contracts read, and the variables and generic parameters that go with them."""
         gone, heads = {}, Counter()
         for parser in files.values():
             for node, owner in owned(parser.tree):
@@ -154,7 +157,7 @@ class Crate:
                         self.variables(parser, part, edits[key])
 
     def without_pure(self, edits, nodes, gone):
-        """Without some expressions, which have to change nothing."""
+        """Removes some expressions, which must have no side effects."""
         for node in nodes:
             value = getattr(node, "value", None) if node.kind == "field_value" else node
             if gone(node) and value and not self.facts.is_pure(value):
@@ -170,7 +173,7 @@ class Crate:
                 (node.generics.start, node.generics.end))
 
     def variables(self, parser, block, edits):
-        """Without variables that nothing reads and that no call makes but one that borrows."""
+        """Removes variables that nothing reads and whose value comes from no call, except one that borrows."""
         named = names_in(parser, block)
         for statement in block.statements:
             if statement.kind == "let" and statement.pattern.kind == "bind" and named[statement.pattern.name] == 1 \
@@ -182,7 +185,7 @@ class Crate:
                         edits.put(part.start, part.end, "_")
 
     def fields(self, files, edits):
-        """Without fields that nothing reads, and variants that nothing makes."""
+        """Removes fields that nothing reads, and variants that nothing constructs."""
         gone = set()
         for key, parser in files.items():
             for node in parser.tree.walk():
@@ -209,15 +212,61 @@ class Crate:
                         start, end = parser.with_comments(part)
                         edits[key].drop(start, end + (parser.source[end:end + 1] == ","))
 
+    def flags(self, files, edits):
+        """Removes flags that only a failed allocation sets: private fields that are made `false` and never assigned,
+        with the function that returns one and each `if` that only asks that."""
+        for key, parser in files.items():
+            for node in parser.tree.items:
+                for field in node.fields if node.kind == "struct" else []:
+                    if field.kind == "field" and not field.visible and last(field.type) == "bool":
+                        self.flag(node.name, field, self.seen(key, field, files), files, edits)
+
+    def flag(self, kind, field, seen, files, edits):
+        """Removes one flag, if nothing else is done with it than `flags` says."""
+        made, getters, others = [], [], 0
+        for key in seen:
+            for node, owner in owned(files[key].tree):
+                parts = list(node.walk()) if node.kind == "fn" else []
+                made += [(key, part, field_value) for part in parts if part.kind == "struct_value"
+                    and (owner if last(part) == "Self" else last(part)) == kind
+                    for field_value in part.fields if field_value.name == field.name]
+                got = sum(part.kind in ("get", "field_pattern") and part.name == field.name for part in parts)
+                if got and owner == kind and is_getter(node, field.name):
+                    getters.append((key, node))
+                else:
+                    others += got
+        is_false = all(last(value.value) == "false" for _, _, value in made if value.value) \
+            and all(value.value for _, _, value in made)
+        if not made or not is_false or others or len(getters) != 1:
+            return
+        (key, getter), = getters
+        calls = [part for parser in files.values() for part in parser.tree.walk()
+            if part.kind == "method" and part.name == getter.name]
+        tests = [(at, part) for at, parser in files.items() for part in parser.tree.walk() if part.kind == "if"
+            and not part.other and any(part.test is call and self.facts.is_pure(call.value) for call in calls)]
+        if len(tests) != len(calls) or sum(node.kind == "fn" and node.name == getter.name
+                for parser in files.values() for node, _ in owned(parser.tree)) != 1:
+            return
+        for at, test in tests:
+            edits[at].drop(test.start, test.end)
+        for at, value, part in made:
+            edits[at].without(value.fields, lambda one: one is part)
+        edits[key].drop(*files[key].with_comments(getter))
+        start, end = files[seen[0]].with_comments(field)
+        edits[seen[0]].drop(start, end + (files[seen[0]].source[end:end + 1] == ","))
+
     def seeing(self, key, field, files):
         """The files that may read a field."""
-        if field.visible:
-            return files.values()
+        return [files[other] for other in self.seen(key, field, files)]
+
+    def seen(self, key, field, files):
+        """The keys of these files, that of the field's own first."""
         folder = key[1][:-3] + "/"
-        return [parser for other, parser in files.items() if other == key or other[0] == key[0] and other[1].startswith(folder)]
+        return [key] + [other for other in files if other != key
+            and (field.visible or other[0] == key[0] and other[1].startswith(folder))]
 
     def arm(self, parser, arm, edits, gone):
-        """Without an arm for what is gone, and without names in its pattern that it does not read."""
+        """Removes an arm for what is gone, or the names in its pattern that it does not read."""
         pattern = arm.pattern
         if pattern.kind in ("path_pattern", "call_pattern") and len(pattern.segments) > 1 \
                 and tuple(segment.name for segment in pattern.segments[-2:]) in gone:
@@ -229,7 +278,7 @@ class Crate:
                 edits.put(part.start, part.end, f"{part.name}: _")
 
     def items(self, files, edits):
-        """Without functions that none of those that stay names, and types and constants that nothing names."""
+        """Removes functions that no remaining function names, and types and constants that nothing names."""
         live, found, bodies = set(), {(None, name) for name in self.exports(files)}, {}
         count = sum((names_of(parser) for parser in files.values()), Counter())
         for parser in files.values():
@@ -252,12 +301,12 @@ class Crate:
                     edits[key].drop(*parser.with_comments(node))
 
     def exports(self, files):
-        """The names that modules export which files by hand export whole."""
+        """The names exported by modules that handwritten files export as a whole."""
         return {path[-1] for key, parser in files.items() if self.is_inside(key) for item in parser.tree.walk()
             if item.kind == "use" and item.visible for path, _ in flat(item.tree, [])}
 
     def is_inside(self, key):
-        """Whether a file is in a module that files by hand import."""
+        """Whether a file is in a module that handwritten files import."""
         inside = self.module(key)
         return any(inside[:end] in self.from_hand for end in range(2, len(inside) + 1))
 
@@ -309,8 +358,10 @@ class Crate:
         for path, alias in flat(item.tree, []):
             if path[-1] in self.wrappers:
                 path = path[:-1] + self.wrappers[path[-1]]
+            if "io" in path[1:-1]:
+                path = ["std", "io"]
             name = alias or (path[-2] if path[-1] == "self" else path[-1])
-            if name in seen or "io" in path[1:-1] or not self.is_kept(name, path, public, key, used):
+            if name in seen or not self.is_kept(name, path, public, key, used):
                 continue
             seen.add(name)
             if path[0] == "crate" or path[0] in self.crates:
@@ -348,7 +399,7 @@ class Crate:
 
 
 def key_of(function, owner):
-    """A function by the type that it is of, where it is one, and by its name; a method by its name."""
+    """The key of a function: its type, if it has one, and its name; for a method only its name."""
     return "self" if takes_self(function) else owner, function.name
 
 
@@ -366,17 +417,24 @@ def named_functions(node, owner):
 
 
 def called(node, owner):
-    """The type of the function that a call names, if it is one of a type, and its name."""
+    """The type of the function that a call names, if it has one, and its name."""
     names = [segment.name for segment in node.callee.segments] if node.callee.kind == "path" else [None]
     kind = names[-2] if len(names) > 1 and names[-2][:1].isupper() else None
     return owner if kind == "Self" else kind, names[-1]
 
 
 def reads(tree, kind, name):
-    """Whether a file reads a field of a type, as far as names tell."""
+    """Whether a file reads a field of a type, judging by names only."""
     return any(part.name == name and (part.kind == "field_pattern" or part.kind == "get" and not (
         owner != kind and part.value.kind == "path" and part.value.segments[0].name == "self"))
         for node, owner in owned(tree) if node.kind == "fn" for part in node.walk() if part.kind in ("get", "field_pattern"))
+
+
+def is_getter(function, name):
+    """Whether a function only returns a field of its receiver."""
+    body = function.body
+    return body is not None and not body.statements and body.tail is not None and body.tail.kind == "get" \
+        and body.tail.name == name and body.tail.value.kind == "path" and last(body.tail.value) == "self"
 
 
 def takes_self(function):
@@ -384,12 +442,12 @@ def takes_self(function):
 
 
 def named(names):
-    """What a `use` names behind its path."""
+    """The names at the end of a `use`."""
     return names[0] if len(names) == 1 and names[0] != "self" else f"{{{', '.join(names)}}}"
 
 
 def unread_places(parser, function):
-    """The places of parameters that the body does not name."""
+    """The indices of parameters that the body does not name."""
     named = names_in(parser, function.body)
     params = [param for param in function.params if not param.is_self]
     return [place for place, param in enumerate(params)
@@ -397,7 +455,7 @@ def unread_places(parser, function):
 
 
 def flat(tree, front):
-    """The paths that a `use` names, with other names of them."""
+    """The paths that a `use` names, with their aliases."""
     path = front + tree.path
     if tree.trees is None:
         yield path, tree.alias

@@ -1,4 +1,4 @@
-"""The grammar of sources: items, types, patterns and expressions as nodes with their places."""
+"""The grammar of sources: items, types, patterns and expressions as nodes with their offsets."""
 from .tokens import tokens
 
 BINARY = {"||": 1, "&&": 2, "==": 3, "!=": 3, "<": 3, ">": 3, "<=": 3, ">=": 3, "|": 4, "^": 5, "&": 6, "<<": 7, ">>": 7,
@@ -6,19 +6,19 @@ BINARY = {"||": 1, "&&": 2, "==": 3, "!=": 3, "<": 3, ">": 3, "<=": 3, ">=": 3, 
 ASSIGN = {"=", "+=", "-=", "*=", "/=", "%=", "^=", "&=", "|=", "<<=", ">>="}
 # Expressions that end a statement without a semicolon.
 BLOCKS = {"{", "if", "match", "while", "loop", "for"}
-# Macros, of which all arguments are expressions but for a pattern.
+# Macros whose arguments are all expressions, except for a pattern.
 PATTERN_MACROS = {"matches"}
 
 
 class Node:
-    """A piece of a source: its kind, its place, and its parts by name."""
+    """A piece of a source: its kind, its offsets, and its parts by name."""
 
     def __init__(self, kind, start, **parts):
         self.kind, self.start, self.end = kind, start, start
         self.__dict__.update(parts)
 
     def children(self):
-        """The nodes that are parts of it, in no order."""
+        """The nodes that are its parts, in any order."""
         for part in list(vars(self).values()):
             if isinstance(part, Node):
                 yield part
@@ -26,14 +26,14 @@ class Node:
                 yield from (piece for piece in part if isinstance(piece, Node))
 
     def walk(self):
-        """It and all nodes in it."""
+        """The node and all nodes in it."""
         yield self
         for child in self.children():
             yield from child.walk()
 
 
 class Parser:
-    """Reads one source. `items` are those of the file."""
+    """Parses one source. `items` are the items of the file."""
 
     def __init__(self, source):
         self.source = source
@@ -42,7 +42,7 @@ class Parser:
         self.at = 0
 
     def with_comments(self, node):
-        """The place of an item with the comments before it."""
+        """The offset of an item, including the comments before it."""
         start = node.start
         for token in reversed([token for token in self.all if token.end <= node.start]):
             if token.kind != "comment" or token.text.startswith("//!") or self.source[token.end:start].count("\n") > 1:
@@ -64,7 +64,7 @@ class Parser:
         return self.tokens[self.at].start if self.at < len(self.tokens) else len(self.source)
 
     def take(self, *texts):
-        """The next token's text if it is one of these, or any where none is named."""
+        """Takes the next token if its text is one of these, or any token if none are named, and returns its text."""
         if texts and (self.peek() not in texts or self.kind() in ("text", "char")):
             return ""
         self.at += 1
@@ -77,7 +77,7 @@ class Parser:
         return text
 
     def split(self, text):
-        """Where the next token begins with `text`, as `>>` does with `>`: parts it."""
+        """Splits the next token after `text`, if it begins with that, as `>>` does with `>`."""
         token = self.tokens[self.at]
         if token.kind == "mark" and token.text != text and token.text.startswith(text):
             cut = token.start + len(text)
@@ -89,7 +89,7 @@ class Parser:
         return node
 
     def listed(self, one, close, between=","):
-        """What `one` reads, parted by commas, up to a bracket, which is taken."""
+        """A list of what `one` parses, separated by commas, up to a closing bracket, which is taken too."""
         found = []
         while True:
             self.split(close)
@@ -126,7 +126,7 @@ class Parser:
         return self.done(node)
 
     def skip_to(self, close):
-        """Past the bracket that closes one that was taken."""
+        """Skips past the bracket that closes the one taken last."""
         pairs = {"(": ")", "[": "]", "{": "}"}
         while not self.take(close):
             opened = self.take()
@@ -559,7 +559,7 @@ class Parser:
         return self.done(node)
 
     def statements(self):
-        """What a file is whose lines are those of a block."""
+        """Parses a file whose lines are those of a block."""
         node = Node("block", 0, statements=[], tail=None)
         while self.at < len(self.tokens):
             self.statement(node)
@@ -600,7 +600,7 @@ class Parser:
         return node
 
     def expression(self, bare=False, statement=False, least=0):
-        """One expression. `bare`: none that begins a struct, as before a block."""
+        """Parses one expression. `bare` excludes struct literals, as before a block."""
         start = self.here()
         if self.peek() in ("..", "..="):
             self.take()

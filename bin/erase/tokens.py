@@ -1,4 +1,4 @@
-"""The tokens of a source: Rust's, and contracts and ghost lines as a token each."""
+"""The tokens of a source: those of Rust, with each contract and each ghost line as one token."""
 import re
 from typing import NamedTuple
 
@@ -22,7 +22,7 @@ class Token(NamedTuple):
 
 
 def tokens(source):
-    """The tokens, without spaces; comments are among them. A contract is `requires` or `ensures` with all of its braces."""
+    """The tokens, without spaces but with comments. A contract is `requires` or `ensures` with all its braces."""
     found, at = [], 0
     while at < len(source):
         part = TOKEN.match(source, at)
@@ -40,7 +40,7 @@ def tokens(source):
 
 
 def closed(source, at):
-    """The place after the brace that closes the one at a place. In contracts a brace is always a bracket."""
+    """The offset after the brace that closes the one at an offset. In contracts every brace is a bracket."""
     level = 0
     for place in range(at, len(source)):
         level += (source[place] == "{") - (source[place] == "}")
@@ -53,7 +53,7 @@ GHOST = re.compile(r"ghost\s+(use\s[^;]*;|\w+\s*[=:]\s*\{)")
 
 
 def ghost_end(source, at):
-    """The place after the `;` or `,` that ends a ghost line."""
+    """The offset after the `;` or `,` that ends a ghost line."""
     if not GHOST.match(source, at):
         raise SyntaxError(f"a ghost of another form: {source[at:at + 40]!r}")
     while source[at] not in ";,":

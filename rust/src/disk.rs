@@ -1,8 +1,10 @@
 //! The file system as a tree, and walks over it.
 
 use std::error::Error;
+use std::ffi::OsString;
 use std::fs::{self, DirEntry};
 use std::io;
+use std::path::Path;
 
 use crate::walk::{glob_in, Entry, Look, Name, Tree};
 use crate::Paths;
@@ -21,8 +23,16 @@ use crate::{GlobError, MatchOptions, PatternError};
 /// assert_eq!(cadmiumdove::glob("Cargo.tom?").unwrap().count(), 1);
 /// ```
 ///
+/// # Errors
+///
 /// The error is the first fault of the whole pattern, or else of a component. Its place is in characters from the start
 /// of that.
+///
+/// <details><summary>Tested</summary>
+///
+/// `tests/walks.rs`, which passes over `glob` too.
+///
+/// </details>
 pub fn glob(pattern: &str) -> Result<Paths, PatternError> {
     glob_with(pattern, MatchOptions::new())
 }
@@ -37,8 +47,16 @@ pub fn glob(pattern: &str) -> Result<Paths, PatternError> {
 /// assert_eq!(glob_with("cargo.TOM[l]", options).unwrap().count(), 1);
 /// ```
 ///
+/// # Errors
+///
 /// The error is the first fault of the whole pattern, or else of a component. Its place is in characters from the start
 /// of that.
+///
+/// <details><summary>Tested</summary>
+///
+/// `options` in `tests/walks.rs`, which passes over `glob` too.
+///
+/// </details>
 pub fn glob_with(pattern: &str, options: MatchOptions) -> Result<Paths, PatternError> {
     glob_in(Disk::new(), pattern, options, u64::MAX)
 }
@@ -47,7 +65,16 @@ pub fn glob_with(pattern: &str, options: MatchOptions) -> Result<Paths, PatternE
 /// unless [`follow_links`](Disk::follow_links) says otherwise.
 ///
 /// The kinds of entries come with the listing of their directory, and only a symbolic link is looked up. An entry whose
-/// name is not UTF-8 is left out.
+/// name is not UTF-8 is left out; a [`Search`](crate::search::Search) that begins on the file system reports it.
+///
+/// ```
+/// use cadmiumdove::walk::{glob_in, Disk};
+/// use cadmiumdove::MatchOptions;
+///
+/// let links_stay = Disk::new().follow_links(false);
+/// assert!(glob_in(links_stay, "src/**/*.rs", MatchOptions::new(), u64::MAX)?.count() > 0);
+/// # Ok::<(), cadmiumdove::PatternError>(())
+/// ```
 #[derive(Clone, Copy, Debug, PartialEq, Eq)]
 pub struct Disk {
     follow_links: bool,
@@ -55,6 +82,12 @@ pub struct Disk {
 
 impl Disk {
     /// The file system, whose symbolic links are followed.
+    ///
+    /// <details><summary>Tested</summary>
+    ///
+    /// `tests/walks.rs` and `tests/bytes.rs`: what a walk over it finds.
+    ///
+    /// </details>
     pub const fn new() -> Self {
         Disk { follow_links: true }
     }
@@ -62,6 +95,12 @@ impl Disk {
     /// Whether symbolic links are followed. One that is not is no directory, so that a walk by `**` does not enter it,
     /// ends on a cycle of links, and finds nothing by `link/*`. A path through a link is followed all the same, as
     /// `link/a`.
+    ///
+    /// <details><summary>Tested</summary>
+    ///
+    /// `links_may_be_left_alone` in `tests/beside.rs`.
+    ///
+    /// </details>
     pub const fn follow_links(self, follow_links: bool) -> Self {
         Disk { follow_links }
     }
@@ -70,20 +109,45 @@ impl Disk {
     fn is_dir(self, entry: &DirEntry) -> bool {
         match entry.file_type() {
             Ok(kind) if !kind.is_symlink() => kind.is_dir(),
-            Ok(_) if !self.follow_links => false,
-            Err(_) if !self.follow_links => entry.metadata().is_ok_and(|metadata| metadata.is_dir()),
+            _ if !self.follow_links => false,
             _ => fs::metadata(entry.path()).is_ok_and(|metadata| metadata.is_dir()),
         }
     }
 
+    /// What is at a path.
+    pub(crate) fn look_at(self, path: &Path) -> Look {
+        match fs::symlink_metadata(path) {
+            Ok(metadata) if metadata.is_symlink() && self.follow_links => match fs::metadata(path) {
+                Ok(metadata) if metadata.is_dir() => Look::Dir,
+                _ => Look::Other,
+            },
+            Ok(metadata) if metadata.is_dir() => Look::Dir,
+            Ok(_) => Look::Other,
+            Err(_) => Look::Missing,
+        }
+    }
+
     /// The entries of a directory, with their kinds or without.
-    fn entries(self, path: &str, kinds: bool) -> io::Result<Vec<Entry>> {
+    fn entries(self, path: &Path, kinds: bool) -> io::Result<Vec<Entry>> {
+        self.entries_and(path, kinds, |_stray| ())
+    }
+
+    /// The entries of a directory, with their kinds or without. Names that are not UTF-8 go to a function.
+    pub(crate) fn entries_and(
+        self,
+        path: &Path,
+        kinds: bool,
+        mut stray: impl FnMut(OsString),
+    ) -> io::Result<Vec<Entry>> {
         let mut entries = Vec::new();
         for entry in fs::read_dir(path)? {
             let entry = entry?;
-            let is_dir = kinds && self.is_dir(&entry);
-            if let Some(name) = entry.file_name().into_string().ok().and_then(|name| Name::new(name).ok()) {
-                entries.push(Entry { name, is_dir });
+            match entry.file_name().into_string() {
+                Ok(name) => {
+                    let is_dir = kinds && self.is_dir(&entry);
+                    entries.extend(Name::new(name).ok().map(|name| Entry { name, is_dir }));
+                }
+                Err(name) => stray(name),
             }
         }
         Ok(entries)
@@ -98,24 +162,15 @@ impl Default for Disk {
 
 impl Tree for Disk {
     fn look(&mut self, path: &str) -> Look {
-        let found = fs::symlink_metadata(path);
-        match found {
-            Ok(metadata) if metadata.is_symlink() && self.follow_links => match fs::metadata(path) {
-                Ok(metadata) if metadata.is_dir() => Look::Dir,
-                _ => Look::Other,
-            },
-            Ok(metadata) if metadata.is_dir() => Look::Dir,
-            Ok(_) => Look::Other,
-            Err(_) => Look::Missing,
-        }
+        self.look_at(path.as_ref())
     }
 
     fn list(&mut self, path: &str) -> io::Result<Vec<Entry>> {
-        self.entries(path, true)
+        self.entries(path.as_ref(), true)
     }
 
     fn list_names(&mut self, path: &str) -> io::Result<Vec<Entry>> {
-        self.entries(path, false)
+        self.entries(path.as_ref(), false)
     }
 }
 
@@ -126,7 +181,6 @@ impl Error for GlobError {
         self.error().description()
     }
 
-    #[allow(deprecated)]
     fn cause(&self) -> Option<&dyn Error> {
         Some(self.error())
     }

@@ -49,6 +49,12 @@ impl IgnoreList {
     /// assert_eq!(refused[0].to_string(), IgnoreList::new("*.o\n[é]\ntarget/\n").unwrap_err().to_string());
     /// assert_eq!(list.deciding_rule("target", true).map(|rule| rule.line), Some(3));
     /// ```
+    ///
+    /// <details><summary>Tested</summary>
+    ///
+    /// `refused_lines_are_passed_over` in `tests/beside.rs`.
+    ///
+    /// </details>
     pub fn lenient(text: &str) -> (Self, Vec<RuleRefusal>) {
         let (mut kept, mut refused) = (String::new(), Vec::new());
         for (number, line) in text.split_inclusive('\n').enumerate() {

@@ -16,8 +16,8 @@
 //! ```
 //!
 //! Beside it, each in a module of its own: walks with a limit, over any tree, or that ask their caller ([`walk`]), sets
-//! of patterns ([`set`]), the rules of ignore files ([`ignore`]), walks that leave out what such say ([`prune`]), the
-//! pieces of a text that a pattern's wildcards take, and how far a text matches ([`captures`](mod@captures)).
+//! of patterns ([`set`]), the rules of ignore files ([`ignore`]), searches by many patterns that heed such files
+//! ([`search`]), the pieces of a text that a pattern's wildcards take, and how far a text matches ([`captures`](mod@captures)).
 //! [`tutorial`] takes one sitting, and [`recipes`] has an example for each task.
 //!
 //! What matches and what goes from path to path is made from sources in which every function is proved to do what its
@@ -26,7 +26,7 @@
 //! proportion to the tokens of the pattern times the characters of the text; and nothing here calls itself.
 
 #![forbid(unsafe_code)]
-#![warn(missing_debug_implementations, missing_docs)]
+#![warn(missing_debug_implementations, missing_docs, clippy::missing_errors_doc)]
 
 #[cfg(windows)]
 compile_error!("paths of Windows have prefixes and `\\`, which no pattern of this crate knows");
@@ -36,11 +36,12 @@ mod disk;
 mod lanes;
 mod pattern;
 mod proved;
+mod search_errors;
 mod traits;
 
 pub mod captures;
 pub mod ignore;
-pub mod prune;
+pub mod search;
 pub mod set;
 pub mod walk;
 
@@ -55,4 +56,10 @@ pub use proved::glob_pattern::{MatchOptions, Pattern, PatternError, PatternError
 pub use proved::glob_walk::{GlobError, GlobResult};
 
 /// The items of a walk over the file system.
+///
+/// ```
+/// let mut paths: cadmiumdove::Paths = cadmiumdove::glob("Cargo.tom?")?;
+/// assert_eq!(paths.next().unwrap().unwrap().to_str(), Some("Cargo.toml"));
+/// # Ok::<(), cadmiumdove::PatternError>(())
+/// ```
 pub type Paths = walk::Paths<walk::Disk>;

@@ -25,7 +25,7 @@
 //! # Ok::<(), cadmiumdove::set::SetRefusal>(())
 //! ```
 //!
-//! As an exclusion of [`Pruned`](crate::prune::Pruned) a pattern is of paths without a `/` at their end: `**/target`, and not
+//! [`Search::exclude`](crate::search::Search::exclude) leaves out what a set matches: `**/target`, and not
 //! `**/target/**`, leaves out the directory, and all below it.
 //!
 //! Braces are short for their alternatives:
@@ -49,7 +49,8 @@ use crate::MatchOptions;
 
 impl PatternSet {
     /// [`new`](Self::new) of the patterns that are parsed from the texts, in their order. The texts may be an array, a
-    /// `&[String]`, the lines of a file, or what else gives `&str` or `String`.
+    /// `&[String]`, the lines of a file, or what else gives `&str` or `String`. Each text is a pattern as it is: the
+    /// empty one matches only the empty text, `#` and `!` are characters, and spaces are kept.
     ///
     /// ```
     /// use cadmiumdove::set::PatternSet;
@@ -65,8 +66,21 @@ impl PatternSet {
     /// # Ok::<(), cadmiumdove::set::SetRefusal>(())
     /// ```
     ///
+    /// # Errors
+    ///
     /// The error is [`Syntax`](SetRefusal::Syntax) with the number, counted from 0, and the fault of the first text
     /// that is no pattern.
+    ///
+    /// <details><summary>Contract</summary>
+    ///
+    /// ```text
+    /// ensures set { IfOk result
+    ///     (λ set. set ≡ record { patterns = map (λ t. t.now) texts.now; options = options }) }
+    /// ensures accepted { IfOk result (λ _. AreAccepted (map (λ t. t.now) texts.now)) }
+    /// ensures refused { IfErr result (RefusesTexts (map (λ t. t.now) texts.now)) }
+    /// ```
+    ///
+    /// </details>
     pub fn from_texts<I, T>(texts: I, options: MatchOptions) -> Result<Self, SetRefusal>
     where
         I: IntoIterator<Item = T>,
@@ -77,8 +91,8 @@ impl PatternSet {
     }
 
     /// [`new`](Self::new) of all alternatives of all texts, those of the first text first, as
-    /// [`expand`](braces::expand) returns them. The texts may be what [`from_texts`](Self::from_texts) takes. Numbers
-    /// of patterns count alternatives, and those of errors texts.
+    /// [`expand`](braces::expand) returns them. The texts may be what [`from_texts`](Self::from_texts) takes, and are
+    /// read as there but for braces. Numbers of patterns count alternatives, and those of errors texts.
     ///
     /// ```
     /// use cadmiumdove::set::PatternSet;
@@ -92,9 +106,24 @@ impl PatternSet {
     /// # Ok::<(), cadmiumdove::set::BraceSetRefusal>(())
     /// ```
     ///
+    /// # Errors
+    ///
     /// The error is of the first text that has a fault: [`Braces`](BraceSetRefusal::Braces) if its braces are not
     /// closed or stand for more than [`MOST_ALTERNATIVES`](braces::MOST_ALTERNATIVES), and
     /// [`Pattern`](BraceSetRefusal::Pattern) if one of its alternatives is no pattern.
+    ///
+    /// <details><summary>Contract</summary>
+    ///
+    /// ```text
+    /// ensures alternatives { IfOk result
+    ///     (λ set. AreAlternativesOf (map (λ t. t.now) texts.now) set.patterns) }
+    /// ensures options { IfOk result (λ set. set.options ≡ options) }
+    /// ensures matches { IfOk result (λ set. (text : List ℕ) → AnyMatch options set.patterns text
+    ///     ↔ AnyAlternativeMatches options (map (λ t. t.now) texts.now) text) }
+    /// ensures refused { IfErr result (RefusesBraceTexts (map (λ t. t.now) texts.now)) }
+    /// ```
+    ///
+    /// </details>
     pub fn from_braces<I, T>(texts: I, options: MatchOptions) -> Result<Self, BraceSetRefusal>
     where
         I: IntoIterator<Item = T>,
@@ -116,6 +145,12 @@ impl PatternSet {
     /// assert!(set.matches("b.h").is_empty());
     /// # Ok::<(), cadmiumdove::set::SetRefusal>(())
     /// ```
+    ///
+    /// <details><summary>Tested</summary>
+    ///
+    /// `sets` in `tests/sets.rs`, with the proved calls.
+    ///
+    /// </details>
     pub fn matches(&self, text: &str) -> Vec<usize> {
         let mut numbers = Vec::new();
         self.matches_into(text, &mut numbers);
@@ -123,16 +158,34 @@ impl PatternSet {
     }
 
     /// [`is_match`](Self::is_match) of the path's text. A path that is not UTF-8 is never matched.
+    ///
+    /// <details><summary>Tested</summary>
+    ///
+    /// `sets` and `a_set_matches_no_path_that_is_no_text` in `tests/sets.rs`.
+    ///
+    /// </details>
     pub fn is_match_path(&self, path: impl AsRef<Path>) -> bool {
         path.as_ref().to_str().is_some_and(|text| self.is_match(text))
     }
 
     /// [`first_match`](Self::first_match) of the path's text. A path that is not UTF-8 is never matched.
+    ///
+    /// <details><summary>Tested</summary>
+    ///
+    /// `sets` and `a_set_matches_no_path_that_is_no_text` in `tests/sets.rs`.
+    ///
+    /// </details>
     pub fn first_match_path(&self, path: impl AsRef<Path>) -> Option<usize> {
         self.first_match(path.as_ref().to_str()?)
     }
 
     /// [`last_match`](Self::last_match) of the path's text. A path that is not UTF-8 is never matched.
+    ///
+    /// <details><summary>Tested</summary>
+    ///
+    /// `sets` and `a_set_matches_no_path_that_is_no_text` in `tests/sets.rs`.
+    ///
+    /// </details>
     pub fn last_match_path(&self, path: impl AsRef<Path>) -> Option<usize> {
         self.last_match(path.as_ref().to_str()?)
     }
@@ -148,11 +201,23 @@ impl PatternSet {
     /// assert_eq!(set.matches_path(PathBuf::from("src/lib.rs")), [0, 1]);
     /// # Ok::<(), cadmiumdove::set::SetRefusal>(())
     /// ```
+    ///
+    /// <details><summary>Tested</summary>
+    ///
+    /// `sets` and `a_set_matches_no_path_that_is_no_text` in `tests/sets.rs`.
+    ///
+    /// </details>
     pub fn matches_path(&self, path: impl AsRef<Path>) -> Vec<usize> {
         path.as_ref().to_str().map(|text| self.matches(text)).unwrap_or_default()
     }
 
     /// [`matches_into`](Self::matches_into) of the path's text. A path that is not UTF-8 is never matched.
+    ///
+    /// <details><summary>Tested</summary>
+    ///
+    /// `sets` and `a_set_matches_no_path_that_is_no_text` in `tests/sets.rs`.
+    ///
+    /// </details>
     pub fn matches_path_into(&self, path: impl AsRef<Path>, numbers: &mut Vec<usize>) {
         numbers.clear();
         if let Some(text) = path.as_ref().to_str() {
@@ -173,7 +238,8 @@ impl Default for PatternSet {
 }
 
 impl SetRefusal {
-    /// The number of the text that is no pattern, counted from 0.
+    /// The number of the text that is no pattern, counted from 0. The fault without it is
+    /// [`source`](std::error::Error::source).
     ///
     /// ```
     /// use cadmiumdove::set::PatternSet;
@@ -181,6 +247,12 @@ impl SetRefusal {
     ///
     /// assert_eq!(PatternSet::from_texts(["a", "[", "***"], MatchOptions::new()).unwrap_err().number(), 1);
     /// ```
+    ///
+    /// <details><summary>Tested</summary>
+    ///
+    /// `lists_of_texts` in `tests/sets.rs`.
+    ///
+    /// </details>
     pub fn number(&self) -> usize {
         let SetRefusal::Syntax(number, _) = self;
         *number
@@ -188,7 +260,8 @@ impl SetRefusal {
 }
 
 impl BraceSetRefusal {
-    /// The number of the text that is refused, counted from 0. Its alternatives do not count.
+    /// The number of the text that is refused, counted from 0. Its alternatives do not count. The fault without it is
+    /// [`source`](std::error::Error::source).
     ///
     /// ```
     /// use cadmiumdove::set::PatternSet;
@@ -196,6 +269,12 @@ impl BraceSetRefusal {
     ///
     /// assert_eq!(PatternSet::from_braces(["{a,b}", "{c,[}"], MatchOptions::new()).unwrap_err().number(), 1);
     /// ```
+    ///
+    /// <details><summary>Tested</summary>
+    ///
+    /// `lists_of_texts` in `tests/sets.rs`.
+    ///
+    /// </details>
     pub fn number(&self) -> usize {
         match self {
             BraceSetRefusal::Braces(number, _) | BraceSetRefusal::Pattern(number, _, _) => *number,
@@ -204,6 +283,6 @@ impl BraceSetRefusal {
 }
 
 /// The texts, borrowed.
-fn strs_of<T: AsRef<str>>(texts: &[T]) -> Vec<&str> {
+pub(crate) fn strs_of<T: AsRef<str>>(texts: &[T]) -> Vec<&str> {
     texts.iter().map(AsRef::as_ref).collect()
 }

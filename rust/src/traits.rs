@@ -6,7 +6,7 @@ use std::iter::FusedIterator;
 use std::slice;
 use std::str::FromStr;
 
-use crate::ignore::{IgnoreList, RuleRefusal};
+use crate::ignore::{IgnoreList, Reason, RuleRefusal};
 use crate::set::{BraceSetRefusal, PatternSet, SetRefusal};
 use crate::walk::{Name, Paths, Tree};
 use crate::{MatchOptions, Pattern, PatternError};
@@ -66,7 +66,7 @@ impl<'a> IntoIterator for &'a PatternSet {
     }
 }
 
-/// Its source is the fault of the text.
+/// Its source is the fault of the text, without the number.
 ///
 /// ```
 /// use cadmiumdove::set::PatternSet;
@@ -84,7 +84,7 @@ impl Error for SetRefusal {
     }
 }
 
-/// Its source is the fault of the text or of its alternative.
+/// Its source is the fault of the text or of its alternative, without the numbers.
 impl Error for BraceSetRefusal {
     fn source(&self) -> Option<&(dyn Error + 'static)> {
         match self {
@@ -93,6 +93,9 @@ impl Error for BraceSetRefusal {
         }
     }
 }
+
+/// So a reason is the source of an error that has one.
+impl Error for Reason {}
 
 /// As [`IgnoreList::new`].
 ///
@@ -117,9 +120,10 @@ impl AsRef<str> for Name {
     }
 }
 
+/// The name's text, in the width and precision that are asked for.
 impl fmt::Display for Name {
     fn fmt(&self, f: &mut fmt::Formatter<'_>) -> fmt::Result {
-        f.write_str(self.as_str())
+        f.pad(self.as_str())
     }
 }
 

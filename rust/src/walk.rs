@@ -1,9 +1,8 @@
 //! Walks with a limit, over trees of your own, and walks that ask their caller.
 //!
 //! A walk is paid for in units: one for each path that is looked up, one for each directory that is listed, and one for
-//! each of its entries, but for those that a [pruned tree](crate::prune::Pruned) leaves out. With a limit it ends
-//! whatever the pattern and the tree are, also where links make a cycle. A directory is read to its end before its
-//! entries are charged:
+//! each of its entries. With a limit it ends whatever the pattern and the tree are, also where links make a cycle. A
+//! directory is read to its end before its entries are charged:
 //!
 //! ```
 //! use cadmiumdove::walk::{glob_in, spent, Disk, GlobCause};
@@ -87,6 +86,16 @@ impl GlobCause {
     /// let error = paths.next().unwrap().unwrap_err();
     /// assert_eq!(GlobCause::of(&error), GlobCause::Limit);
     /// ```
+    ///
+    /// <details><summary>Contract</summary>
+    ///
+    /// That of a method in the sources: `self` is the error.
+    ///
+    /// ```text
+    /// ensures { result ≡ cause_of self.now }
+    /// ```
+    ///
+    /// </details>
     pub fn of(error: &GlobError) -> Self {
         error.reason()
     }
@@ -101,11 +110,33 @@ impl GlobCause {
 /// let mut paths = glob_in(Disk::new(), "Cargo.toml", MatchOptions::new(), 100).unwrap();
 /// assert_eq!((spent(&paths), paths.by_ref().count(), spent(&paths)), (0, 1, 2));
 /// ```
+///
+/// <details><summary>Contract</summary>
+///
+/// That of a method in the sources: `self` is the walk.
+///
+/// ```text
+/// ensures spent { result ≡ self.now.machine.spent }
+/// ensures within { result ≤ self.now.machine.limit }
+/// ```
+///
+/// </details>
 pub fn spent<T: Tree>(paths: &Paths<T>) -> u64 {
     paths.spent()
 }
 
 /// How many items a walk gave: at most one more than it [`spent`].
+///
+/// <details><summary>Contract</summary>
+///
+/// That of a method in the sources: `self` is the walk.
+///
+/// ```text
+/// ensures given { result ≡ self.now.machine.given }
+/// ensures few { result ≤ self.now.machine.spent + 1 }
+/// ```
+///
+/// </details>
 pub fn given<T: Tree>(paths: &Paths<T>) -> u128 {
     paths.given()
 }
@@ -151,21 +182,28 @@ impl<T: Tree + ?Sized> Tree for &mut T {
 /// A tree that is chosen as the program runs.
 ///
 /// ```
-/// use cadmiumdove::prune::Pruned;
-/// use cadmiumdove::set::PatternSet;
-/// use cadmiumdove::walk::{glob_in, Disk, Tree};
+/// use cadmiumdove::walk::{glob_in, Disk, Entry, Look, Tree};
 /// use cadmiumdove::MatchOptions;
 ///
-/// fn tree(left_out: Option<PatternSet>) -> Box<dyn Tree> {
-///     match left_out {
-///         Some(set) => Box::new(Pruned::new(Disk::new(), set)),
-///         None => Box::new(Disk::new()),
+/// /// Nothing but the current directory.
+/// struct Empty;
+///
+/// impl Tree for Empty {
+///     fn look(&mut self, path: &str) -> Look {
+///         if path == "." { Look::Dir } else { Look::Missing }
+///     }
+///
+///     fn list(&mut self, _path: &str) -> std::io::Result<Vec<Entry>> {
+///         Ok(Vec::new())
 ///     }
 /// }
 ///
+/// fn tree(is_dry: bool) -> Box<dyn Tree> {
+///     if is_dry { Box::new(Empty) } else { Box::new(Disk::new()) }
+/// }
+///
 /// let count = |tree| glob_in(tree, "src/*.rs", MatchOptions::new(), u64::MAX).unwrap().count();
-/// let set = PatternSet::from_texts(["src/lib.rs"], MatchOptions::new()).unwrap();
-/// assert_eq!(count(tree(None)), count(tree(Some(set))) + 1);
+/// assert!(count(tree(true)) == 0 && count(tree(false)) > 0);
 /// ```
 impl<T: Tree + ?Sized> Tree for Box<T> {
     fn look(&mut self, path: &str) -> Look {

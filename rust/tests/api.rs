@@ -153,3 +153,47 @@ fn walks() {
     let found: GlobResult = glob_with("*.TOML", MatchOptions::default()).unwrap().next().unwrap();
     assert_eq!(found.unwrap(), Path::new("Cargo.toml"));
 }
+
+/// Traits of users may have functions of names that `glob` has not.
+trait Named {
+    fn matches_counted(&self) -> u8 {
+        7
+    }
+    fn with_letter(&self) -> u8 {
+        7
+    }
+    fn kind(&self) -> u8 {
+        7
+    }
+    fn reason(&self) -> u8 {
+        7
+    }
+    fn spent(&self) -> u8 {
+        7
+    }
+    fn given(&self) -> u8 {
+        7
+    }
+    fn from_bits() -> u8 {
+        7
+    }
+    fn from_letters() -> u8 {
+        7
+    }
+}
+
+impl Named for Pattern {}
+impl Named for MatchOptions {}
+impl Named for PatternError {}
+impl Named for GlobError {}
+impl Named for Paths {}
+
+#[test]
+fn names_of_users() {
+    assert_eq!(Pattern::default().matches_counted(), 7);
+    assert_eq!([MatchOptions::new().with_letter(), MatchOptions::from_bits(), MatchOptions::from_letters()], [7; 3]);
+    assert_eq!(Pattern::new("[").unwrap_err().kind(), 7);
+    let paths = glob("*").unwrap();
+    assert_eq!([paths.spent(), paths.given()], [7; 2]);
+    let _: fn(GlobError) -> u8 = |error| error.reason();
+}

@@ -1,15 +1,13 @@
 //! What this crate has beside `glob`: limits, trees, walks that ask, ignore lists, captures and pruned walks.
 
-use std::cell::RefCell;
 use std::error::Error;
 use std::fmt::Debug;
 use std::io::{self, ErrorKind};
 use std::path::{Path, PathBuf};
-use std::sync::Arc;
 
 use cadmiumdove::captures::{captures, reach, tokens, CapturesError, Piece, Reached, TokenKind, Written, MOST_STEPS};
 use cadmiumdove::ignore::{IgnoreList, Reason, Rule, RuleRefusal};
-use cadmiumdove::prune::{first_excluded, Exclusion, Pruned};
+use cadmiumdove::search::{Found, NoRuleTexts, Search, SearchError, SearchRefusal, Searching, Wanted};
 use cadmiumdove::set::braces::BraceError;
 use cadmiumdove::set::{BraceSetRefusal, PatternSet, SetRefusal};
 use cadmiumdove::walk::{
@@ -73,9 +71,13 @@ fn paths(texts: &[&str]) -> Vec<PathBuf> {
 fn traits() {
     fn is_shared<T: Debug + Send + Sync + Unpin + 'static>() {}
     is_shared::<(WalkMachine, Step, Answer, Entry, Name, Look, Disk, GlobCause)>();
-    is_shared::<(PatternSet, IgnoreList, Rule, Pruned<Disk, IgnoreList>)>();
+    is_shared::<(PatternSet, IgnoreList, Rule, Found, Wanted)>();
+    fn is_sent<T: Debug + Send + 'static>() {}
+    is_sent::<(Search, Searching<Disk, NoRuleTexts>)>();
     is_shared::<(Piece, Reached, Written, TokenKind)>();
     fn is_error<T: Error + Send + Sync + 'static>() {}
+    is_error::<SearchError>();
+    is_error::<SearchRefusal>();
     is_error::<SetRefusal>();
     is_error::<BraceSetRefusal>();
     is_error::<BraceError>();
@@ -238,68 +240,6 @@ fn pieces() {
 }
 
 #[test]
-fn pruned_walks() {
-    let list = || IgnoreList::new("target/\nb.rs\n.x/\n").unwrap();
-    let found = walked(Pruned::new(Files(FILES), list()), "**/*.rs", NEW);
-    assert_eq!(found, (paths(&["a.rs", "src/a.rs"]), paths(&["shut"])));
-    let found = walked(Pruned::new(Files(FILES), list()), "target/c.rs", NEW);
-    assert_eq!(found, (paths(&[]), paths(&[])));
-    assert_eq!(walked(Pruned::new(Files(FILES), list()), "src/b.rs", NEW).0, paths(&[]));
-    assert_eq!(walked(Pruned::new(Files(FILES), list()), "./src/*", NEW).0, paths(&["src/a.rs"]));
-    let set = PatternSet::from_texts(["src", "shut"], NEW).unwrap();
-    assert_eq!(walked(Pruned::new(Files(FILES), set), "**/*.rs", NEW).0, paths(&["a.rs", "target/c.rs"]));
-    let function = |path: &str, is_dir: bool| is_dir && path.starts_with('s');
-    assert!(Exclusion::excludes(&function, "src", true));
-    assert_eq!(walked(Pruned::new(Files(FILES), function), "*", NEW).0, paths(&["a.rs", "b.c", "target"]));
-}
-
-#[test]
-fn pruned_trees() {
-    let mut tree = Pruned::new(Files(FILES), IgnoreList::new("target/\nb.rs\nb.c/\n.x/\n").unwrap());
-    let seen = ["target", "target/c.rs", "b.c", "src/a.rs", "src/../a.rs", "/a.rs"].map(|path| tree.look(path));
-    assert_eq!(seen, [Look::Missing, Look::Missing, Look::Other, Look::Other, Look::Missing, Look::Missing]);
-    assert_eq!(tree.list("src/.x").unwrap_err().kind(), ErrorKind::NotFound);
-    assert_eq!(tree.list("src").unwrap().len(), 1);
-    let mut tree = Pruned::new(Files(FILES), |path: &str, _is_dir: bool| path == "target");
-    let seen = ["target/c.rs", "./target/c.rs", "src/a.rs", "./src/./a.rs"].map(|path| tree.look(path));
-    assert_eq!(seen, [Look::Missing, Look::Missing, Look::Other, Look::Other]);
-    let mut tree = Pruned::new(Files(FILES), |_: &str, _: bool| true);
-    assert_eq!((tree.look("."), tree.list(".").unwrap().len()), (Look::Dir, 0));
-    let mut tree = Pruned::new(Disk::new(), |_: &str, _: bool| false);
-    let seen = ["src/../Cargo.toml", "src/..", "/", "Cargo.toml"].map(|path| tree.look(path));
-    assert_eq!(seen, [Look::Missing, Look::Missing, Look::Missing, Look::Other]);
-    assert!(tree.list("src/..").is_err() && tree.list("/").is_err());
-    // kinds are asked for where names alone matter to the walk
-    let mut tree = Pruned::new(Disk::new(), |path: &str, is_dir: bool| is_dir && path == "src/proved");
-    for entries in [tree.list("src"), tree.list_names("src")] {
-        let names: Vec<String> = entries.unwrap().iter().map(|entry| entry.name.as_str().to_owned()).collect();
-        assert!(names.contains(&"lib.rs".to_owned()) && !names.contains(&"proved".to_owned()));
-    }
-}
-
-#[test]
-fn what_excludes_a_path() {
-    let list = IgnoreList::new("target/\nb.rs\n.x/\n").unwrap();
-    for file in FILES {
-        let is_missing = Pruned::new(Files(FILES), &list).look(file) == Look::Missing;
-        assert_eq!(first_excluded(&list, file, false).is_some(), is_missing, "{file}");
-    }
-    assert_eq!(first_excluded(&list, "src/.x/y.rs", false), Some("src/.x"));
-    assert_eq!(first_excluded(&list, "src/b.rs", false), Some("src/b.rs"));
-    assert_eq!([true, false].map(|is_dir| first_excluded(&list, "src/target", is_dir)), [Some("src/target"), None]);
-    let asked = RefCell::new(Vec::new());
-    let asks = |path: &str, is_dir: bool| {
-        asked.borrow_mut().push((path.to_owned(), is_dir));
-        false
-    };
-    assert_eq!(first_excluded(&asks, "a/b/c", false), None);
-    assert_eq!(asked.take(), [("a".into(), true), ("a/b".into(), true), ("a/b/c".into(), false)]);
-    assert_eq!(first_excluded(&|_: &str, _: bool| true, "", true), None);
-    let shared: Arc<dyn Exclusion> = Arc::new(list);
-    assert_eq!(first_excluded(&shared, "src/b.rs", false), Some("src/b.rs"));
-}
-
-#[test]
 fn what_debug_prints() {
     let mut machine = WalkMachine::new("*", NEW, 100).unwrap();
     assert_eq!(format!("{machine:?}"), r#"WalkMachine { path: "", spent: 0, .. }"#);
@@ -340,14 +280,20 @@ fn refusals_names_and_entries_are_copied_and_compared() {
     assert_eq!(refusal.clone(), SetRefusal::Syntax(1, fault.clone()));
     assert_ne!(refusal, SetRefusal::Syntax(0, fault.clone()));
     let braces = PatternSet::from_braces(["{a,a[}"], MatchOptions::new()).unwrap_err();
-    assert_eq!(braces.clone(), BraceSetRefusal::Pattern(0, 1, fault));
+    assert_eq!(braces.clone(), BraceSetRefusal::Pattern(0, 1, fault.clone()));
     assert_ne!(braces, PatternSet::from_braces(["{a"], MatchOptions::new()).unwrap_err());
+    let sources = [refusal.source(), braces.source()].map(|source| source.unwrap().to_string());
+    assert_eq!(sources, [fault.to_string(), fault.to_string()]);
+    let unclosed = PatternSet::from_braces(["{a"], MatchOptions::new()).unwrap_err();
+    assert!(unclosed.to_string().ends_with(&unclosed.source().unwrap().to_string()));
     let line = "[\u{e9}]".parse::<IgnoreList>().unwrap_err();
     assert_eq!(line.clone(), IgnoreList::new("[\u{e9}]\n").unwrap_err());
 
     let mut names = ["b", "a"].map(|name| Name::try_from(name.to_owned()).unwrap());
     names.sort();
-    assert_eq!(names.clone().map(|name| name.to_string()), ["a", "b"]);
+    assert_eq!(names.clone().map(|name| format!("{name:>2}")), [" a", " b"]);
+    assert_eq!(Name::try_from(" a ".to_owned()).unwrap().as_str(), " a ");
+    assert_eq!(Pattern::try_from(" a ").unwrap().as_str(), " a ");
     let entries = names.map(|name| Entry { name, is_dir: false });
     assert_eq!(entries.clone(), entries);
     assert_ne!(entries[0], Entry { is_dir: true, ..entries[0].clone() });
@@ -366,6 +312,7 @@ fn refused_lines_are_passed_over() {
         let (list, refusals) = IgnoreList::lenient(text);
         let lines: Vec<usize> = refusals.iter().map(|RuleRefusal::Line(line, _)| *line).collect();
         assert_eq!(lines, refused, "{text:?}");
-        assert!(list.is_ignored("c", false), "{text:?}");
+        // Lines that are left keep their numbers.
+        assert_eq!(list.deciding_rule("c", false).map(|rule| rule.line), Some(text.lines().count()), "{text:?}");
     }
 }

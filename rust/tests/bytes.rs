@@ -7,6 +7,7 @@ use std::fs::{self, File, Permissions};
 use std::io::{self, ErrorKind};
 use std::os::unix::ffi::OsStrExt;
 use std::os::unix::fs::{symlink, PermissionsExt};
+use std::os::unix::net::UnixListener;
 use std::path::PathBuf;
 use std::{env, process};
 
@@ -55,6 +56,17 @@ fn a_link_that_leads_nowhere_is_there() {
     let counts = walks.map(|items| items.map(Result::unwrap).count());
     fs::remove_dir_all(&root).unwrap();
     assert_eq!(counts, [1, 1, 0, 0]);
+}
+
+#[test]
+fn a_socket_is_no_directory() {
+    let root = folder("socket");
+    let socket = UnixListener::bind(root.join("s")).unwrap();
+    let walks = ["s", "*", "**/*", "*/", "*/*", "s/*"].map(|rest| glob(&format!("{}/{rest}", root.display())).unwrap());
+    let counts = walks.map(|items| items.map(Result::unwrap).count());
+    drop(socket);
+    fs::remove_dir_all(&root).unwrap();
+    assert_eq!(counts, [1, 1, 1, 0, 0, 0]);
 }
 
 /// A million entries and more are read: each directory's parent is listed again.

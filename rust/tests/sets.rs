@@ -24,6 +24,9 @@ fn lists_of_texts() {
     let braces = |texts: &[&str]| PatternSet::from_braces(texts, NEW).unwrap_err().number();
     assert_eq!((braces(&["{a,b}", "c}"]), braces(&["{a,b}", "{d,[}", "e"]), braces(&["a", "b", "{[}"])), (1, 1, 2));
     assert!(!PatternSet::from_braces(["{a,b}"], NEW).unwrap().is_match("A"));
+    let (any_case, set) = (MatchOptions::default(), |options| PatternSet::from_braces(["{a,b}"], options).unwrap());
+    assert!(set(any_case).is_match("A") && set(any_case).options() == any_case);
+    assert!(PatternSet::from_texts(["a"], any_case).unwrap().is_match("A"));
     assert_eq!(PatternSet::from_texts(["a", "b", "***"], NEW).unwrap_err().number(), 2);
 }
 
@@ -66,6 +69,19 @@ fn a_set_matches_no_path_that_is_no_text() {
         (false, None, None, vec![])
     );
     assert!(set.matches_path(path).is_empty());
+}
+
+/// No text is a comment or a negation, and none is left out or trimmed.
+#[test]
+fn texts_are_patterns_as_they_are() {
+    let texts = ["", "#a", "!a", " a", "a "];
+    for set in [PatternSet::from_texts(texts, NEW).unwrap(), PatternSet::from_braces(texts, NEW).unwrap()] {
+        assert_eq!(set.len(), 5);
+        for (number, text) in texts.iter().enumerate() {
+            assert_eq!(set.matches(text), [number]);
+        }
+        assert!(!set.is_match("a"));
+    }
 }
 
 #[test]

@@ -1,10 +1,13 @@
 //! Made by `bin/rust_crate` from the proved sources in `crates/`: do not edit.
-// Style of the sources, where a proof wants it.
-#![allow(clippy::byte_char_slices, clippy::let_and_return, clippy::manual_find, clippy::manual_ignore_case_cmp)]
-#![allow(clippy::manual_map, clippy::needless_range_loop, clippy::nonminimal_bool, clippy::ptr_arg)]
-#![allow(clippy::question_mark, clippy::should_implement_trait, clippy::too_many_arguments, clippy::manual_contains)]
-#![allow(clippy::single_match, clippy::vec_init_then_push, clippy::redundant_pattern_matching)]
-#![allow(clippy::slow_vector_initialization, clippy::redundant_static_lifetimes)]
+// Clippy's lints that the sources do not meet, all of style. Loops and branches have the forms that proofs take in steps:
+#![allow(clippy::manual_contains, clippy::manual_find, clippy::manual_ignore_case_cmp, clippy::manual_map)]
+#![allow(clippy::needless_range_loop, clippy::question_mark, clippy::single_match)]
+// Contracts name the items of a vector and the bytes of a string, and each push may fail there:
+#![allow(clippy::byte_char_slices, clippy::ptr_arg, clippy::vec_init_then_push)]
+// Memory is asked for and then filled, as the heads of these files say:
+#![allow(clippy::slow_vector_initialization)]
+// A machine's `next` is a step of a walk, and one function passes all that it works on:
+#![allow(clippy::should_implement_trait, clippy::too_many_arguments)]
 
 pub mod glob_captures;
 pub mod glob_pattern;
@@ -12,11 +15,7 @@ pub mod glob_rules;
 pub mod glob_set;
 pub mod glob_tree;
 pub mod glob_walk;
-pub mod glob_prune {
-    pub mod exclusion;
-    pub mod ignoring;
-    pub mod matching;
-}
 pub mod glob {
     pub mod paths;
 }
+pub mod glob_search;

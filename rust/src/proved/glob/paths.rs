@@ -1,4 +1,4 @@
-//! Made by `bin/rust_crate` from `crates/glob/src/paths.rt`, where its contracts are: sha256 10032489a14f01ec.
+//! Made by `bin/rust_crate` from `crates/glob/src/paths.rt`, where its contracts are: sha256 09d2e349b2b2c833.
 //! Public there: `spent`, `given`. A trait of a user may have a function of such a name.
 //!
 //! A walk over a tree, item by item.
@@ -13,6 +13,15 @@ use std::fmt;
 ///
 /// An item may also be a refusal, which is the last one: the limit was reached, and the item's path is where. After a
 /// refusal, and after the first `None`, only `None` follows.
+///
+/// ```
+/// use cadmiumdove::walk::{glob_in, Disk, Paths};
+/// use cadmiumdove::MatchOptions;
+///
+/// let mut paths: Paths<Disk> = glob_in(Disk::new(), "Cargo.tom?", MatchOptions::new(), 1_000)?;
+/// assert_eq!(paths.next().unwrap()?.to_str(), Some("Cargo.toml"));
+/// # Ok::<(), Box<dyn std::error::Error>>(())
+/// ```
 pub struct Paths<T: Tree> {
     tree: T,
     machine: WalkMachine,
@@ -67,6 +76,17 @@ impl<T: Tree> Iterator for Paths<T> {
 /// So `a/*` gives `a/b` if `b` is the only entry of `a`, for 4 units: the lookup of the start, that of `a`, the listing
 /// of `a`, and its entry.
 ///
+/// ```
+/// use cadmiumdove::walk::{glob_in, Disk};
+/// use cadmiumdove::MatchOptions;
+///
+/// let links_stay = Disk::new().follow_links(false);
+/// assert!(glob_in(links_stay, "**/*.rs", MatchOptions::new(), 100_000)?.flatten().count() > 1);
+/// # Ok::<(), cadmiumdove::PatternError>(())
+/// ```
+///
+/// # Errors
+///
 /// A pattern with a fault is refused: the fault of the whole text, or else that of the first component that has one, as
 /// where a bracket holds `/`. Its place counts characters, from the start of the text or of that component: for
 /// `x/a[/]b` it is 1. The tree is then dropped.
@@ -76,11 +96,12 @@ impl<T: Tree> Iterator for Paths<T> {
 /// ```text
 /// ensures accepted { IfOk result (λ _. walk_fault pattern.now ≡ None) }
 /// ensures refused { IfErr result (RefusesWith (walk_fault pattern.now)) }
-/// ensures fresh { IfOk result (IsFresh tree limit) }
+/// ensures tree { IfOk result (λ p. p.tree ≡ tree) }
+/// ensures fresh { IfOk result (λ p. IsFresh limit p.machine) }
 /// ensures aim { IfOk result
-///     (λ p. (c : Content) → listing_of c p.aim ≡ listing c options pattern.now) }
-/// ensures listing { (c : Content) → IsTold (T.tells tree) c
-///     → IfOk result (λ p. p.left ≡ Some (listing c options pattern.now)) }
+///     (λ p. (c : Content) → listing_of c p.machine.aim ≡ listing c options pattern.now) }
+/// ensures listing { (c : Content)
+///     → IfOk result (λ p. HasGiven (listing c options pattern.now) c [] p.machine) }
 /// ```
 ///
 /// </details>

@@ -1,4 +1,4 @@
-//! Made by `bin/rust_crate` from `crates/glob_captures/src/capturing.rt`, where its contracts are: sha256 a9ab2b4069e0b3ff.
+//! Made by `bin/rust_crate` from `crates/glob_captures/src/capturing.rt`, where its contracts are: sha256 0e730e853fe8f435.
 //!
 //! The piece of a text that each token of a pattern takes.
 
@@ -9,17 +9,28 @@ use crate::proved::glob_captures::span::{span_of, Span};
 use crate::proved::glob_captures::steps::{bytes_of, form_of, is_too_large};
 use crate::proved::glob_pattern::{characters_of, opens, tokens_len, MatchOptions, Pattern};
 
-/// The piece of the text that each token of the pattern takes, as places in bytes, one after another; `None` exactly if
-/// the pattern does not match the text. Where the text can be split in several ways, the first piece is as short as any
-/// split allows, then the second, and so on.
+/// Splits the text into the pieces that the pattern's tokens take, and returns where they are, in bytes and in order;
+/// `None` exactly if the pattern does not match the text. If there are several splits, the first piece is as short as
+/// possible, then the second, and so on.
 ///
-/// So `*.*` takes `a.b.rs` by the pieces `a`, `.` and `b.rs`: from 0 up to 1, up to 2, and up to 6.
+/// For example, `*.*` splits `a.b.rs` into `a`, `.` and `b.rs`: from 0 up to 1, from 1 up to 2, and from 2 up to 6.
 ///
-/// A call takes time and memory at most proportional to one more than the tokens, times one more than the bytes of the
-/// text. The errors are:
+/// Time and memory are at most proportional to (tokens + 1) × (bytes of the text + 1).
 ///
-/// - [`CapturesError::TooLarge`]: the tokens times the bytes are more than
-///   [`MOST_STEPS`](crate::proved::glob_captures::MOST_STEPS). Nothing was done.
+/// ```
+/// use cadmiumdove::captures::captures;
+/// use cadmiumdove::{MatchOptions, Pattern};
+///
+/// let (pattern, text) = (Pattern::new("*.*")?, "a.b.rs");
+/// let pieces = captures(&pattern, text, MatchOptions::new()).unwrap().unwrap();
+/// assert_eq!(pieces.iter().map(|piece| &text[piece.start..piece.end]).collect::<Vec<_>>(), ["a", ".", "b.rs"]);
+/// # Ok::<(), cadmiumdove::PatternError>(())
+/// ```
+///
+/// # Errors
+///
+/// - [`CapturesError::TooLarge`]: tokens × bytes is more than [`MOST_STEPS`](crate::proved::glob_captures::MOST_STEPS).
+///   Nothing was done.
 ///
 /// <details><summary>Contract</summary>
 ///
@@ -47,7 +58,7 @@ pub fn captures(pattern: &Pattern, text: &str, options: MatchOptions) -> Result<
     Ok(Some(pieces))
 }
 
-/// The places of the pieces, each as short as those after it allow.
+/// The places of the pieces, each as short as the tokens after it allow.
 fn shortest_pieces(pattern: &Pattern, text: &[char], span: Span, rests: &[Rests]) -> Vec<Piece> {
     let tokens = tokens_len(pattern);
     let mut pieces = Vec::with_capacity(tokens);
@@ -63,7 +74,7 @@ fn shortest_pieces(pattern: &Pattern, text: &[char], span: Span, rests: &[Rests]
     pieces
 }
 
-/// Where the shortest piece of a token from a place on ends. The options are those that `rests` was made with.
+/// Where the shortest piece of `token` ends that begins at `place`. `rests` was made with the same options.
 fn shortest_end(pattern: &Pattern, token: usize, text: &[char], place: usize, span: Span, rests: &[Rests]) -> usize {
     let form = form_of(pattern, token);
     if !form.grows {
@@ -76,7 +87,7 @@ fn shortest_end(pattern: &Pattern, token: usize, text: &[char], place: usize, sp
     }
 }
 
-/// The first place where a piece from a place on may end, or the end of the text.
+/// The first place where a piece that begins at `place` may end, or the end of the text.
 fn first_end(closes: bool, text: &[char], place: usize, next: &[bool]) -> usize {
     let mut end = place;
     while end < text.len() && !may_end(closes, text, next, place, end) {
@@ -85,7 +96,7 @@ fn first_end(closes: bool, text: &[char], place: usize, next: &[bool]) -> usize 
     end
 }
 
-/// Whether a piece between two places may end there, where `next` says from where on the tokens after it take the rest.
+/// Whether a piece from `place` may end at `end`, where `next` says from where on the tokens after it take the rest.
 #[inline(always)]
 fn may_end(closes: bool, text: &[char], next: &[bool], place: usize, end: usize) -> bool {
     next[end] && (end == place || !closes || opens(text, end))

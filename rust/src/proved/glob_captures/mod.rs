@@ -1,6 +1,6 @@
-//! Made by `bin/rust_crate` from `crates/glob_captures/src/lib.rt`, where its contracts are: sha256 edfd3045eb7186e1.
+//! Made by `bin/rust_crate` from `crates/glob_captures/src/lib.rt`, where its contracts are: sha256 42706bd247d711de.
 //!
-//! Which piece of a text each token of a pattern takes, and how far a text that does not match could be taken.
+//! Which piece of a text each token of a pattern takes, and how far a pattern gets in a text that it does not match.
 
 mod capturing;
 mod error;

@@ -1,34 +1,53 @@
-//! Made by `bin/rust_crate` from `crates/glob_captures/src/reaching.rt`, where its contracts are: sha256 d6b8456d0b7906a4.
+//! Made by `bin/rust_crate` from `crates/glob_captures/src/reaching.rt`, where its contracts are: sha256 f928419745b28eb8.
+//! Not derived there: `Reached`.
 //! `Vec::with_capacity` and `resize` are there `vec![x; n]`: memory that is asked for as zeros is never what was freed
 //! last, and costs more.
 //!
-//! How far a text can be taken, and what waits there.
+//! How far a pattern gets in a text, and which tokens wait there.
 
 use crate::proved::glob_captures::error::CapturesError;
 use crate::proved::glob_captures::steps::{bytes_of, form_of, is_too_large, takes_at, Form};
 use crate::proved::glob_pattern::{characters_of, opens, tokens_len, MatchOptions, Pattern};
 
-/// How far a text could be taken.
-#[derive(Debug)]
+/// How far a pattern got in a text.
+///
+/// ```
+/// use cadmiumdove::captures::reach;
+/// use cadmiumdove::{MatchOptions, Pattern};
+///
+/// let reached = reach(&Pattern::new("a[0-9]b")?, "a1c", MatchOptions::new()).unwrap();
+/// assert_eq!((reached.place, reached.waiting), (2, vec![2]));
+/// # Ok::<(), cadmiumdove::PatternError>(())
+/// ```
+#[derive(Debug, Clone, PartialEq, Eq)]
 pub struct Reached {
-    /// The place, in bytes, up to which some first tokens take the text.
+    /// The last place, in bytes, up to which the first tokens take the text, for some number of them.
     pub place: usize,
     /// The numbers of the tokens that wait there for a character, ascending, counted from 0.
     pub waiting: Vec<usize>,
 }
 
-/// How far the text can be taken: up to the last place, in bytes, up to which some first tokens of the pattern take it,
-/// and the numbers of all tokens that wait there for a character. For a text that does not match this is where it
-/// stops, and what was wanted there.
+/// How far the pattern gets in the text: the last place, in bytes, up to which its first tokens take the text (for some
+/// number of them), and the numbers of all tokens that wait for a character there. If the text does not match, this is
+/// where it fails, and what the pattern expected there.
 ///
-/// So for `*.rs` and `a.rc` it is the end: `*` took all, and it and `.` wait. For `a[0-9]b` and `a1c` it is the place
+/// For `*.rs` and `a.rc` the place is the end: `*` took all, and `*` and `.` wait. For `a[0-9]b` and `a1c` the place is
 /// 2, where token 2, the `b`, waits.
 ///
-/// A call takes time and memory at most proportional to one more than the tokens, times one more than the bytes of the
-/// text. The errors are:
+/// Time and memory are at most proportional to (tokens + 1) × (bytes of the text + 1).
 ///
-/// - [`CapturesError::TooLarge`]: the tokens times the bytes are more than
-///   [`MOST_STEPS`](crate::proved::glob_captures::MOST_STEPS). Nothing was done.
+/// ```
+/// use cadmiumdove::captures::reach;
+/// use cadmiumdove::{MatchOptions, Pattern};
+///
+/// assert_eq!(reach(&Pattern::new("src/*.rs")?, "src.rs", MatchOptions::new()).unwrap().place, 3);
+/// # Ok::<(), cadmiumdove::PatternError>(())
+/// ```
+///
+/// # Errors
+///
+/// - [`CapturesError::TooLarge`]: tokens × bytes is more than [`MOST_STEPS`](crate::proved::glob_captures::MOST_STEPS).
+///   Nothing was done.
 ///
 /// <details><summary>Contract</summary>
 ///
@@ -52,7 +71,7 @@ pub fn reach(pattern: &Pattern, text: &str, options: MatchOptions) -> Result<Rea
     Ok(Reached { place: bytes_of(&characters[..place]), waiting })
 }
 
-/// The last place up to which some first tokens take the text.
+/// The last place up to which the first tokens take the text, for some number of them.
 fn farthest(pattern: &Pattern, options: MatchOptions, text: &[char]) -> usize {
     let mut whole = fronts_at_start(text);
     let mut alive = fronts_at_start(text);
@@ -81,7 +100,7 @@ fn waiting_at(pattern: &Pattern, options: MatchOptions, text: &[char], place: us
     waiting
 }
 
-/// For no tokens, at each place, whether they take the text up to there: at the start alone.
+/// The row for no tokens: they take the text up to its start and no further.
 fn fronts_at_start(text: &[char]) -> Vec<bool> {
     let mut places = Vec::with_capacity(text.len() + 1);
     places.resize(text.len() + 1, false);
@@ -89,8 +108,8 @@ fn fronts_at_start(text: &[char]) -> Vec<bool> {
     places
 }
 
-/// From the places up to which the tokens before this one take the text, those up to which they take it with this one,
-/// and the places where this one waits.
+/// Updates `whole` from the places up to which the tokens before this one take the text to the places up to which they
+/// and this one take it, and sets `alive` to the places where this one waits.
 fn step(pattern: &Pattern, token: usize, options: MatchOptions, text: &[char], whole: &mut [bool], alive: &mut [bool]) {
     let form = form_of(pattern, token);
     let mut took = false;
@@ -103,7 +122,8 @@ fn step(pattern: &Pattern, token: usize, options: MatchOptions, text: &[char], w
     }
 }
 
-/// Whether a token waits at a place, up to which those before it took the text or it took the last character.
+/// Whether a token waits at a place: `was` says that the tokens before it take the text up to there, `took` that it
+/// took the character before it.
 #[inline(always)]
 fn may_wait(form: Form, was: bool, took: bool) -> bool {
     was || (took && form.grows)
@@ -115,7 +135,7 @@ fn may_end(form: Form, text: &[char], place: usize, was: bool, took: bool) -> bo
     (was && form.grows) || (took && (!form.closes || opens(text, place)))
 }
 
-/// Whether the token takes the character at a place where it waits or not.
+/// Whether the token waits at the place and takes the character there.
 #[inline(always)]
 fn takes_next(
     pattern: &Pattern,
@@ -128,7 +148,7 @@ fn takes_next(
     waits && takes_at(pattern, token, options, text, place)
 }
 
-/// The last place of those, or 0.
+/// The last place that is true, or 0 if there is none.
 fn last_place(places: &[bool]) -> usize {
     let mut last = 0;
     for place in 0..places.len() {

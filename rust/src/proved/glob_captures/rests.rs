@@ -1,28 +1,28 @@
-//! Made by `bin/rust_crate` from `crates/glob_captures/src/rests.rt`, where its contracts are: sha256 84d04e7b7d1c450b.
+//! Made by `bin/rust_crate` from `crates/glob_captures/src/rests.rt`, where its contracts are: sha256 d09e10393ec09f4b.
 //! `Vec::with_capacity` and `resize` are there `vec![x; n]`: memory that is asked for as zeros is never what was freed
 //! last, and costs more.
 //!
-//! From where on the last tokens take the rest of a text.
+//! From which places the last tokens take the rest of a text.
 
 use crate::proved::glob_captures::span::Span;
 use crate::proved::glob_captures::steps::{form_of, takes_at, Form};
 use crate::proved::glob_pattern::{opens, tokens_len, MatchOptions, Pattern};
 
-/// For each place of a text, whether some tokens take the rest from there on.
+/// For each place of a text, whether certain last tokens take the rest from there on.
 pub struct Rests {
     places: Vec<bool>,
 }
 
 impl Rests {
-    /// Place by place.
+    /// One answer per place.
     #[inline(always)]
     pub fn as_slice(&self) -> &[bool] {
         self.places.as_slice()
     }
 }
 
-/// For the tokens after each wildcard but the last one, from where on they take the rest: the last tokens first. For
-/// the tokens after a token that is no wildcard the row is empty.
+/// Row `i` says from where on the tokens from number `span.last - i` on take the rest. It is empty if the token before
+/// them is not a wildcard.
 pub fn rests_of(pattern: &Pattern, options: MatchOptions, text: &[char], span: Span) -> Vec<Rests> {
     let mut rows = Vec::with_capacity(span.last - span.first);
     if span.first == span.last {
@@ -38,13 +38,14 @@ pub fn rests_of(pattern: &Pattern, options: MatchOptions, text: &[char], span: S
     rows
 }
 
-/// The row, if it is for the tokens after a wildcard. Otherwise none is needed, and it is empty.
+/// A copy of the row, if `token` is a wildcard. Otherwise nothing reads it, and it is empty.
 fn row_after(pattern: &Pattern, token: usize, row: &[bool]) -> Rests {
     let places = if form_of(pattern, token).grows { Vec::from(row) } else { Vec::new() };
     Rests { places }
 }
 
-/// For the tokens after the last wildcard, each of which takes one character: at one place alone.
+/// The row of the tokens after the last wildcard: they take one character each, so they take the rest from one place
+/// only.
 fn rests_after_span(pattern: &Pattern, text: &[char], span: Span) -> Vec<bool> {
     let mut row = Vec::with_capacity(text.len() + 1);
     row.resize(text.len() + 1, false);
@@ -52,7 +53,7 @@ fn rests_after_span(pattern: &Pattern, text: &[char], span: Span) -> Vec<bool> {
     row
 }
 
-/// From the row of the tokens after one to that with it.
+/// Updates the row of the tokens after `token` to include it.
 fn add_token(pattern: &Pattern, token: usize, options: MatchOptions, text: &[char], row: &mut [bool]) {
     let form = form_of(pattern, token);
     let mut more = false;
@@ -67,8 +68,8 @@ fn add_token(pattern: &Pattern, token: usize, options: MatchOptions, text: &[cha
     }
 }
 
-/// Whether a token takes the character at a place, and then its piece ends, where the tokens after it take the rest
-/// from the next place on, or goes on, where more is taken from there.
+/// Whether the token takes the character at `place` and either ends its piece there, since the tokens after it take the
+/// rest from the next place on (`rest`), or goes on, since it takes more from there (`more`).
 #[inline(always)]
 fn takes_more(
     pattern: &Pattern,
@@ -84,7 +85,8 @@ fn takes_more(
         && takes_at(pattern, token, options, text, place)
 }
 
-/// Whether a token and those after it take the rest from a place on: where the first takes more, or may take nothing.
+/// Whether the tokens from one on take the rest from a place: it takes a character there (`more`), or its piece may be
+/// empty.
 #[inline(always)]
 fn is_taken(form: Form, rest: bool, more: bool) -> bool {
     more || (form.grows && rest)

@@ -1,16 +1,16 @@
-//! Made by `bin/rust_crate` from `crates/glob_captures/src/span.rt`, where its contracts are: sha256 aecae3c3dafafb87.
+//! Made by `bin/rust_crate` from `crates/glob_captures/src/span.rt`, where its contracts are: sha256 30459d7fa13fc555.
 //!
-//! The wildcards `*` and `**` of a pattern: between them pieces have to be searched.
+//! The wildcards `*` and `**` of a pattern: only the pieces between them have to be searched for.
 
 use crate::proved::glob_captures::steps::form_of;
 use crate::proved::glob_pattern::{tokens_len, Pattern};
 
-/// The numbers of the first and the last token that is `*` or `**`. With none, both are the number of all tokens.
+/// The numbers of the first and the last token that is `*` or `**`. If there is none, both are the number of tokens.
 #[derive(Clone, Copy)]
 pub struct Span {
-    /// That of the first.
+    /// The number of the first.
     pub first: usize,
-    /// That of the last.
+    /// The number of the last.
     pub last: usize,
 }
 

@@ -1,23 +1,40 @@
-//! Made by `bin/rust_crate` from `crates/glob_captures/src/written.rt`, where its contracts are: sha256 26beee050e8f5e65.
+//! Made by `bin/rust_crate` from `crates/glob_captures/src/written.rt`, where its contracts are: sha256 7ec362869969df69.
 //!
-//! How the tokens of a pattern are written.
+//! Where the tokens are in a pattern's text.
 
 use crate::proved::glob_captures::piece::Piece;
 use crate::proved::glob_captures::steps::bytes_of;
 use crate::proved::glob_pattern::{characters_of, token_kind, tokens_len, Pattern, TokenKind};
 
-/// A token of a pattern: what kind it is, and where it is written, as places in bytes of the pattern's text.
+/// A token of a pattern: its kind, and where it is in the pattern's text, in bytes.
+///
+/// ```
+/// use cadmiumdove::captures::{tokens, Piece, TokenKind, Written};
+/// use cadmiumdove::Pattern;
+///
+/// let written = tokens(&Pattern::new("a[bc]*")?);
+/// assert_eq!(written[1], Written { kind: TokenKind::OneOf, piece: Piece { start: 1, end: 5 } });
+/// # Ok::<(), cadmiumdove::PatternError>(())
+/// ```
 #[derive(Clone, Copy, Debug, PartialEq, Eq)]
 pub struct Written {
-    /// What kind of token it is.
+    /// Its kind.
     pub kind: TokenKind,
-    /// Where it is written.
+    /// Where it is in the pattern's text.
     pub piece: Piece,
 }
 
-/// The tokens of a pattern, in order. Those of `a[bc]*` are a `Literal` from 0 up to 1, a `OneOf` up to 5, and an
-/// `AnySequence` up to 6: each is written from where the one before it ends. Neighbouring `**/` are one token, and are
-/// written as one.
+/// The tokens of a pattern, in order. Those of `a[bc]*` are a `Literal` from 0 up to 1, a `OneOf` from 1 up to 5, and
+/// an `AnySequence` from 5 up to 6: each begins where the one before it ends. Neighbouring `**/` are one token.
+///
+/// ```
+/// use cadmiumdove::captures::{tokens, TokenKind};
+/// use cadmiumdove::Pattern;
+///
+/// let wild = tokens(&Pattern::new("/users/*/posts/**")?).iter().filter(|token| token.kind != TokenKind::Literal).count();
+/// assert_eq!(wild, 2);
+/// # Ok::<(), cadmiumdove::PatternError>(())
+/// ```
 ///
 /// <details><summary>Contract</summary>
 ///
@@ -50,7 +67,7 @@ pub fn tokens(pattern: &Pattern) -> Vec<Written> {
     list
 }
 
-/// The place after the token of this kind that is written from a place on.
+/// The place after the token of this kind that begins at `place`.
 fn token_end(text: &[char], place: usize, kind: TokenKind) -> usize {
     match kind {
         TokenKind::Literal | TokenKind::AnyChar | TokenKind::AnySequence => text.len().min(place + 1),
@@ -60,7 +77,7 @@ fn token_end(text: &[char], place: usize, kind: TokenKind) -> usize {
     }
 }
 
-/// The place after the `**` from a place on, each with the `/` after it.
+/// The place after the neighbouring `**` that begin at `place`, each with the `/` after it, if there is one.
 fn recursive_end(text: &[char], place: usize) -> usize {
     let mut end = place;
     while has_stars(text, end) {
@@ -69,12 +86,12 @@ fn recursive_end(text: &[char], place: usize) -> usize {
     end
 }
 
-/// Whether two stars are at a place.
+/// Whether there are two stars at `place`.
 fn has_stars(text: &[char], place: usize) -> bool {
     text.len() - place >= 2 && text[place] == '*' && text[place + 1] == '*'
 }
 
-/// The place after two stars, and after a `/` that follows.
+/// The place after the two stars at `place`, and after a `/` that follows them.
 fn after_stars(text: &[char], place: usize) -> usize {
     match text.get(place + 2) {
         Some('/') => place + 3,
@@ -82,7 +99,8 @@ fn after_stars(text: &[char], place: usize) -> usize {
     }
 }
 
-/// The place after the `]` that ends the bracket at a place, of which the first characters end none.
+/// The place after the `]` that closes the bracket at `place`. A `]` among its first `skipped` characters does not
+/// close it.
 fn bracket_end(text: &[char], place: usize, skipped: usize) -> usize {
     for end in place..text.len() {
         if place + skipped <= end && text[end] == ']' {

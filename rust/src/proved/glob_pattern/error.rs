@@ -1,24 +1,32 @@
-//! Made by `bin/rust_crate` from `crates/glob_pattern/src/error.rt`, where its contracts are: sha256 86aed70ca7f78876.
+//! Made by `bin/rust_crate` from `crates/glob_pattern/src/error.rt`, where its contracts are: sha256 b05113e2ca959ccc.
 //! Public there: `kind`. A trait of a user may have a function of such a name.
 //! Not derived there: `PatternError`.
+//! `PatternErrorKind` is not `#[non_exhaustive]` there.
 //!
-//! Why a text is no pattern.
+//! Why a text is refused as a pattern.
 
 use std::fmt;
 
-/// What is wrong where a text is no pattern.
+/// What is wrong with a text that is not accepted as a pattern.
+///
+/// ```
+/// use cadmiumdove::{Pattern, PatternErrorKind};
+///
+/// assert_eq!(PatternErrorKind::of(&Pattern::new("***").unwrap_err()), PatternErrorKind::Wildcards);
+/// ```
 #[derive(Clone, Copy, Debug, PartialEq, Eq)]
+#[non_exhaustive]
 pub enum PatternErrorKind {
-    /// Three stars or more, as in `a/***`.
+    /// Three or more stars, as in `a/***`.
     Wildcards,
     /// Two stars that are not a whole component, as in `a**`.
     Recursive,
-    /// A `[` that begins no bracket, as in `[a`.
+    /// A `[` that no `]` closes, as in `[a` and `[]`.
     Range,
 }
 
 impl PatternErrorKind {
-    /// The message of errors of this kind: of `Range` it is `invalid range pattern`.
+    /// The message for errors of this kind: `invalid range pattern` for `Range`.
     ///
     /// <details><summary>Contract</summary>
     ///
@@ -37,7 +45,7 @@ impl PatternErrorKind {
         }
     }
 
-    /// A number that stays that of the kind: `Wildcards` has 0, `Recursive` 1, and `Range` 2.
+    /// The fixed number of the kind: 0 for `Wildcards`, 1 for `Recursive`, 2 for `Range`.
     ///
     /// <details><summary>Contract</summary>
     ///
@@ -56,18 +64,23 @@ impl PatternErrorKind {
     }
 }
 
-/// Where a text is no pattern, and why. For `a**` it has the place 0 and the message `recursive wildcards must form a
-/// single path component`, and is printed as `Pattern syntax error near position 0: ` and the message.
+/// Where a pattern is wrong, and why. The error for `a**` has the place 0 and the message `recursive wildcards must
+/// form a single path component`. It prints as `Pattern syntax error near position 0: ` and the message.
+///
+/// ```
+/// let error = cadmiumdove::Pattern::new("a[").unwrap_err();
+/// assert_eq!((error.pos, error.msg), (1, "invalid range pattern"));
+/// ```
 #[derive(Debug, Clone, PartialEq, Eq)]
 pub struct PatternError {
     /// The place, in characters from 0.
     pub pos: usize,
-    /// What is wrong there.
+    /// The message: what is wrong there.
     pub msg: &'static str,
 }
 
 impl PatternError {
-    /// What is wrong: `Recursive` for `a**`. For an error made by hand it is the kind with that message, or else
+    /// The kind of the error: `Recursive` for `a**`. An error made by hand has the kind with its message, or else
     /// `Range`.
     pub(crate) fn kind(&self) -> PatternErrorKind {
         if self.msg == PatternErrorKind::Wildcards.message() {

@@ -1,23 +1,23 @@
-//! Made by `bin/rust_crate` from `crates/glob_pattern/src/grammar.rt`, where its contracts are: sha256 a01dbc4937e80859.
+//! Made by `bin/rust_crate` from `crates/glob_pattern/src/grammar.rt`, where its contracts are: sha256 e312486bc1b7f377.
 //! `Vec::with_capacity` and `resize` are there `vec![x; n]`: memory that is asked for as zeros is never what was freed
 //! last, and costs more.
 //!
-//! Reads a pattern's units, or its first fault.
+//! Reads the units of a pattern, or its first fault.
 
 use crate::proved::glob_pattern::error::{PatternError, PatternErrorKind};
 use crate::proved::glob_pattern::token::bracket::Bracket;
 use crate::proved::glob_pattern::token::Token;
 
-/// So many tokens have room at once: those of most patterns, whose list then never grows.
+/// The initial capacity of a token list. Most patterns never need more.
 const FEW: usize = 128;
 
-/// The tokens of a pattern. The error is the first fault of a text that is not accepted.
+/// Reads the tokens of a pattern. The error is the first fault of a text that is not accepted.
 pub fn read_tokens(pattern: &str) -> Result<Vec<Token<Bracket>>, PatternError> {
     let text = characters_of(pattern);
     read_text(text.as_slice())
 }
 
-/// The characters of a text.
+/// The characters of a text: `a` and `é` for `aé`.
 pub fn characters_of(text: &str) -> Vec<char> {
     let mut characters = Vec::with_capacity(text.len());
     characters.resize(text.len(), '\0');
@@ -29,8 +29,8 @@ pub fn characters_of(text: &str) -> Vec<char> {
     characters
 }
 
-/// Writes each byte as a character. Returns whether all are of ASCII: only then are they the text's characters. The
-/// loop has no other way out, so that the compiler makes it one over sixteen bytes at a time.
+/// Writes each byte as a character. Returns whether all are ASCII: only then are they the characters of the text. The
+/// loop has no early exit, so that the compiler handles sixteen bytes at a time.
 fn widen(bytes: &[u8], characters: &mut [char]) -> bool {
     let mut ascii = true;
     for n in 0..bytes.len() {
@@ -40,7 +40,7 @@ fn widen(bytes: &[u8], characters: &mut [char]) -> bool {
     ascii
 }
 
-/// The tokens of the characters, as `read_tokens`.
+/// [`read_tokens`] for a list of characters.
 fn read_text(text: &[char]) -> Result<Vec<Token<Bracket>>, PatternError> {
     let mut tokens = Vec::with_capacity(text.len().min(FEW));
     let mut place = 0;
@@ -69,7 +69,7 @@ fn read_text(text: &[char]) -> Result<Vec<Token<Bracket>>, PatternError> {
     Ok(tokens)
 }
 
-/// Puts the token of stars at the end. Neighbouring recursive wildcards become one.
+/// Appends the token of stars. Neighbouring recursive wildcards become one.
 fn push_stars(tokens: &mut Vec<Token<Bracket>>, token: Token<Bracket>) {
     if token.is_recursive() && ends_recursive(tokens.as_slice()) {
         return;
@@ -85,7 +85,7 @@ fn ends_recursive(tokens: &[Token<Bracket>]) -> bool {
     }
 }
 
-/// The stars at a place as a unit: its token, and the place after it.
+/// The unit of the stars at `place`: its token, and the place after it.
 fn stars_at(text: &[char], place: usize) -> Result<(Token<Bracket>, usize), PatternError> {
     if !has(text, place + 1, '*') {
         Ok((Token::AnySequence, place + 1))
@@ -102,7 +102,8 @@ fn stars_at(text: &[char], place: usize) -> Result<(Token<Bracket>, usize), Patt
     }
 }
 
-/// The bracket at a place as a unit: its token, and the place after it. The first character is never its `]`.
+/// The unit of the bracket at `place`: its token, and the place after it. A `]` right after `[` or `[!` does not close
+/// it.
 fn bracket_at(text: &[char], place: usize) -> Result<(Token<Bracket>, usize), PatternError> {
     let is_inverted = has(text, place + 1, '!');
     let start = if is_inverted { place + 2 } else { place + 1 };
@@ -112,7 +113,8 @@ fn bracket_at(text: &[char], place: usize) -> Result<(Token<Bracket>, usize), Pa
     Ok((token, close + 1))
 }
 
-/// The place of the first `]` from a place on, both in characters from 0: in `[]-]`, from 2 on, that is 3.
+/// The place of the first `]` from `start` on, or `None`. Both are in characters from 0: in `[]-]` it is 3 from 2 on.
+/// `start` may be at most two past the end.
 pub fn close_from(text: &[char], start: usize) -> Option<usize> {
     for place in start..text.len() {
         if text[place] == ']' {
@@ -122,18 +124,18 @@ pub fn close_from(text: &[char], start: usize) -> Option<usize> {
     None
 }
 
-/// A fault: where it is, in characters, and what it is.
+/// The error for a fault at `pos`, in characters from 0.
 fn fault(pos: usize, kind: PatternErrorKind) -> PatternError {
     PatternError { pos, msg: kind.message() }
 }
 
-/// Whether the character at a place is `c`.
+/// Whether the character at `place` is `c`; false past the end.
 fn has(text: &[char], place: usize, c: char) -> bool {
     place < text.len() && text[place] == c
 }
 
-/// Whether a component starts at a place, in characters from 0: it is the start, or a `/` is before it. In `a/b` one
-/// starts at 0 and at 2.
+/// Whether a component starts at `place`, in characters from 0: at the start, and right after a `/`. In `a/b`
+/// components start at 0 and 2. `place` must not be past the end.
 #[inline(always)]
 pub fn opens(text: &[char], place: usize) -> bool {
     place == 0 || text[place - 1] == '/'

@@ -1,6 +1,6 @@
-//! Made by `bin/rust_crate` from `crates/glob_pattern/src/matcher.rt`, where its contracts are: sha256 2053324628518c22.
+//! Made by `bin/rust_crate` from `crates/glob_pattern/src/matcher.rt`, where its contracts are: sha256 800abe4d545d4bef.
 //!
-//! Judges, and whether by their answers characters split into pieces.
+//! Judges, and whether their answers let the characters split into pieces.
 
 mod positions;
 mod shape_word;
@@ -8,22 +8,21 @@ mod shape_word;
 pub use positions::{decide, Span};
 pub use shape_word::{shape_words, with_bit, ShapeWord};
 
-/// How many tokens a word of 64 bits has. Its last bit is the position after them, as the first bit of the next word
-/// is.
+/// The number of tokens in a word of 64 bits. Bit 63 is the position after them, which is bit 0 of the next word.
 pub const WORD: usize = 63;
 
-/// Which pieces of a text a token may match. The shapes of `**/*a` are `Deep`, `Run` and `One`.
+/// Which pieces of a text a token can match. The shapes of `**/*a` are `Deep`, `Run` and `One`.
 #[derive(Clone, Copy, Debug, PartialEq, Eq)]
 pub enum Shape {
     /// One character.
     One,
     /// Any number of characters.
     Run,
-    /// Any number of characters. If shapes follow, either none or up to the start of a component.
+    /// Any number of characters. If shapes follow, the piece is empty or ends where a component starts.
     Deep,
 }
 
-/// What has a shape: a shape itself, or a token.
+/// Something with a shape: a shape itself, or a token.
 pub trait Shaped {
     /// Its shape.
     fn shape(&self) -> Shape;
@@ -35,30 +34,30 @@ impl Shaped for Shape {
     }
 }
 
-/// Answers questions about a list of characters and a list of tokens, both numbered from 0: which token takes which
-/// character. A judge is at a place: the number of characters that it has stepped over. It counts the questions.
+/// Answers which token takes which character, for a list of characters and a list of tokens, both numbered from 0. A
+/// judge has a place, which is the number of characters it has stepped over, and a count of its questions.
 ///
-/// For the text `ab` and the tokens of `a*`, a judge returns true for `step()`, then for `takes(0)` and `takes(1)`.
-/// After another `step()` it returns false for `takes(0)` and true for `takes(1)`; then `asked()` is 4, and `step()`
-/// returns false.
+/// A new judge for the text `ab` and the tokens of `a*` returns true for `step()`, `takes(0)` and `takes(1)`. After
+/// another `step()` it returns false for `takes(0)` and true for `takes(1)`. Then `asked()` is 4, and `step()` returns
+/// false.
 pub trait Judge {
     /// Steps over the next character. Returns whether there was one.
     fn step(&mut self) -> bool;
 
-    /// Whether a component starts at the place of the judge: for the text `a/b` at the places 0 and 2.
+    /// Whether a component starts at the judge's place. In the text `a/b` components start at the places 0 and 2.
     fn opens(&self) -> bool;
 
-    /// Whether a token takes the character last stepped over. Raises the count by one. `step` must have returned true
-    /// before, the token must be in the list, and the count below `u128::MAX`.
+    /// Whether the token takes the last character stepped over. Adds one to the count. There must be such a character
+    /// and such a token, and the count must be below `u128::MAX`.
     fn takes(&mut self, token: usize) -> bool;
 
-    /// Which of up to 63 tokens take the character last stepped over. Bit n of `asked` asks token 63 · `word` + n, and
-    /// the result has the bits of those that take the character. So `takes_each(1, 0b101)` asks tokens 63 and 65.
-    /// Raises the count by one for each bit of `asked`. `step` must have returned true before, each bit must be below
-    /// 63 and of a token in the list, and the count must have room.
+    /// Which of up to 63 tokens take the last character stepped over. Bit n of `asked` asks token 63 · `word` + n, and
+    /// bit n of the result is its answer: `takes_each(1, 0b101)` asks tokens 63 and 65. Adds one to the count for each
+    /// bit of `asked`. There must be such a character, each bit must be below 63 and have a token, and the count must
+    /// have room.
     ///
     /// This body calls [`takes`](Self::takes) for one token after another. A judge that knows many answers at once may
-    /// have its own.
+    /// have a body of its own.
     #[inline]
     fn takes_each(&mut self, word: usize, asked: u64) -> u64 {
         let mut left = asked;

@@ -1,7 +1,7 @@
-//! Made by `bin/rust_crate` from `crates/glob_pattern/src/lib.rt`, where its contracts are: sha256 206e95e51dae81e8.
+//! Made by `bin/rust_crate` from `crates/glob_pattern/src/lib.rt`, where its contracts are: sha256 e32c9ba2144706ea.
 //!
-//! Patterns in the syntax of Unix shells: parsing them, and matching texts and paths with them. `src/**/[!t]*.rs`
-//! matches each source below `src` whose name does not begin with `t`.
+//! Patterns in the syntax of Unix shells: parsing them, and matching texts and paths. `src/**/[!t]*.rs` matches every
+//! `.rs` file below `src` whose name does not begin with `t`.
 
 mod error;
 mod grammar;

@@ -1,24 +1,31 @@
-//! Made by `bin/rust_crate` from `crates/glob_pattern/src/options.rt`, where its contracts are: sha256 c4edbafc49b97c7d.
+//! Made by `bin/rust_crate` from `crates/glob_pattern/src/options.rt`, where its contracts are: sha256 ad41d2b9e3399dd9.
 //! Public there: `with_letter`, `from_letters`, `from_bits`. A trait of a user may have a function of such a name.
 //!
 //! The options of a match.
 
-/// How a pattern is compared with a text. With `MatchOptions::new()`, `*.rs` matches `src/.x.rs`; with
-/// `require_literal_separator` it does not.
+/// How patterns match. Under `MatchOptions::new()`, `*.rs` matches `src/.x.rs`; with `require_literal_separator` it
+/// does not.
+///
+/// ```
+/// use cadmiumdove::{MatchOptions, Pattern};
+///
+/// let options = MatchOptions { case_sensitive: false, ..MatchOptions::new() };
+/// assert!(Pattern::new("*.RS")?.matches_with("main.rs", options));
+/// # Ok::<(), cadmiumdove::PatternError>(())
+/// ```
 #[derive(Clone, Copy, Debug, PartialEq, Eq, PartialOrd, Ord, Hash)]
 pub struct MatchOptions {
-    /// Whether uppercase and lowercase letters differ. If not, letters of ASCII are the same in either case, in
-    /// brackets too; every other character is the same only as itself.
+    /// Whether upper and lower case differ. If not, ASCII letters match in either case, also in brackets, but not by
+    /// every range: `[A-_]` matches `A` and not `a`. All other characters are compared exactly.
     pub case_sensitive: bool,
-    /// The separator rule: `/` is matched only by a `/` outside brackets, or by `**`.
+    /// The separator rule: only `/` outside brackets and `**` match a `/`.
     pub require_literal_separator: bool,
-    /// The dot rule: a leading dot at a component start, which is the start of the text or right after a `/`, is
-    /// matched only by a `.` outside brackets.
+    /// The dot rule: only `.` outside brackets matches a `.` at the start of the text or right after a `/`.
     pub require_literal_leading_dot: bool,
 }
 
 impl MatchOptions {
-    /// Case-sensitive, and without the separator rule and the dot rule: so `A*` does not match `a/b`, and `*` does.
+    /// Case-sensitive, with neither rule: `*` matches `a/b`, and `A*` does not.
     ///
     /// ```
     /// # use cadmiumdove::MatchOptions;
@@ -40,7 +47,7 @@ impl MatchOptions {
 }
 
 impl Default for MatchOptions {
-    /// Case-insensitive, without the separator rule and the dot rule: so `A*` matches `a/b`.
+    /// Case-insensitive, with neither rule: `A*` matches `a/b`.
     fn default() -> Self {
         MatchOptions { case_sensitive: false, ..MatchOptions::new() }
     }

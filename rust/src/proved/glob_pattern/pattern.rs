@@ -1,7 +1,7 @@
-//! Made by `bin/rust_crate` from `crates/glob_pattern/src/pattern.rt`, where its contracts are: sha256 e1166e221dfc84ca.
+//! Made by `bin/rust_crate` from `crates/glob_pattern/src/pattern.rt`, where its contracts are: sha256 db524bf8b0bf4149.
 //! Public there: `matches_counted`. A trait of a user may have a function of such a name.
 //!
-//! Patterns: parsing, and matching texts.
+//! Patterns: parsing them, and matching texts.
 
 mod automaton;
 mod char_masks;
@@ -20,23 +20,32 @@ use crate::proved::glob_pattern::options::MatchOptions;
 use compiled::Compiled;
 pub use tokens::{token_kind, token_takes, tokens_len, TokenKind};
 
-/// A parsed pattern, which matches texts.
+/// A parsed pattern.
 ///
 /// | In a pattern | Matches |
 /// |---|---|
 /// | `?` | any one character |
 /// | `*` | any number of characters |
-/// | `**` | any number of whole components; it is a component of its own |
+/// | `**` | any number of whole components; it must be a whole component itself |
 /// | `[abc]`, `[a-z]` | one character that is listed or in a range |
-/// | `[!abc]` | one character that is not |
+/// | `[!abc]` | one character that is not listed |
 /// | any other character | itself |
+///
+/// ```
+/// use cadmiumdove::Pattern;
+///
+/// let pattern = Pattern::new("src/**/*.rs")?;
+/// assert!(pattern.matches("src/walk/main.rs") && !pattern.matches("src/walk/main.c"));
+/// # Ok::<(), cadmiumdove::PatternError>(())
+/// ```
 pub struct Pattern {
     text: String,
     compiled: Compiled,
 }
 
 impl Pattern {
-    /// The text that the pattern was parsed from, as `a/*.rs`. It is accepted: parsed again it gives an equal pattern.
+    /// The text that the pattern was parsed from, such as `a/*.rs`. It is accepted: parsing it again gives an equal
+    /// pattern.
     ///
     /// ```
     /// # use cadmiumdove::Pattern;
@@ -57,10 +66,7 @@ impl Pattern {
         self.text.as_str()
     }
 
-    /// Parses a pattern. So `src/**/*.rs` is accepted, and `src/**.rs` is not.
-    ///
-    /// The error is [`PatternError`] if the text is not accepted, with its first fault from the left, whose place
-    /// counts characters.
+    /// Parses a pattern. `src/**/*.rs` is accepted, and `src/**.rs` is not.
     ///
     /// ```
     /// # use cadmiumdove::Pattern;
@@ -68,6 +74,11 @@ impl Pattern {
     /// assert!(pattern.matches("src/walk/main.rs"));
     /// # Ok::<(), Box<dyn std::error::Error>>(())
     /// ```
+    ///
+    /// # Errors
+    ///
+    /// The error is [`PatternError`] with the first fault from the left, its place in characters from 0, if the text is
+    /// not accepted.
     ///
     /// <details><summary>Contract</summary>
     ///
@@ -85,8 +96,9 @@ impl Pattern {
         Ok(Pattern { text, compiled })
     }
 
-    /// Whether the pattern matches the whole text, case-sensitive, without the separator rule and the dot rule:
-    /// [`matches_with`](Self::matches_with) under `MatchOptions::new()`. So `*.rs` matches `main.rs` and `src/main.rs`.
+    /// Whether the pattern matches the whole text, case-sensitively, with neither the separator rule nor the dot rule.
+    /// This is [`matches_with`](Self::matches_with) under `MatchOptions::new()`: `*.rs` matches `main.rs` and
+    /// `src/main.rs`.
     ///
     /// ```
     /// # use cadmiumdove::Pattern;
@@ -110,8 +122,8 @@ impl Pattern {
         self.matches_with(str, MatchOptions::new())
     }
 
-    /// Whether the pattern matches the whole text: whether the text splits into one allowed piece for each token. So
-    /// `*.rs` matches `src/main.rs`, and with the separator rule it does not.
+    /// Whether the pattern matches the whole text: whether the text splits into one allowed piece per token. `*.rs`
+    /// matches `src/main.rs`, but not under the separator rule.
     ///
     /// ```
     /// # use cadmiumdove::MatchOptions;
@@ -139,8 +151,8 @@ impl Pattern {
     }
 }
 
-/// The character that the token of this number is, counted from 0, or `None` if it is a wildcard or a bracket, or there
-/// is none: of `a*.rs` it is `.` at 2.
+/// The character of token `number`, counted from 0, if that is a literal: `.` for token 2 of `a*.rs`. `None` if it is a
+/// wildcard or a bracket, or if there is no such token.
 pub fn literal_at(pattern: &Pattern, number: usize) -> Option<char> {
     pattern.compiled.literal_at(number)
 }
@@ -148,7 +160,7 @@ pub fn literal_at(pattern: &Pattern, number: usize) -> Option<char> {
 impl std::str::FromStr for Pattern {
     type Err = PatternError;
 
-    /// [`new`](Self::new), under the name of the trait `FromStr`, with its errors. So `from_str("*.rs")` is the pattern of
+    /// [`new`](Self::new) by the name that the trait `FromStr` uses, with the same errors. `from_str("*.rs")` equals
     /// `new("*.rs")`.
     fn from_str(s: &str) -> Result<Self, PatternError> {
         Self::new(s)
@@ -156,7 +168,7 @@ impl std::str::FromStr for Pattern {
 }
 
 impl Default for Pattern {
-    /// The empty pattern, which matches the empty text alone: `""` and not `"a"`.
+    /// The empty pattern, which matches only the empty text: `""`, not `"a"`.
     fn default() -> Self {
         Pattern { text: String::new(), compiled: Compiled::empty() }
     }

@@ -1,4 +1,4 @@
-//! Made by `bin/rust_crate` from `crates/glob_pattern/src/token.rt`, where its contracts are: sha256 b87eb54d54382a13.
+//! Made by `bin/rust_crate` from `crates/glob_pattern/src/token.rt`, where its contracts are: sha256 fd8023933bbbcd65.
 //!
 //! The tokens of a pattern.
 
@@ -8,8 +8,8 @@ pub mod taking;
 use crate::proved::glob_pattern::matcher::{Shape, Shaped};
 use bracket::Bracket;
 
-/// A token: what a unit of a pattern means. `C` is the content of a bracket. The shape of `AnySequence` is `Run`, that of
-/// `Recursive` is `Deep`, and that of each other token is `One`.
+/// A token: what a unit of a pattern means. `C` is the content of a bracket. `AnySequence` has the shape `Run`,
+/// `Recursive` has `Deep`, and every other token has `One`.
 #[derive(Clone)]
 pub enum Token<C> {
     /// A character.
@@ -20,9 +20,9 @@ pub enum Token<C> {
     AnySequence,
     /// `**`, the recursive wildcard: any number of whole path components.
     Recursive,
-    /// `[..]`, a character that the bracket holds.
+    /// `[..]`, a character in the bracket.
     OneOf(C),
-    /// `[!..]`, a character that the bracket does not hold.
+    /// `[!..]`, a character that is not in the bracket.
     NoneOf(C),
 }
 

@@ -1,29 +1,29 @@
-//! Made by `bin/rust_crate` from `crates/glob_rules/src/classes.rt`, where its contracts are: sha256 cf2e699eaad05aae.
+//! Made by `bin/rust_crate` from `crates/glob_rules/src/classes.rt`, where its contracts are: sha256 1b44f261813a978c.
 //!
-//! The classes of characters that a bracket may name.
+//! The character classes of a bracket, as in `[[:digit:]_]`.
 
-/// A class of characters, as git has it: all of them are ASCII.
+/// A character class as git defines it: all its characters are ASCII.
 #[derive(Clone, Copy)]
 pub enum Class {
     /// Letters and digits.
     Alnum,
     /// Letters.
     Alpha,
-    /// The blank and the tab.
+    /// Space and tab.
     Blank,
-    /// What does not print.
+    /// Control characters.
     Cntrl,
     /// Digits.
     Digit,
-    /// What prints, but for the blank.
+    /// Printable characters except the space.
     Graph,
     /// Lower case letters.
     Lower,
-    /// What prints.
+    /// Printable characters.
     Print,
-    /// What prints, but for the blank, letters and digits.
+    /// Printable characters except the space, letters and digits.
     Punct,
-    /// The blank, the tab, LF and CR. To C, VT and FF are of this class, too.
+    /// Space, tab, LF and CR. In C this class also has VT and FF.
     Space,
     /// Upper case letters.
     Upper,
@@ -48,12 +48,12 @@ const CLASSES: [(&[u8], Class); 12] = [
 ];
 
 impl Class {
-    /// The class of a name.
+    /// The class with this name, if there is one.
     pub fn named(name: &[u8]) -> Option<Class> {
         class_in(&CLASSES, name)
     }
 
-    /// Whether it has a character.
+    /// Whether `c` is in the class.
     pub fn has(self, c: u8) -> bool {
         match self {
             Class::Alnum => c.is_ascii_alphanumeric(),
@@ -72,7 +72,7 @@ impl Class {
     }
 }
 
-/// The class of a name in a table.
+/// The class with this name in the table.
 fn class_in(mut classes: &[(&[u8], Class)], name: &[u8]) -> Option<Class> {
     while let [class, rest @ ..] = classes {
         if name == class.0 {
@@ -83,7 +83,7 @@ fn class_in(mut classes: &[(&[u8], Class)], name: &[u8]) -> Option<Class> {
     None
 }
 
-/// What is before the first `]`, or all of it where there is none.
+/// The text before its first `]`, or all of it if it has none.
 pub fn before_close(text: &[u8]) -> &[u8] {
     match text.iter().position(|c| *c == b']') {
         Some(end) => &text[..end],

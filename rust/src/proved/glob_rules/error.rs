@@ -1,24 +1,33 @@
-//! Made by `bin/rust_crate` from `crates/glob_rules/src/error.rt`, where its contracts are: sha256 62b0791887feaa67.
+//! Made by `bin/rust_crate` from `crates/glob_rules/src/error.rt`, where its contracts are: sha256 314a9683b7ef06cc.
 //! Not derived there: `RuleRefusal`.
+//! `Reason` is not `#[non_exhaustive]` there.
 //!
-//! Why a text is no ignore list.
+//! Why a text is refused as an ignore list.
 
 use std::error::Error;
 use std::fmt;
 
-/// Why a line is refused: it has no exact translation, or what git does with it is against gitignore(5).
+/// Why a line is refused: it has no exact translation, or git contradicts gitignore(5) on it.
+///
+/// ```
+/// use cadmiumdove::ignore::IgnoreList;
+///
+/// let refusal = IgnoreList::new("[[:word:]]\n").unwrap_err();
+/// assert_eq!(refusal.to_string(), "line 1: a bracket has an unknown class of characters");
+/// ```
 #[derive(Clone, Copy, Debug, PartialEq, Eq)]
+#[non_exhaustive]
 pub enum Reason {
-    /// A bracket names a character beyond ASCII, as `[é]`: git takes its bytes, each alone.
+    /// A bracket has a non-ASCII character, as in `[é]`: git matches each of its bytes by itself.
     BeyondAscii,
-    /// A bracket has a class of characters that git does not know, as `[[:word:]]`: to git such a rule names nothing.
+    /// A bracket has a class that git does not know, as in `[[:word:]]`: in git such a rule matches nothing.
     UnknownClass,
-    /// In a rule with a separator, two stars or more are right behind plain text and end the component, as in `a**/b`:
-    /// git's answer contradicts its manual.
+    /// In a rule with a separator, nothing but literal text comes before two or more stars that end a component and do
+    /// not begin it, as in `a**/b`: git contradicts its manual here.
     StarsBehindText,
-    /// The line has a NUL, where git ends the line.
+    /// The line has a NUL, where git stops reading it.
     Nul,
-    /// The translation is refused as a pattern. No line is known for which that comes.
+    /// The translation is not a valid pattern. No line is known to cause this.
     Pattern,
 }
 
@@ -34,12 +43,18 @@ impl fmt::Display for Reason {
     }
 }
 
-/// Why a text is refused as an ignore list, by [`IgnoreList::new`](crate::proved::glob_rules::IgnoreList::new). So the
-/// text `[é]` is refused with `Line`, the line 1 and [`Reason::BeyondAscii`], and prints as `line 1: a bracket names a
-/// character beyond ASCII`.
+/// Why [`IgnoreList::new`](crate::proved::glob_rules::IgnoreList::new) refused a text. The text `[é]` is refused with
+/// `Line(1, Reason::BeyondAscii)`, which prints as `line 1: a bracket names a character beyond ASCII`.
+///
+/// ```
+/// use cadmiumdove::ignore::{IgnoreList, RuleRefusal};
+///
+/// let RuleRefusal::Line(number, reason) = IgnoreList::new("*.o\n[é]\n").unwrap_err();
+/// assert_eq!((number, reason.to_string().as_str()), (2, "a bracket names a character beyond ASCII"));
+/// ```
 #[derive(Debug, Clone, PartialEq, Eq)]
 pub enum RuleRefusal {
-    /// The first line that is refused, counted from 1, and why.
+    /// The number of the first refused line, counted from 1, and the reason.
     Line(usize, Reason),
 }
 

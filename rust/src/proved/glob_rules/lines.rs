@@ -1,10 +1,10 @@
-//! Made by `bin/rust_crate` from `crates/glob_rules/src/lines.rt`, where its contracts are: sha256 14338078d60f53b0.
+//! Made by `bin/rust_crate` from `crates/glob_rules/src/lines.rt`, where its contracts are: sha256 476c033af619b6d7.
 //!
 //! The lines of an ignore list.
 
 use crate::proved::glob_rules::reading::{Outcome, Reading};
 
-/// A line that is read.
+/// A line of an ignore list, as read.
 pub struct Line {
     outcome: Outcome,
     negative: bool,
@@ -13,77 +13,32 @@ pub struct Line {
 }
 
 impl Line {
-    /// What the line is.
-    ///
-    /// <details><summary>Contract</summary>
-    ///
-    /// ```text
-    /// ensures { result ≡ self.now.outcome }
-    /// ```
-    ///
-    /// </details>
-    #[must_use]
+    /// The outcome of reading the line.
     pub fn outcome(&self) -> Outcome {
         self.outcome
     }
 
     /// Whether its rule begins with `!`.
-    ///
-    /// <details><summary>Contract</summary>
-    ///
-    /// ```text
-    /// ensures { result ≡ self.now.negative }
-    /// ```
-    ///
-    /// </details>
-    #[must_use]
     pub fn negative(&self) -> bool {
         self.negative
     }
 
-    /// Whether its rule is for directories alone.
-    ///
-    /// <details><summary>Contract</summary>
-    ///
-    /// ```text
-    /// ensures { result ≡ self.now.directories }
-    /// ```
-    ///
-    /// </details>
-    #[must_use]
+    /// Whether its rule is for directories only.
     pub fn directories(&self) -> bool {
         self.directories
     }
 
-    /// Its pattern.
-    ///
-    /// <details><summary>Contract</summary>
-    ///
-    /// ```text
-    /// ensures { result.now ≡ self.now.glob }
-    /// ```
-    ///
-    /// </details>
-    #[must_use]
+    /// The pattern of its rule.
     pub fn glob(&self) -> &[u8] {
         self.glob.as_slice()
     }
 
-    /// A line that names nothing.
+    /// A line that matches nothing.
     fn nothing() -> Self {
         Line { outcome: Outcome::Nothing, negative: false, directories: false, glob: Vec::new() }
     }
 
-    /// The line of these bytes.
-    ///
-    /// <details><summary>Contract</summary>
-    ///
-    /// ```text
-    /// ensures { IfOk result (λ line. line ≡ line_of text.now) }
-    /// ```
-    ///
-    /// </details>
-    #[must_use]
+    /// Reads a line, given without its line feed.
     pub fn read(text: &[u8]) -> Self {
         if has(text, 0, b'#') {
             return Self::nothing();
@@ -95,7 +50,7 @@ impl Line {
         Self::of_body(negative, directories, without_last(body, b'/'))
     }
 
-    /// The line of a rule without its marks.
+    /// The line of a rule without its `!` and its last `/`.
     fn of_body(negative: bool, directories: bool, body: &[u8]) -> Self {
         if body.is_empty() || ends_in(body, b'/') {
             return Self::nothing();
@@ -105,12 +60,12 @@ impl Line {
     }
 }
 
-/// Whether there is a separator.
+/// Whether the text has a separator.
 fn is_path(text: &[u8]) -> bool {
     text.iter().any(|c| *c == b'/')
 }
 
-/// Whether the byte at a place is `c`.
+/// Whether the byte at `place` is `c`; false beyond the end.
 pub fn has(text: &[u8], place: usize, c: u8) -> bool {
     place < text.len() && text[place] == c
 }
@@ -120,7 +75,7 @@ fn ends_in(text: &[u8], c: u8) -> bool {
     has(text, text.len().saturating_sub(1), c)
 }
 
-/// The text without `c` at its start.
+/// The text without a leading `c`.
 fn without_first(text: &[u8], c: u8) -> &[u8] {
     if has(text, 0, c) {
         &text[1..]
@@ -129,7 +84,7 @@ fn without_first(text: &[u8], c: u8) -> &[u8] {
     }
 }
 
-/// The text without `c` at its end.
+/// The text without a trailing `c`.
 fn without_last(text: &[u8], c: u8) -> &[u8] {
     if ends_in(text, c) {
         &text[..text.len() - 1]
@@ -138,12 +93,12 @@ fn without_last(text: &[u8], c: u8) -> &[u8] {
     }
 }
 
-/// The text without the blanks at its end that no backslash escapes.
+/// The text without its unescaped trailing spaces.
 fn without_blanks(text: &[u8]) -> &[u8] {
     &text[..kept_len(text)]
 }
 
-/// How many bytes there are up to the last that is no such blank.
+/// The length of the text without its unescaped trailing spaces.
 fn kept_len(text: &[u8]) -> usize {
     let mut kept = 0;
     let mut escaped = false;
@@ -154,7 +109,7 @@ fn kept_len(text: &[u8]) -> usize {
     kept
 }
 
-/// What is kept up to a byte, where `kept` is kept before it.
+/// How many bytes to keep after `c`, the byte at `place`, where `kept` are kept before it.
 fn kept_after(kept: usize, place: usize, escaped: bool, c: u8) -> usize {
     if escaped || c != b' ' {
         place + 1
@@ -163,7 +118,7 @@ fn kept_after(kept: usize, place: usize, escaped: bool, c: u8) -> usize {
     }
 }
 
-/// Whether a byte escapes the next one.
+/// Whether `c` escapes the next byte, where `escaped` says whether `c` is escaped itself.
 fn escapes(escaped: bool, c: u8) -> bool {
     !escaped && c == b'\\'
 }

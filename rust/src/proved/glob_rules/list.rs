@@ -1,4 +1,4 @@
-//! Made by `bin/rust_crate` from `crates/glob_rules/src/list.rt`, where its contracts are: sha256 2aab854f254df3ec.
+//! Made by `bin/rust_crate` from `crates/glob_rules/src/list.rt`, where its contracts are: sha256 94bc3a0f5477968c.
 //! Not derived there: `IgnoreList`.
 //!
 //! Ignore lists: which paths they ignore, and by which rule.
@@ -20,6 +20,15 @@ use crate::proved::glob_set::PatternSet;
 /// ```
 ///
 /// A path is the names from the list's directory on, with `/` between them and none at its start or its end.
+///
+/// ```
+/// use cadmiumdove::ignore::IgnoreList;
+///
+/// let list = IgnoreList::new("*.o\n!keep.o\n/target/\n")?;
+/// assert!(list.is_ignored("src/a.o", false) && !list.is_ignored("keep.o", false));
+/// assert!(list.is_ignored("target/debug/a.rs", false) && !list.is_ignored("src/target", true));
+/// # Ok::<(), cadmiumdove::ignore::RuleRefusal>(())
+/// ```
 #[derive(Clone)]
 pub struct IgnoreList {
     rules: Vec<Rule>,
@@ -29,6 +38,15 @@ pub struct IgnoreList {
 
 impl IgnoreList {
     /// The rules of a text, a line each. Comments, blank lines and lines that can name nothing have none.
+    ///
+    /// ```
+    /// use cadmiumdove::ignore::{IgnoreList, Reason, RuleRefusal};
+    ///
+    /// assert!(IgnoreList::new("# nothing\n\n*.o\n").is_ok());
+    /// assert_eq!(IgnoreList::new("*.o\n[é]\n").unwrap_err(), RuleRefusal::Line(2, Reason::BeyondAscii));
+    /// ```
+    ///
+    /// # Errors
     ///
     /// The error is [`Line`](RuleRefusal::Line) for the first line that is refused.
     ///
@@ -51,6 +69,15 @@ impl IgnoreList {
     /// the directories above the path, each of which is taken for one, the outermost that is ignored decides; else it
     /// is the last rule that names the path. So by `a/` and `!a/b` the path `a/b` is ignored.
     ///
+    /// ```
+    /// use cadmiumdove::ignore::IgnoreList;
+    ///
+    /// let list = IgnoreList::new("target/\n")?;
+    /// assert!(list.is_ignored("target", true) && list.is_ignored("target/a.rs", false));
+    /// assert!(!list.is_ignored("target", false));
+    /// # Ok::<(), cadmiumdove::ignore::RuleRefusal>(())
+    /// ```
+    ///
     /// <details><summary>Contract</summary>
     ///
     /// ```text
@@ -67,6 +94,15 @@ impl IgnoreList {
     /// The rule that decides whether the list ignores a path, or `None` if no rule names it: by `a/` and `!a/b` it is
     /// that of line 1 for `a/b`.
     ///
+    /// ```
+    /// use cadmiumdove::ignore::IgnoreList;
+    ///
+    /// let list = IgnoreList::new("*.o\n!keep.o\n")?;
+    /// assert!(list.deciding_rule("keep.o", false).is_some_and(|rule| rule.line == 2 && rule.negative));
+    /// assert_eq!(list.deciding_rule("a.rs", false), None);
+    /// # Ok::<(), cadmiumdove::ignore::RuleRefusal>(())
+    /// ```
+    ///
     /// <details><summary>Contract</summary>
     ///
     /// ```text
@@ -78,6 +114,35 @@ impl IgnoreList {
     #[must_use]
     pub fn deciding_rule(&self, path: &str, is_directory: bool) -> Option<Rule> {
         match self.deciding(path, is_directory) {
+            Some(number) => Some(self.rules[number]),
+            None => None,
+        }
+    }
+
+    /// The last rule that names a path itself, whatever is said of the directories above it, or `None` if no rule does.
+    /// Who comes down from the list's directory, and enters no directory that is ignored, asks this alone: by `a/` and
+    /// `!a/b` it is the rule of line 2 for `a/b`.
+    ///
+    /// ```
+    /// use cadmiumdove::ignore::IgnoreList;
+    ///
+    /// let list = IgnoreList::new("target/\n")?;
+    /// assert_eq!(list.naming_rule("target", true).map(|rule| rule.line), Some(1));
+    /// assert_eq!(list.naming_rule("target/a.rs", false), None);
+    /// # Ok::<(), cadmiumdove::ignore::RuleRefusal>(())
+    /// ```
+    ///
+    /// <details><summary>Contract</summary>
+    ///
+    /// ```text
+    /// ensures rule { IfOk result
+    ///     (λ rule. rule ≡ naming_rule self.now path.now is_directory) }
+    /// ```
+    ///
+    /// </details>
+    #[must_use]
+    pub fn naming_rule(&self, path: &str, is_directory: bool) -> Option<Rule> {
+        match self.last_naming(path, is_directory) {
             Some(number) => Some(self.rules[number]),
             None => None,
         }

@@ -1,11 +1,11 @@
-//! Made by `bin/rust_crate` from `crates/glob_rules/src/listing.rt`, where its contracts are: sha256 e16abeea991ec2a1.
+//! Made by `bin/rust_crate` from `crates/glob_rules/src/listing.rt`, where its contracts are: sha256 5f5d38f1c5b13d7c.
 //!
 //! The characters of a bracket, written out.
 
 use crate::proved::glob_rules::steps::{Span, Writing};
 
-/// Each character of ASCII but NUL, in an order in which a bracket may have any of them with its `/`: `]` is first, and
-/// `!` and `-` are last.
+/// The ASCII characters except NUL, in an order in which a bracket can list any of them together with `/`: `]` comes
+/// first, `!` and `-` come last.
 pub const ORDER: [u8; 127] = [
     b']', 1, 2, 3, 4, 5, 6, 7, 8, 9, 10, 11, 12, 13, 14, 15, 16, 17, 18, 19, 20, 21, 22, 23, 24, 25, 26, 27, 28, 29,
     30, 31, 32, b'"', b'#', b'$', b'%', b'&', b'\'', b'(', b')', b'*', b'+', b',', b'.', b'/', b'0', b'1', b'2', b'3',
@@ -16,13 +16,13 @@ pub const ORDER: [u8; 127] = [
     b'-',
 ];
 
-/// Whether a bracket with these characters holds one. It holds `/`, which no bracket matches under the separator rule,
-/// so that it is never empty.
+/// Whether a bracket with these spans lists `c`. Every bracket lists `/`, so that none is empty; under the separator
+/// rule no bracket matches it.
 fn holds(spans: &[Span], c: u8) -> bool {
     c == b'/' || is_in_any(spans, c)
 }
 
-/// Whether a character is between the ends, or of the class.
+/// Whether `c` is in the span.
 fn is_within(c: u8, span: Span) -> bool {
     match span {
         Span::Between(first, last) => first <= c && c <= last,
@@ -30,12 +30,12 @@ fn is_within(c: u8, span: Span) -> bool {
     }
 }
 
-/// Whether a character is in one of the spans.
+/// Whether `c` is in one of the spans.
 fn is_in_any(spans: &[Span], c: u8) -> bool {
     spans.iter().any(|span| is_within(c, *span))
 }
 
-/// Writes the characters of a bracket.
+/// Appends the characters of a bracket.
 fn write_held(glob: &mut Vec<u8>, spans: &[Span]) {
     for place in 0..ORDER.len() {
         if holds(spans, ORDER[place]) {
@@ -44,7 +44,7 @@ fn write_held(glob: &mut Vec<u8>, spans: &[Span]) {
     }
 }
 
-/// Writes what a step says, where the bracket has these characters.
+/// Appends what a step writes, where the bracket has these spans.
 pub fn write(glob: &mut Vec<u8>, spans: &[Span], writing: Writing) {
     match writing {
         Writing::Nothing => {}

@@ -1,9 +1,9 @@
-//! Made by `bin/rust_crate` from `crates/glob_rules/src/lib.rt`, where its contracts are: sha256 becc3f9791b2d326.
+//! Made by `bin/rust_crate` from `crates/glob_rules/src/lib.rt`, where its contracts are: sha256 787afa312a3e89a3.
 //!
-//! Ignore lists: which paths the rules of gitignore(5) leave out.
+//! Ignore lists: which paths the rules of gitignore(5) exclude.
 //!
-//! An [`IgnoreList`] of the lines `*.o`, `target/` and `!keep.o` ignores `a.o` and all below `src/target`, and not
-//! `keep.o`.
+//! An [`IgnoreList`] of the lines `*.o`, `target/` and `!keep.o` ignores `a.o` and everything below `src/target`, but
+//! not `keep.o`.
 
 mod classes;
 mod error;

@@ -1,16 +1,16 @@
-//! Made by `bin/rust_crate` from `crates/glob_rules/src/reading.rt`, where its contracts are: sha256 0e05f076360c1545.
+//! Made by `bin/rust_crate` from `crates/glob_rules/src/reading.rt`, where its contracts are: sha256 a7f5bd35701959fa.
 //!
-//! Rules read a byte at a time.
+//! The translation of a rule, byte by byte.
 
 use crate::proved::glob_rules::classes::before_close;
 use crate::proved::glob_rules::error::Reason;
 use crate::proved::glob_rules::listing::write;
 use crate::proved::glob_rules::steps::{step_from, Change, Mode, Span};
 
-/// What a rule is, once all of it is read.
+/// The outcome of reading a rule.
 #[derive(Clone, Copy)]
 pub enum Outcome {
-    /// It names nothing.
+    /// It matches nothing.
     Nothing,
     /// It has a pattern.
     Named,
@@ -18,7 +18,7 @@ pub enum Outcome {
     Refused(Reason),
 }
 
-/// A rule that is read: what the bytes so far end with, the characters of the last bracket, and the pattern so far.
+/// A rule read in part: the mode after the bytes so far, the characters of the last bracket, and the pattern so far.
 pub struct Reading {
     mode: Mode,
     spans: Vec<Span>,
@@ -26,11 +26,11 @@ pub struct Reading {
 }
 
 impl Reading {
-    /// The rule of these bytes, where `path` says that it is taken from the list's own directory.
+    /// Reads all of a rule. `path` says that it is relative to the list's directory.
     pub fn of(text: &[u8], path: bool) -> Self {
         let mut reading = Self::start(path);
         let mut rest = text;
-        // it is looked for once a `]`, and not once a byte
+        // search once per `]`, not once per byte
         let mut ahead = before_close(text);
         while let [c, after @ ..] = rest {
             ahead = match ahead {
@@ -43,13 +43,13 @@ impl Reading {
         reading
     }
 
-    /// A rule of which nothing is read.
+    /// A rule before its first byte.
     fn start(path: bool) -> Self {
         let front: &[u8] = if path { &[] } else { &[b'*', b'*', b'/'] };
         Reading { mode: Mode::Units(path, path), spans: Vec::new(), glob: Vec::from(front) }
     }
 
-    /// Reads one byte, where `ahead` is what follows it, up to the next `]` or the end.
+    /// Reads one byte. `ahead` is the text after it, up to the next `]` or the end.
     fn advance(&mut self, c: u8, ahead: &[u8]) {
         let step = step_from(self.mode, c, ahead);
         change(&mut self.spans, step.change);
@@ -57,7 +57,7 @@ impl Reading {
         self.mode = step.mode;
     }
 
-    /// What the rule is.
+    /// The outcome, if the rule ends here.
     pub fn outcome(&self) -> Outcome {
         match self.mode {
             Mode::Units(_, _) | Mode::Star(_, _) | Mode::Stars(_, true) => Outcome::Named,
@@ -67,7 +67,7 @@ impl Reading {
         }
     }
 
-    /// The rule's pattern.
+    /// The pattern, if the rule ends here.
     pub fn into_glob(self) -> Vec<u8> {
         let mut glob = self.glob;
         if matches!(self.mode, Mode::Stars(_, _)) {
@@ -77,7 +77,7 @@ impl Reading {
     }
 }
 
-/// Makes the change of a step.
+/// Applies a change to the bracket's characters.
 fn change(spans: &mut Vec<Span>, change: Change) {
     match change {
         Change::Keep => {}

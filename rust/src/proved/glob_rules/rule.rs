@@ -1,14 +1,23 @@
-//! Made by `bin/rust_crate` from `crates/glob_rules/src/rule.rt`, where its contracts are: sha256 30c2df5280c34c3c.
+//! Made by `bin/rust_crate` from `crates/glob_rules/src/rule.rt`, where its contracts are: sha256 f07b6e94ca55f860.
 //!
 //! Rules of an ignore list.
 
-/// A rule of an ignore list, without its pattern. That of the line `!*.o/` is negative and for directories alone.
+/// A rule of an ignore list, without its pattern. The line `!*.o/` has a negative rule that is for directories only.
+///
+/// ```
+/// use cadmiumdove::ignore::{IgnoreList, Rule};
+///
+/// let list = IgnoreList::new("*.o\n!*.o/\n")?;
+/// let rule = Rule { line: 2, negative: true, directories: true };
+/// assert_eq!(list.deciding_rule("a.o", true), Some(rule));
+/// # Ok::<(), cadmiumdove::ignore::RuleRefusal>(())
+/// ```
 #[derive(Clone, Copy, Debug, PartialEq, Eq)]
 pub struct Rule {
-    /// Its line in the list, counted from 1. The count stops at `usize::MAX`.
+    /// The number of its line in the list, counted from 1. It stops at `usize::MAX`.
     pub line: usize,
-    /// Whether it brings back what an earlier rule ignores: it begins with `!`.
+    /// Whether it begins with `!`, and so re-includes what an earlier rule ignores.
     pub negative: bool,
-    /// Whether it names directories alone: it ends in `/`.
+    /// Whether it ends in `/`, and so matches only directories.
     pub directories: bool,
 }

@@ -1,4 +1,4 @@
-//! Made by `bin/rust_crate` from `crates/glob_rules/src/rules.rt`, where its contracts are: sha256 bb8372ab509db428.
+//! Made by `bin/rust_crate` from `crates/glob_rules/src/rules.rt`, where its contracts are: sha256 54d5999560c04da2.
 //!
 //! The rules of a text, line by line.
 
@@ -17,7 +17,7 @@ pub struct Rules {
 }
 
 impl Rules {
-    /// The rules of a text.
+    /// Reads the rules of a text.
     pub fn read(text: &str) -> Result<Self, RuleRefusal> {
         let mut rules = Rules { lines: 0, rules: Vec::new(), patterns: Vec::new() };
         let lines = without_byte_order_mark(text);
@@ -46,19 +46,19 @@ impl Rules {
         Ok(())
     }
 
-    /// Its parts: the number of lines, the rules, and their patterns.
+    /// Takes it apart: the number of lines, the rules, and their patterns.
     pub fn into_parts(self) -> (usize, Vec<Rule>, Vec<Pattern>) {
         (self.lines, self.rules, self.patterns)
     }
 }
 
-/// The pattern of a rule of this line.
+/// The pattern of the rule in this line.
 fn pattern_of(glob: &[u8], line: usize) -> Result<Pattern, RuleRefusal> {
     let text = str::from_utf8(glob).map_err(|_| RuleRefusal::Line(line, Reason::Pattern))?;
     Pattern::new(text).map_err(|_| RuleRefusal::Line(line, Reason::Pattern))
 }
 
-/// The text without a byte order mark at its start.
+/// The text without its byte order mark.
 fn without_byte_order_mark(text: &str) -> &str {
     if begins_with_mark(text.as_bytes()) {
         &text[3..]
@@ -67,7 +67,7 @@ fn without_byte_order_mark(text: &str) -> &str {
     }
 }
 
-/// Whether the three bytes of a byte order mark are first.
+/// Whether the text begins with a byte order mark.
 fn begins_with_mark(text: &[u8]) -> bool {
     has(text, 0, 0xEF) && has(text, 1, 0xBB) && has(text, 2, 0xBF)
 }

@@ -1,21 +1,21 @@
-//! Made by `bin/rust_crate` from `crates/glob_rules/src/steps.rt`, where its contracts are: sha256 1d1670cbff811491.
+//! Made by `bin/rust_crate` from `crates/glob_rules/src/steps.rt`, where its contracts are: sha256 842a1810a0e3722b.
 //!
-//! What one byte of a rule means, after those before it.
+//! What one byte of a rule does, given the bytes before it.
 
 use crate::proved::glob_rules::classes::Class;
 use crate::proved::glob_rules::error::Reason;
 
-/// What the bytes so far end with. In a rule with a separator `plain` says that all of them are plain text, and
-/// `opening` that a component begins; in a rule without one, both are false.
+/// The mode that the bytes so far lead to. In a rule with a separator, `plain` says that all of them are unescaped
+/// literals, and `opening` that a component begins here; in other rules both are false.
 #[derive(Clone, Copy)]
 pub enum Mode {
-    /// The end of a unit: `plain` and `opening`.
+    /// A complete unit, with `plain` and `opening` after it.
     Units(bool, bool),
     /// A backslash.
     Escape,
-    /// A star, and before it `plain` and `opening`.
+    /// A star, with `plain` and `opening` before it.
     Star(bool, bool),
-    /// Two stars or more, of which `plain` or `opening` is true.
+    /// Two or more stars, with `plain` and `opening` before them. One of the two is true.
     Stars(bool, bool),
     /// Such stars and a backslash.
     EscapedStars,
@@ -23,11 +23,11 @@ pub enum Mode {
     Open,
     /// `[!` or `[^`.
     Negation,
-    /// A range of a bracket, or a class: what follows begins anew.
+    /// A range or a class in a bracket: the next byte begins a new item.
     Range,
     /// An item of a bracket that may begin a range.
     Item(u8),
-    /// `[` and the beginning of a class.
+    /// A class in a bracket, up to its `]`.
     InClass,
     /// An item and a hyphen.
     Hyphen(u8),
@@ -39,27 +39,27 @@ pub enum Mode {
     Refused(Reason),
 }
 
-/// Characters of a bracket.
+/// Some characters of a bracket.
 #[derive(Clone, Copy)]
 pub enum Span {
-    /// From the first to the last. If the last is before the first, there are none.
+    /// From the first to the last, both included. Empty if the last is below the first.
     Between(u8, u8),
-    /// Those of a class.
+    /// The characters of a class.
     OfClass(Class),
 }
 
-/// What a byte does to the characters of the bracket that is read.
+/// What a byte does to the characters of the bracket.
 #[derive(Clone, Copy)]
 pub enum Change {
-    /// They stay.
+    /// Leaves them as they are.
     Keep,
-    /// There are none: a bracket begins.
+    /// Removes them: a bracket begins.
     Clear,
-    /// These are added.
+    /// Adds these.
     Add(Span),
 }
 
-/// What is written at the end of the pattern.
+/// What a byte appends to the pattern.
 #[derive(Clone, Copy)]
 pub enum Writing {
     /// Nothing.
@@ -68,9 +68,9 @@ pub enum Writing {
     Byte(u8),
     /// This byte in a bracket of its own.
     Bracketed(u8),
-    /// `*/`, which makes a star `**/`.
+    /// `*/`, which turns the star before it into `**/`.
     StarSlash,
-    /// `/**/`, which makes a star one directory or more.
+    /// `/**/`, which makes the star before it match one or more directories.
     SlashStars,
     /// The characters of the bracket, and `]`.
     Held,
@@ -79,25 +79,25 @@ pub enum Writing {
 /// What a byte does.
 #[derive(Clone, Copy)]
 pub struct Step {
-    /// What the bytes then end with.
+    /// The mode after the byte.
     pub mode: Mode,
-    /// What becomes of the bracket's characters.
+    /// The change to the bracket's characters.
     pub change: Change,
-    /// What is written.
+    /// What is appended to the pattern.
     pub writing: Writing,
 }
 
-/// A step that writes nothing.
+/// A step that only changes the mode.
 fn moves(mode: Mode) -> Step {
     writes(mode, Writing::Nothing)
 }
 
-/// A step that adds nothing to a bracket.
+/// A step that leaves the bracket's characters as they are.
 fn writes(mode: Mode, writing: Writing) -> Step {
     Step { mode, change: Change::Keep, writing }
 }
 
-/// A step that adds these characters to a bracket.
+/// A step that adds the characters from `first` to `last` to the bracket.
 fn adds(mode: Mode, first: u8, last: u8) -> Step {
     Step { mode, change: Change::Add(Span::Between(first, last)), writing: Writing::Nothing }
 }
@@ -107,7 +107,7 @@ fn refuses(reason: Reason) -> Step {
     moves(Mode::Refused(reason))
 }
 
-/// A byte that matches itself.
+/// How a byte that matches itself is written.
 fn literal(c: u8) -> Writing {
     if c == b'?' || c == b'*' || c == b'[' {
         Writing::Bracketed(c)
@@ -116,7 +116,7 @@ fn literal(c: u8) -> Writing {
     }
 }
 
-/// A byte after whole units.
+/// A byte after a complete unit.
 fn after_units(plain: bool, opening: bool, c: u8) -> Step {
     if c == b'\\' {
         moves(Mode::Escape)
@@ -147,7 +147,7 @@ fn after_star(plain: bool, opening: bool, c: u8) -> Step {
     }
 }
 
-/// A byte after two stars or more that may be a component.
+/// A byte after two or more stars that may be a component.
 fn after_stars(plain: bool, opening: bool, c: u8) -> Step {
     if c == b'*' {
         moves(Mode::Stars(plain, opening))
@@ -171,7 +171,7 @@ fn after_escaped_stars(c: u8) -> Step {
     }
 }
 
-/// A byte after the `[` of a bracket.
+/// A byte after the opening `[`.
 fn after_open(c: u8, ahead: &[u8]) -> Step {
     if c == b'!' || c == b'^' {
         writes(Mode::Negation, Writing::Byte(b'!'))
@@ -180,7 +180,7 @@ fn after_open(c: u8, ahead: &[u8]) -> Step {
     }
 }
 
-/// A byte as the first item of a bracket, which `]` may be.
+/// The first item of a bracket, which may be `]`.
 fn as_first_item(c: u8, ahead: &[u8]) -> Step {
     if c == b']' {
         adds(Mode::Item(c), c, c)
@@ -189,7 +189,7 @@ fn as_first_item(c: u8, ahead: &[u8]) -> Step {
     }
 }
 
-/// `[` in a bracket: it begins a class, or is an item.
+/// `[` in a bracket: the start of a class, or an item.
 fn as_open(ahead: &[u8]) -> Step {
     match ahead {
         [b':', name @ .., b':'] => as_class(Class::named(name)),
@@ -197,7 +197,7 @@ fn as_open(ahead: &[u8]) -> Step {
     }
 }
 
-/// The `[` of a class, if git knows the class.
+/// The `[` of a class, which is refused if git does not know the class.
 fn as_class(class: Option<Class>) -> Step {
     match class {
         None => refuses(Reason::UnknownClass),
@@ -207,7 +207,7 @@ fn as_class(class: Option<Class>) -> Step {
     }
 }
 
-/// A byte in a class, which ends with `]` and begins no range.
+/// A byte in a class, which ends at `]` and cannot begin a range.
 fn in_class(c: u8) -> Step {
     if c == b']' {
         moves(Mode::Range)
@@ -216,7 +216,7 @@ fn in_class(c: u8) -> Step {
     }
 }
 
-/// A byte as an item of a bracket, or as its end.
+/// A byte in a bracket: an item, or the closing `]`.
 fn as_item(c: u8, ahead: &[u8]) -> Step {
     if c == b']' {
         writes(Mode::Units(false, false), Writing::Held)
@@ -238,7 +238,7 @@ fn after_item(item: u8, c: u8, ahead: &[u8]) -> Step {
     }
 }
 
-/// A byte after an item and a hyphen, which before `]` is an item itself.
+/// A byte after an item and a hyphen: the end of the range. Before `]`, the hyphen is an item itself.
 fn after_hyphen(item: u8, c: u8) -> Step {
     if c == b'\\' {
         moves(Mode::HyphenEscape(item))
@@ -249,7 +249,7 @@ fn after_hyphen(item: u8, c: u8) -> Step {
     }
 }
 
-/// Whether the byte after these is in a bracket.
+/// Whether the next byte is inside a bracket.
 fn is_in_bracket(mode: Mode) -> bool {
     match mode {
         Mode::Open
@@ -269,7 +269,7 @@ fn is_in_bracket(mode: Mode) -> bool {
     }
 }
 
-/// A byte after those before it, where neither NUL nor a bracket refuses it.
+/// The step for a byte that is neither NUL nor, in a bracket, non-ASCII.
 fn accepted_step(mode: Mode, c: u8, ahead: &[u8]) -> Step {
     match mode {
         Mode::Units(plain, opening) => after_units(plain, opening, c),
@@ -289,7 +289,7 @@ fn accepted_step(mode: Mode, c: u8, ahead: &[u8]) -> Step {
     }
 }
 
-/// What a byte does after those before it, where `ahead` is what follows it, up to the next `]` or the end.
+/// The step for any byte. `ahead` is the text after it, up to the next `]` or the end.
 pub fn step_from(mode: Mode, c: u8, ahead: &[u8]) -> Step {
     if c == 0 {
         refuses(Reason::Nul)

@@ -1,4 +1,4 @@
-//! Made by `bin/rust_crate` from `crates/glob_set/src/braces.rt`, where its contracts are: sha256 93e55180cff3835f.
+//! Made by `bin/rust_crate` from `crates/glob_set/src/braces.rt`, where its contracts are: sha256 a927ee3dcdc0e27a.
 //!
 //! Braces in patterns: `src/*.{c,h}` is short for `src/*.c` and `src/*.h`.
 //!
@@ -8,10 +8,10 @@
 //! | `{a,b{1,2}}c` | `ac`, `b1c`, `b2c` |
 //! | `{a,b}{1,2}` | `a1`, `a2`, `b1`, `b2` |
 //! | `a{,b}`, `{a}` | `a` and `ab`, `a` |
-//! | `a,b`, `[{,}]` | themselves: outside of braces a comma is itself, in a bracket each character is |
+//! | `a,b`, `[{,}]` | themselves: a comma outside braces and any character in a bracket are literal |
 //!
-//! A bracket is one of a pattern: `[`, perhaps `!`, one character, further ones that are not `]`, and `]`. A `[` that
-//! no such bracket begins with is itself.
+//! Brackets are those of patterns: `[`, perhaps `!`, a character, any others up to `]`, and `]`. A `[` that begins no
+//! bracket is literal.
 
 mod counting;
 mod error;
@@ -25,14 +25,37 @@ pub use escaping::escape;
 use expanding::expand_all;
 use lexemes::lexemes_of;
 
-/// The most alternatives that a text may have.
+/// The greatest number of alternatives that a text may have.
 pub const MOST_ALTERNATIVES: usize = 1000;
 
-/// The alternatives of a text, in the order of their choices from left to right: of `{a,b}{1,2}`, `a1`, `a2`, `b1` and
-/// `b2`. A text without braces is its only alternative. They are counted before any is made.
+/// The alternatives of a text, in the order of its choices from left to right: `a1`, `a2`, `b1` and `b2` for
+/// `{a,b}{1,2}`. A text without braces is its only alternative. They are counted before any is made.
+///
+/// ```
+/// use cadmiumdove::set::braces::expand;
+///
+/// assert_eq!(expand("{a,b}{1,2}")?, ["a1", "a2", "b1", "b2"]);
+/// # Ok::<(), cadmiumdove::set::braces::BraceError>(())
+/// ```
+///
+/// # Errors
 ///
 /// The error is [`BraceError`] with the first brace from the left that has no partner, or with
 /// [`TooMany`](BraceError::TooMany) if there are more than [`MOST_ALTERNATIVES`].
+///
+/// <details><summary>Contract</summary>
+///
+/// ```text
+/// ensures alternatives { IfOk result
+///     (λ texts. AreAlternatives (chars text.now) (map string_bytes texts.items)) }
+/// ensures each { IfOk result (λ texts. (alternative : List ℕ)
+///     → IsAlternative (chars text.now) alternative
+///     ↔ IsAmong (map string_bytes texts.items) alternative) }
+/// ensures few { IfOk result (λ texts. length texts.items ≤ 1000) }
+/// ensures refused { IfErr result (RefusesBraces (chars text.now)) }
+/// ```
+///
+/// </details>
 pub fn expand(text: &str) -> Result<Vec<String>, BraceError> {
     let lexemes = lexemes_of(text);
     let lexemes = lexemes.as_slice();

@@ -1,13 +1,13 @@
-//! Made by `bin/rust_crate` from `crates/glob_set/src/buckets.rt`, where its contracts are: sha256 4ef0cbcb71a026c9.
-//! Not derived there: `Bucket`.
+//! Made by `bin/rust_crate` from `crates/glob_set/src/buckets.rt`, where its contracts are: sha256 38047c3c85669c46.
+//! Not derived there: `Bucket`, `Buckets`.
 //!
-//! Lists of the patterns without a key that may match a text, by the class of its last two bytes.
+//! The patterns without a key that may match a text, listed by the class of the text's last two bytes.
 
 use crate::proved::glob_set::key::Key;
 use crate::proved::glob_set::pairs::Need;
 
-/// How many classes there are.
-pub const CLASSES: u8 = 128;
+/// The number of classes.
+const CLASSES: usize = 128;
 
 /// Numbers of patterns, in ascending order.
 #[derive(Clone)]
@@ -16,94 +16,93 @@ pub struct Bucket {
 }
 
 impl Bucket {
-    /// The numbers, as 1 and 4.
+    /// No numbers.
+    fn new() -> Self {
+        Bucket { numbers: Vec::new() }
+    }
+
+    /// The numbers, such as 1 and 4.
     #[inline(always)]
     pub fn numbers(&self) -> &[usize] {
         self.numbers.as_slice()
     }
-}
 
-/// For each class the numbers of the patterns without a key that may match a text of it. Where no such pattern is of the
-/// class, its bucket is empty, and the last one serves: that of the patterns of no class.
-pub fn buckets_of(needs: &[Need], keys: &[Option<Key>]) -> Vec<Bucket> {
-    let mut buckets = Vec::new();
-    for class in 0..CLASSES {
-        buckets.push(own_bucket(needs, keys, class));
+    /// Adds a number.
+    fn push(&mut self, number: usize) {
+        self.numbers.push(number);
     }
-    buckets.push(bucket_of(needs, keys, CLASSES));
-    buckets
-}
 
-/// The bucket of a class if it has one of its own, or an empty one.
-fn own_bucket(needs: &[Need], keys: &[Option<Key>], class: u8) -> Bucket {
-    if !is_used(needs, keys, class) {
-        return Bucket { numbers: Vec::new() };
+    /// Adds a number, after the numbers of `others` if this is the first.
+    fn push_behind(&mut self, others: &Bucket, number: usize) {
+        if self.numbers.is_empty() {
+            self.numbers.extend_from_slice(others.numbers());
+        }
+        self.push(number)
     }
-    bucket_of(needs, keys, class)
-}
 
-/// Whether a pattern without a key is of the class.
-fn is_used(needs: &[Need], keys: &[Option<Key>], class: u8) -> bool {
-    for number in 0..needs.len() {
-        if is_own(keys[number], &needs[number], class) {
-            return true;
+    /// Adds a number, unless it would be the first.
+    fn push_another(&mut self, number: usize) {
+        if !self.numbers.is_empty() {
+            self.push(number);
         }
     }
-    false
 }
 
-/// The numbers of the patterns without a key that may match a text of the class.
-fn bucket_of(needs: &[Need], keys: &[Option<Key>], class: u8) -> Bucket {
-    let mut numbers = Vec::new();
-    for number in 0..needs.len() {
-        if is_listed(keys[number], &needs[number], class) {
-            numbers.push(number);
+/// The numbers of the patterns without a key, by the class of the texts that they may match.
+#[derive(Clone)]
+pub struct Buckets {
+    // for each class that a pattern needs, the patterns that need it or no class; empty for other classes
+    classes: Vec<Bucket>,
+    // the patterns that need no class, which are the list of the other classes
+    rest: Bucket,
+}
+
+impl Buckets {
+    /// The patterns that may match a text of the class.
+    #[inline(always)]
+    pub fn of_class(&self, class: u8) -> &[usize] {
+        let own = self.classes[class as usize].numbers();
+        if own.is_empty() {
+            return self.rest.numbers();
+        }
+        own
+    }
+
+    /// Adds a pattern, which needs the class, or none.
+    fn push(&mut self, number: usize, class: Option<u8>) {
+        match class {
+            Some(class) => self.classes[class as usize].push_behind(&self.rest, number),
+            None => self.push_to_all(number),
         }
     }
-    Bucket { numbers }
-}
 
-/// The numbers for a text of the class.
-#[inline(always)]
-pub fn bucket_at(buckets: &[Bucket], class: u8) -> &[usize] {
-    let own = buckets[class as usize].numbers();
-    if own.is_empty() {
-        return buckets[CLASSES as usize].numbers();
+    /// Adds a pattern that needs no class.
+    fn push_to_all(&mut self, number: usize) {
+        for bucket in self.classes.iter_mut() {
+            bucket.push_another(number);
+        }
+        self.rest.push(number)
     }
-    own
-}
 
-/// All numbers of so many patterns.
-pub fn bucket_of_all(count: usize) -> Bucket {
-    let mut numbers = Vec::new();
-    for number in 0..count {
-        numbers.push(number);
+    /// Lists the patterns without a key by what they need.
+    pub fn new(needs: &[Need], keys: &[Option<Key>]) -> Self {
+        let mut buckets = Buckets::empty();
+        for number in 0..needs.len() {
+            if keys[number].is_none() {
+                buckets.push(number, needs[number].class);
+            }
+        }
+        buckets
     }
-    Bucket { numbers }
-}
 
-/// Whether a pattern with this key and this need is listed under the class.
-fn is_listed(key: Option<Key>, need: &Need, class: u8) -> bool {
-    key.is_none() && may_be_of(need, class)
-}
-
-/// Whether a pattern with this key and this need has no key, and is of the class.
-fn is_own(key: Option<Key>, need: &Need, class: u8) -> bool {
-    key.is_none() && is_of(need, class)
-}
-
-/// Whether each text that has what is needed is of the class.
-fn is_of(need: &Need, class: u8) -> bool {
-    match need.class {
-        Some(known) => known == class,
-        None => false,
-    }
-}
-
-/// Whether a text of the class may have what is needed.
-fn may_be_of(need: &Need, class: u8) -> bool {
-    match need.class {
-        Some(known) => known == class,
-        None => true,
+    /// No patterns.
+    fn empty() -> Self {
+        let mut classes = Vec::new();
+        for _class in 0..CLASSES {
+            let own = Bucket::new();
+            classes.push(own);
+        }
+        let rest = Bucket::new();
+        Buckets { classes, rest }
     }
 }

@@ -1,9 +1,9 @@
-//! Made by `bin/rust_crate` from `crates/glob_set/src/components.rt`, where its contracts are: sha256 c738de849f54b82a.
+//! Made by `bin/rust_crate` from `crates/glob_set/src/components.rt`, where its contracts are: sha256 5a9b2773ccc4f09a.
 //!
-//! Components of texts and their beginnings, and the hashes that texts are looked up by.
+//! Components of texts and their beginnings, and the hashes by which texts are looked up.
 
-/// A component as far as it has been read: a hash of its bytes, the same in upper and in lower case, and how many of
-/// them there are, 255 at most.
+/// A component as far as it has been read: a hash of its bytes, the same in upper and lower case, and their number,
+/// which stops at 255.
 #[derive(Clone, Copy)]
 pub struct Component {
     pub hash: u32,
@@ -11,13 +11,13 @@ pub struct Component {
 }
 
 impl Component {
-    /// A component of which nothing has been read.
+    /// A component before its first byte.
     #[inline(always)]
     pub fn start() -> Component {
         Component { hash: 0, len: 0 }
     }
 
-    /// The component with one byte more, or after `/` the next one.
+    /// The component with one more byte. A `/` begins the next component.
     #[inline(always)]
     pub fn after(self, byte: u8) -> Component {
         if byte == b'/' {
@@ -26,7 +26,7 @@ impl Component {
         Component { hash: hash_after(self.hash, byte), len: self.len.saturating_add(1) }
     }
 
-    /// The component with one character more, or after `/` the next one.
+    /// The component with one more character. A `/` begins the next component.
     pub fn after_char(self, c: char) -> Component {
         let mut buffer = [0; 4];
         let mut component = self;
@@ -37,13 +37,13 @@ impl Component {
     }
 }
 
-/// The hash of some bytes with one more, the same in upper and in lower case. That of no byte is 0.
+/// The hash with one more byte, the same in upper and lower case. The hash of no bytes is 0.
 #[inline(always)]
 pub fn hash_after(hash: u32, byte: u8) -> u32 {
     ((u64::from(hash) * 33 + u64::from(byte % 32)) % (1 << 32)) as u32
 }
 
-/// The hash of some bytes, read from their end, with those of the character before them.
+/// The hash of bytes read backwards, with the character before them.
 pub fn hash_before(hash: u32, c: char) -> u32 {
     let mut buffer = [0; 4];
     let bytes = c.encode_utf8(&mut buffer).as_bytes();
@@ -56,7 +56,7 @@ pub fn hash_before(hash: u32, c: char) -> u32 {
     hash
 }
 
-/// The slot of a hash in a table of so many.
+/// The slot of a hash in a table of `slots`.
 #[inline(always)]
 pub fn slot_of(hash: u32, slots: usize) -> usize {
     hash as usize & (slots - 1)

@@ -1,19 +1,27 @@
-//! Made by `bin/rust_crate` from `crates/glob_set/src/error.rt`, where its contracts are: sha256 b9fc2f6319d07838.
+//! Made by `bin/rust_crate` from `crates/glob_set/src/error.rt`, where its contracts are: sha256 06534a8a1b37b069.
 //! Not derived there: `SetRefusal`, `BraceSetRefusal`.
+//! `BraceSetRefusal` is not `#[non_exhaustive]` there.
 //!
-//! Why texts make no set.
+//! Why texts are refused as a set.
 
 use crate::proved::glob_pattern::PatternError;
 use crate::proved::glob_set::braces::BraceError;
 use std::fmt;
 
-/// Why texts were refused as the patterns of a set, by
-/// [`PatternSet::from_texts`](crate::proved::glob_set::PatternSet::from_texts). So `*.o` and `[a` are refused with
-/// `Syntax`, the number 1 and the place 0, and that prints as `pattern 1: Pattern syntax error near position 0: invalid
-/// range pattern`.
+/// Why [`PatternSet::from_texts`](crate::proved::glob_set::PatternSet::from_texts) refused texts. `*.o` and `[a` are
+/// refused with `Syntax`, the number 1 and the place 0, which prints as `pattern 1: Pattern syntax error near position
+/// 0: invalid range pattern`.
+///
+/// ```
+/// use cadmiumdove::set::PatternSet;
+/// use cadmiumdove::MatchOptions;
+///
+/// let refusal = PatternSet::from_texts(["*.o", "["], MatchOptions::new()).unwrap_err();
+/// assert_eq!(refusal.number(), 1);
+/// ```
 #[derive(Debug, Clone, PartialEq, Eq)]
 pub enum SetRefusal {
-    /// The first text that is not accepted: its number, counted from 0, and its first fault from the left.
+    /// The number of the first text that is not accepted, counted from 0, and its first fault from the left.
     Syntax(usize, PatternError),
 }
 
@@ -28,15 +36,23 @@ impl fmt::Display for SetRefusal {
     }
 }
 
-/// Why texts with braces were refused as the patterns of a set, by
-/// [`PatternSet::from_braces`](crate::proved::glob_set::PatternSet::from_braces). Numbers are counted from 0.
+/// Why [`PatternSet::from_braces`](crate::proved::glob_set::PatternSet::from_braces) refused texts. Numbers count from
+/// 0.
+///
+/// ```
+/// use cadmiumdove::set::{BraceSetRefusal, PatternSet};
+/// use cadmiumdove::MatchOptions;
+///
+/// let refusal = PatternSet::from_braces(["a", "{b,[}"], MatchOptions::new()).unwrap_err();
+/// assert!(matches!(refusal, BraceSetRefusal::Pattern(1, 1, _)));
+/// ```
 #[derive(Debug, Clone, PartialEq, Eq)]
+#[non_exhaustive]
 pub enum BraceSetRefusal {
-    /// The first text with a fault, by its number, and the fault of its braces: of `*.o` and `{a`, 1 and that the `{`
-    /// at place 0 is not closed.
+    /// The number of the first text with a fault, and the fault of its braces: for `*.o` and `{a`, 1 and `Unclosed(0)`.
     Braces(usize, BraceError),
-    /// The first text with a fault, by its number, the first of its alternatives that is not accepted, by its number
-    /// among them, and that one's first fault from the left: of `*.o` and `{a,[}`, 1, 1 and the place 0 in `[`.
+    /// The number of the first text with a fault, the number of its first alternative that is not accepted, and that
+    /// one's first fault from the left: for `*.o` and `{a,[}`, 1, 1 and the place 0 in `[`.
     Pattern(usize, usize, PatternError),
 }
 

@@ -1,22 +1,21 @@
-//! Made by `bin/rust_crate` from `crates/glob_set/src/found.rt`, where its contracts are: sha256 dca36b1f3f9a65fa.
+//! Made by `bin/rust_crate` from `crates/glob_set/src/found.rt`, where its contracts are: sha256 549db9bd54c98edf.
 
 const ROOM: usize = 16;
 
-/// Numbers. The first few differ; beyond these a number may come again, so that each is added at once.
+/// Numbers. The first few are distinct; later ones may repeat, so that adding one stays fast.
 pub struct Found {
-    // the first `len`, until there are more than these have room for
+    // the first `len` of these, until there are more than fit
     few: [usize; ROOM],
     len: usize,
-    // all, once there are more
+    // all numbers, once there are more
     many: Vec<usize>,
-    is_full: bool,
 }
 
 impl Found {
-    /// No number.
+    /// No numbers.
     #[inline(always)]
     pub fn new() -> Self {
-        Found { few: [0; ROOM], len: 0, many: Vec::new(), is_full: false }
+        Found { few: [0; ROOM], len: 0, many: Vec::new() }
     }
 
     /// The numbers.
@@ -28,13 +27,7 @@ impl Found {
         self.many.as_slice()
     }
 
-    /// Whether a number had no room.
-    #[inline(always)]
-    pub fn is_full(&self) -> bool {
-        self.is_full
-    }
-
-    /// Adds the number, unless it is one of the first few, or has no room.
+    /// Adds the number, unless it is among the first few.
     pub fn push(&mut self, number: usize) {
         if self.len < ROOM && self.numbers().contains(&number) {
             return;
@@ -55,7 +48,7 @@ impl Found {
         self.many.push(number);
     }
 
-    /// Puts the numbers in ascending order.
+    /// Sorts the numbers in ascending order.
     pub fn sort(&mut self) {
         if self.many.is_empty() {
             let len = self.len;

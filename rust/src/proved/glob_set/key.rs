@@ -1,17 +1,17 @@
-//! Made by `bin/rust_crate` from `crates/glob_set/src/key.rt`, where its contracts are: sha256 cde36cfeb1be0f4e.
+//! Made by `bin/rust_crate` from `crates/glob_set/src/key.rt`, where its contracts are: sha256 8a709e92c1fc569a.
 //!
-//! Keys, by which few patterns are found for a text.
+//! Keys, by which a text finds the few patterns that may match it.
 
-/// What each text has that a pattern matches.
+/// Something that every text has that a pattern matches.
 #[derive(Clone, Copy)]
 pub enum Key {
-    /// A component of this hash.
+    /// A component with this hash.
     Component(u32),
-    /// A component that begins with so many bytes of this hash.
+    /// A component that begins with this many bytes, with this hash.
     Beginning(u32, u8),
-    /// So many last bytes of the text, of this hash from their end.
+    /// The last bytes of the text, this many, with this hash when read backwards.
     Ending(u32, u8),
-    /// The same, behind a `.`.
+    /// Such last bytes right after a `.`.
     Extension(u32, u8),
 }
 
@@ -28,21 +28,21 @@ impl Key {
     }
 }
 
-/// Which kinds of keys there are.
+/// Which kinds of keys occur.
 #[derive(Clone, Copy)]
 pub struct Kinds {
-    /// Whether there are any of components or of their beginnings.
+    /// Whether components or beginnings of components occur.
     pub components: bool,
-    /// The lengths of the beginnings, in bytes, a bit each.
+    /// The lengths of the beginnings in bytes, one bit each.
     pub beginnings: u64,
-    /// The lengths of the endings, in bytes, a bit each.
+    /// The lengths of the endings in bytes, one bit each.
     pub endings: u64,
-    /// How many bytes the longest ending or extension has.
+    /// The length of the longest ending or extension, in bytes.
     pub longest: u8,
 }
 
 impl Kinds {
-    /// Adds the kind of a key, if it is one.
+    /// Adds the kind of a key, if there is a key.
     fn add(&mut self, key: Option<Key>) {
         match key {
             Some(Key::Component(_)) => self.components = true,
@@ -69,13 +69,14 @@ pub fn kinds_of(keys: &[Option<Key>]) -> Kinds {
     kinds
 }
 
-/// The bit of a length in bytes. Lengths from 64 on share the bits of shorter ones, and texts are looked up by both.
+/// The bit of a length in bytes. Lengths from 64 on share the bits of shorter ones, and texts are then looked up by
+/// both.
 #[inline(always)]
 fn length_bit(len: u8) -> u64 {
     1 << (len % 64)
 }
 
-/// Whether the bit of a number of bytes is one of these.
+/// Whether the bit of this length is among these.
 #[inline(always)]
 pub fn has_length(lengths: u64, len: u8) -> bool {
     lengths | length_bit(len) == lengths

@@ -1,9 +1,9 @@
-//! Made by `bin/rust_crate` from `crates/glob_set/src/keyed.rt`, where its contracts are: sha256 50a80d879a99caf6.
+//! Made by `bin/rust_crate` from `crates/glob_set/src/keyed.rt`, where its contracts are: sha256 019722c52b7ca7f2.
 //! Not derived there: `Keyed`.
 //! `Vec::with_capacity` and `resize` are there `vec![x; n]`: memory that is asked for as zeros is never what was freed
 //! last, and costs more.
 //!
-//! Patterns by their keys.
+//! Patterns by their keys, in a hash table.
 
 use crate::proved::glob_set::components::{hash_after, slot_of, Component};
 use crate::proved::glob_set::found::Found;
@@ -13,16 +13,16 @@ use crate::proved::glob_set::key::{has_length, kinds_of, Key, Kinds};
 #[derive(Clone)]
 pub struct Keyed {
     keys: Vec<Option<Key>>,
-    // For each slot its first pattern, and for each pattern the next in its slot, or the count of patterns. In the last
-    // slot are those without a key.
+    // The first pattern of each slot, and for each pattern the next one in its slot. The number of patterns stands for
+    // none. The last slot has the patterns without a key.
     first: Vec<usize>,
     next: Vec<usize>,
-    // the kinds of keys that patterns have: texts are looked up by no others
+    // the kinds of keys that occur; texts are looked up only by these
     kinds: Kinds,
 }
 
 impl Keyed {
-    /// The patterns that have these keys, in a table of so many slots.
+    /// The table of the patterns with these keys, with `slots` slots for keys.
     pub fn new(keys: Vec<Option<Key>>, slots: usize) -> Self {
         let count = keys.len();
         let mut first = Vec::with_capacity(slots + 1);
@@ -34,7 +34,8 @@ impl Keyed {
         Keyed { keys, first, next, kinds }
     }
 
-    /// Puts the patterns with a key by which the text is looked up into `found`, in ascending order.
+    /// Puts the patterns that have a key of the text into `found`, perhaps with others of the same hash, in ascending
+    /// order.
     #[inline(always)]
     pub fn find_in(&self, text: &[u8], found: &mut Found) {
         self.find_components(text, found);
@@ -42,7 +43,7 @@ impl Keyed {
         found.sort();
     }
 
-    /// Adds the patterns that are found by a component of the text or the beginning of one.
+    /// Adds the patterns that a component of the text or the beginning of one finds.
     #[inline(always)]
     fn find_components(&self, text: &[u8], found: &mut Found) {
         if self.kinds.components {
@@ -50,7 +51,7 @@ impl Keyed {
         }
     }
 
-    /// Adds the patterns that are found by the last bytes of the text.
+    /// Adds the patterns that the last bytes of the text find.
     #[inline(always)]
     fn find_endings(&self, text: &[u8], found: &mut Found) {
         let mut hash = 0;
@@ -68,7 +69,7 @@ impl Keyed {
         self.find_if(has_length(self.kinds.endings, len), hash, found);
     }
 
-    /// Adds the patterns that are found by each component of the text and the beginnings of each.
+    /// Adds the patterns that the components of the text and their beginnings find.
     fn find_each(&self, text: &[u8], found: &mut Found) {
         let mut component = Component::start();
         for byte in text {
@@ -78,14 +79,14 @@ impl Keyed {
         self.find(component.hash, found);
     }
 
-    /// Adds the patterns that are found before this byte, where this component has been read.
+    /// Adds the patterns that are found right before this byte, after this part of a component.
     #[inline(always)]
     fn find_before(&self, byte: u8, component: Component, found: &mut Found) {
         let is_used = has_length(self.kinds.beginnings, component.len);
         self.find_if(is_asked(byte, b'/', is_used), component.hash, found);
     }
 
-    /// Adds the patterns whose keys have this hash, if it is asked for.
+    /// Adds the patterns whose keys have this hash, if `is_asked`.
     #[inline(always)]
     fn find_if(&self, is_asked: bool, hash: u32, found: &mut Found) {
         if is_asked {
@@ -102,7 +103,7 @@ impl Keyed {
         }
     }
 
-    /// Adds the pattern of this number if its key has this hash.
+    /// Adds the pattern if its key has this hash.
     fn push_if(&self, number: usize, hash: u32, found: &mut Found) {
         if has_hash(self.keys[number], hash) {
             found.push(number);
@@ -110,13 +111,14 @@ impl Keyed {
     }
 }
 
-/// Whether a text is looked up before a byte: at a mark, and where keys have as many bytes as have been read.
+/// Whether a text is looked up right before a byte: before a mark, and if there are keys with as many bytes as were
+/// read.
 #[inline(always)]
 fn is_asked(byte: u8, mark: u8, is_used: bool) -> bool {
     byte == mark || is_used
 }
 
-/// Whether there is a key, and it has this hash.
+/// Whether there is a key with this hash.
 fn has_hash(key: Option<Key>, hash: u32) -> bool {
     match key {
         Some(key) => key.hash() == hash,
@@ -124,7 +126,7 @@ fn has_hash(key: Option<Key>, hash: u32) -> bool {
     }
 }
 
-/// Links the patterns in each slot, from the last one on.
+/// Links the patterns of each slot, starting with the last one.
 fn link(keys: &[Option<Key>], first: &mut [usize], next: &mut [usize]) {
     let mut number = keys.len();
     while number > 0 {
@@ -135,7 +137,7 @@ fn link(keys: &[Option<Key>], first: &mut [usize], next: &mut [usize]) {
     }
 }
 
-/// The slot of a key in a table of so many, or that of patterns without one.
+/// The slot of a key in a table of `slots`. Patterns without a key have the slot after these.
 fn key_slot(key: Option<Key>, slots: usize) -> usize {
     match key {
         Some(key) => slot_of(key.hash(), slots),
@@ -143,7 +145,7 @@ fn key_slot(key: Option<Key>, slots: usize) -> usize {
     }
 }
 
-/// How many slots so many keys get.
+/// The number of slots for this many keys.
 pub fn slots_for(keys: usize) -> usize {
     keys.min(1 << 62).next_power_of_two()
 }

@@ -1,8 +1,8 @@
-//! Made by `bin/rust_crate` from `crates/glob_set/src/lib.rt`, where its contracts are: sha256 37b87986311c3aff.
+//! Made by `bin/rust_crate` from `crates/glob_set/src/lib.rt`, where its contracts are: sha256 d799e767b7179a99.
 //!
-//! Sets of patterns: which of many patterns match a text, where few of them are asked about it.
+//! Sets of patterns: which of many patterns match a text, usually without trying most of them.
 //!
-//! A [`PatternSet`] of `*.o`, `target/**` and `!*` says of `a.o` that number 0 is the first pattern that matches it.
+//! For a [`PatternSet`] of `*.o`, `target/**` and `!*`, the first pattern that matches `a.o` is number 0.
 
 pub mod braces;
 mod buckets;
@@ -14,6 +14,7 @@ mod keyed;
 mod needs;
 mod pairs;
 mod pattern_keys;
+mod rarest;
 mod reading;
 mod set;
 

@@ -1,11 +1,11 @@
-//! Made by `bin/rust_crate` from `crates/glob_set/src/needs.rt`, where its contracts are: sha256 82b4a6b9e074f31b.
+//! Made by `bin/rust_crate` from `crates/glob_set/src/needs.rt`, where its contracts are: sha256 58dccff6d8d03c63.
 //!
-//! What a text needs so that a pattern may match it.
+//! What a text needs for a pattern to match it.
 
 use crate::proved::glob_pattern::{literal_at, tokens_len, Pattern};
 use crate::proved::glob_set::pairs::{class_bit, pair_class, Need};
 
-/// For each of the patterns what each text has that it matches.
+/// For each pattern, what every text has that it matches.
 pub fn needs_of(patterns: &[Pattern]) -> Vec<Need> {
     let mut needs = Vec::new();
     for pattern in patterns {
@@ -14,8 +14,8 @@ pub fn needs_of(patterns: &[Pattern]) -> Vec<Need> {
     needs
 }
 
-/// What each text has that the pattern matches: of `src/*.rs` the neighbours in `src/` and `.rs`, with `s` at the start
-/// and `rs` at the end.
+/// What every text has that the pattern matches. For `src/*.rs` that is the neighbours in `src/` and `.rs`, `s` at the
+/// start and `rs` at the end.
 fn need_of(pattern: &Pattern) -> Need {
     let mut bits = 0;
     let mut class = None;
@@ -26,7 +26,7 @@ fn need_of(pattern: &Pattern) -> Need {
     Need { bits, class }
 }
 
-/// The bits, and that of the class if there is one.
+/// The bits, with that of the class if there is one.
 fn with_class(bits: u128, class: Option<u8>) -> u128 {
     match class {
         Some(class) => bits | class_bit(class),
@@ -34,7 +34,7 @@ fn with_class(bits: u128, class: Option<u8>) -> u128 {
     }
 }
 
-/// The class of the byte that the token of this number is and of the byte before it, if these are known.
+/// The class of the byte of token `number` and the byte before it, if both are known.
 fn pair_at(pattern: &Pattern, number: usize) -> Option<u8> {
     let byte = byte_at(pattern, number)?;
     if number == 0 {
@@ -44,7 +44,7 @@ fn pair_at(pattern: &Pattern, number: usize) -> Option<u8> {
     Some(pair_class(before, byte))
 }
 
-/// The byte that the token of this number is, if it is a literal of ASCII.
+/// The byte of token `number`, if that is an ASCII literal.
 pub fn byte_at(pattern: &Pattern, number: usize) -> Option<u8> {
     match literal_at(pattern, number) {
         Some(c) if c.is_ascii() => Some(c as u8),

@@ -1,17 +1,17 @@
-//! Made by `bin/rust_crate` from `crates/glob_set/src/pairs.rt`, where its contracts are: sha256 bc686f340b9971ab.
+//! Made by `bin/rust_crate` from `crates/glob_set/src/pairs.rt`, where its contracts are: sha256 78b8e9c170d56d18.
 //!
-//! Neighbouring bytes as bits of one word.
+//! Pairs of neighbouring bytes, as bits of one word.
 
-/// What each text has that a pattern matches.
+/// What every text has that a pattern matches.
 #[derive(Clone, Copy)]
 pub struct Need {
-    /// Bits of neighbouring bytes.
+    /// The bits of neighbouring bytes.
     pub bits: u128,
-    /// The class of the last two bytes, if the pattern ends in literals.
+    /// The class of the last two bytes, if the pattern ends in two ASCII literals or is a single one.
     pub class: Option<u8>,
 }
 
-/// The class of two neighbouring bytes, below 128: that of `.o` is that of `.O`.
+/// The class of two neighbouring bytes, below 128. `.o` and `.O` have the same.
 #[inline(always)]
 pub fn pair_class(a: u8, b: u8) -> u8 {
     ((u32::from(a % 32) * 13 + u32::from(b % 32) * 3) % 128) as u8
@@ -23,7 +23,7 @@ pub fn class_bit(class: u8) -> u128 {
     1 << class
 }
 
-/// The class of a text, by its last two bytes. A byte 0 is before the first.
+/// The class of a text's last two bytes, as if a byte 0 preceded the text.
 #[inline(always)]
 pub fn text_class(bytes: &[u8]) -> u8 {
     match bytes {
@@ -33,7 +33,7 @@ pub fn text_class(bytes: &[u8]) -> u8 {
     }
 }
 
-/// The bits of a text. A byte 0 is before the first.
+/// The bits of all neighbouring bytes of a text, as if a byte 0 preceded it.
 #[inline(always)]
 pub fn text_bits(bytes: &[u8]) -> u128 {
     let mut bits = 0;

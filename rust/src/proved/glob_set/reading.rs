@@ -1,12 +1,12 @@
-//! Made by `bin/rust_crate` from `crates/glob_set/src/reading.rt`, where its contracts are: sha256 369af05232298343.
+//! Made by `bin/rust_crate` from `crates/glob_set/src/reading.rt`, where its contracts are: sha256 64d6d22a31b342c0.
 //!
-//! Lists of patterns from texts.
+//! Patterns parsed from lists of texts.
 
 use crate::proved::glob_pattern::{Pattern, PatternError};
 use crate::proved::glob_set::braces::{expand, BraceError};
 use crate::proved::glob_set::error::{BraceSetRefusal, SetRefusal};
 
-/// Parses each of the texts. The error is the fault of the first that is not accepted.
+/// Parses the texts. The error is the fault of the first text that is not accepted.
 pub fn read_patterns(texts: &[&str]) -> Result<Vec<Pattern>, SetRefusal> {
     let mut patterns = Vec::new();
     for (number, text) in texts.iter().enumerate() {
@@ -16,13 +16,13 @@ pub fn read_patterns(texts: &[&str]) -> Result<Vec<Pattern>, SetRefusal> {
     Ok(patterns)
 }
 
-/// The refusal of texts of which that of this number is refused.
+/// The error for the text at index `number`.
 fn refusal_of(number: usize, refusal: PatternError) -> SetRefusal {
     let error = refusal;
     SetRefusal::Syntax(number, error)
 }
 
-/// Parses each of the alternatives of each of the texts. The error is the fault of the first text that has one.
+/// Parses all alternatives of all texts. The error is the fault of the first text that has one.
 pub fn read_braces(texts: &[&str]) -> Result<Vec<Pattern>, BraceSetRefusal> {
     let mut patterns = Vec::new();
     for (number, text) in texts.iter().enumerate() {
@@ -32,7 +32,7 @@ pub fn read_braces(texts: &[&str]) -> Result<Vec<Pattern>, BraceSetRefusal> {
     Ok(patterns)
 }
 
-/// Parses each of the alternatives of the text of this number. The error is its fault.
+/// Parses all alternatives of the text at index `number`. The error is the fault of that text.
 fn read_alternatives(number: usize, text: &str) -> Result<Vec<Pattern>, BraceSetRefusal> {
     let alternatives = expand(text).map_err(|refusal| of_braces(number, refusal))?;
     let texts = strs_of(alternatives.as_slice());
@@ -49,13 +49,13 @@ fn strs_of(texts: &[String]) -> Vec<&str> {
     strs
 }
 
-/// The refusal of texts of which that of this number has braces that are refused.
+/// The error for the braces of the text at index `number`.
 fn of_braces(number: usize, refusal: BraceError) -> BraceSetRefusal {
     let error = refusal;
     BraceSetRefusal::Braces(number, error)
 }
 
-/// The refusal of texts of which that of this number has alternatives that are refused.
+/// The error for an alternative of the text at index `number`.
 fn of_alternatives(number: usize, refusal: SetRefusal) -> BraceSetRefusal {
     match refusal {
         SetRefusal::Syntax(alternative, error) => BraceSetRefusal::Pattern(number, alternative, error),

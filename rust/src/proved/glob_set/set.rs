@@ -1,4 +1,4 @@
-//! Made by `bin/rust_crate` from `crates/glob_set/src/set.rt`, where its contracts are: sha256 9070166c840eab64.
+//! Made by `bin/rust_crate` from `crates/glob_set/src/set.rt`, where its contracts are: sha256 ffd4374de76500f0.
 //! Not derived there: `PatternSet`.
 //! `of_texts` is there `from_texts`: by hand it takes all kinds of lists.
 //! `of_braces` is there `from_braces`: by hand it takes all kinds of lists.
@@ -8,42 +8,51 @@
 mod asking;
 
 use crate::proved::glob_pattern::{MatchOptions, Pattern};
-use crate::proved::glob_set::buckets::{bucket_of_all, buckets_of, Bucket};
+use crate::proved::glob_set::buckets::Buckets;
 use crate::proved::glob_set::error::{BraceSetRefusal, SetRefusal};
 use crate::proved::glob_set::found::Found;
 use crate::proved::glob_set::keyed::{slots_for, Keyed};
 use crate::proved::glob_set::needs::needs_of;
 use crate::proved::glob_set::pairs::Need;
-use crate::proved::glob_set::pattern_keys::keys_of;
+use crate::proved::glob_set::rarest::keys_of;
 use crate::proved::glob_set::reading::{read_braces, read_patterns};
 use asking::{bits_for, earlier, later};
 
-/// Patterns in order, and the options that they match by. It reports which of them match a text by their **numbers**,
-/// counted from 0. Most patterns are rejected untried, since the text lacks bytes that each text has that they match.
-/// Of many patterns, those with a component, a beginning of one, or last bytes that few of them have are looked up by
-/// those of the text.
+/// A list of patterns with the options that they match by. The set reports patterns by their **numbers**, counted from
+/// 0. It rejects most patterns untried, because the text lacks bytes that every match has. In a large set it finds
+/// patterns with a rare component, beginning of a component, or ending by looking up those of the text. No clause says
+/// how many patterns are tried.
 ///
 /// ```text
 /// let ignored = PatternSet::from_texts(&["**/*.o", "**/target/**"], options)?;
 /// ignored.first_match("src/a.o")    // Some(0)
 /// ignored.is_match("src/a.rs")      // false
 /// ```
+///
+/// ```
+/// use cadmiumdove::set::PatternSet;
+/// use cadmiumdove::MatchOptions;
+///
+/// let set = PatternSet::from_texts(["*.o", "target/**", "*.a"], MatchOptions::new())?;
+/// assert!(set.is_match("src/a.o") && !set.is_match("src/a.rs"));
+/// assert_eq!(set.matches("target/lib.a"), [1, 2]);
+/// # Ok::<(), cadmiumdove::set::SetRefusal>(())
+/// ```
 #[derive(Clone)]
 pub struct PatternSet {
     patterns: Vec<Pattern>,
-    // for each pattern what each text has that it matches
+    // for each pattern, what every text has that it matches
     needs: Vec<Need>,
-    // the keys of those that are found by one
+    // the keys of the patterns that are found by one
     keyed: Keyed,
-    // by the classes of texts the numbers of the other patterns that may match one
-    buckets: Vec<Bucket>,
+    // the numbers of the other patterns, by the class of the texts that they may match
+    buckets: Buckets,
 
-    all: Bucket,
     options: MatchOptions,
 }
 
 impl PatternSet {
-    /// The patterns, in order: that of number 0 first.
+    /// The patterns in order, number 0 first.
     ///
     /// <details><summary>Contract</summary>
     ///
@@ -71,7 +80,7 @@ impl PatternSet {
         self.options
     }
 
-    /// How many patterns there are: 2 of `*.o` and `target/**`.
+    /// The number of patterns: 2 for `*.o` and `target/**`.
     ///
     /// <details><summary>Contract</summary>
     ///
@@ -85,7 +94,7 @@ impl PatternSet {
         self.patterns.len()
     }
 
-    /// Whether there are no patterns, so that nothing is matched.
+    /// Whether the set has no patterns, and so matches nothing.
     ///
     /// <details><summary>Contract</summary>
     ///
@@ -99,7 +108,16 @@ impl PatternSet {
         self.patterns.len() == 0
     }
 
-    /// A set of these patterns, in this order.
+    /// A set of these patterns, numbered in this order.
+    ///
+    /// ```
+    /// use cadmiumdove::set::PatternSet;
+    /// use cadmiumdove::{MatchOptions, Pattern};
+    ///
+    /// let set = PatternSet::new(vec![Pattern::new("*.o")?, Pattern::new("*.a")?], MatchOptions::new());
+    /// assert_eq!(set.len(), 2);
+    /// # Ok::<(), cadmiumdove::PatternError>(())
+    /// ```
     ///
     /// <details><summary>Contract</summary>
     ///
@@ -113,13 +131,12 @@ impl PatternSet {
     pub fn new(patterns: Vec<Pattern>, options: MatchOptions) -> Self {
         let needs = needs_of(patterns.as_slice());
         let keys = keys_of(patterns.as_slice());
-        let buckets = buckets_of(needs.as_slice(), keys.as_slice());
+        let buckets = Buckets::new(needs.as_slice(), keys.as_slice());
         let keyed = Keyed::new(keys, slots_for(patterns.len()));
-        let all = bucket_of_all(patterns.len());
-        PatternSet { patterns, needs, keyed, buckets, all, options }
+        PatternSet { patterns, needs, keyed, buckets, options }
     }
 
-    /// [`new`](Self::new) of the patterns that are parsed from the texts, as from `*.o` and `target/**`.
+    /// Parses the texts, such as `*.o` and `target/**`, and makes a set of the patterns, in this order.
     ///
     /// The error is [`Syntax`](SetRefusal::Syntax) with the number and the fault of the first text that is not
     /// accepted.
@@ -128,9 +145,9 @@ impl PatternSet {
         Ok(Self::new(patterns, options))
     }
 
-    /// [`new`](Self::new) of all alternatives of all texts, as from `src/*.{c,h}`: those of the first text first, as
-    /// [`expand`](crate::proved::glob_set::braces::expand) returns them. A text matches exactly if one of the
-    /// alternatives of one of the texts matches it.
+    /// Parses all alternatives of all texts, such as `src/*.{c,h}`, and makes a set of the patterns: those of the first
+    /// text first, in the order of [`expand`](crate::proved::glob_set::braces::expand). The set matches a text exactly
+    /// if an alternative of one of the texts does.
     ///
     /// The error is that of the first text with a fault, [`Braces`](BraceSetRefusal::Braces) or
     /// [`Pattern`](BraceSetRefusal::Pattern).
@@ -139,7 +156,16 @@ impl PatternSet {
         Ok(Self::new(patterns, options))
     }
 
-    /// Whether any of the patterns matches the text: by `*.o` and `target/**`, `a.o` is matched, and `a.rs` is not.
+    /// Whether a pattern of the set matches the text: for `*.o` and `target/**`, `a.o` is matched, and `a.rs` is not.
+    ///
+    /// ```
+    /// use cadmiumdove::set::PatternSet;
+    /// use cadmiumdove::MatchOptions;
+    ///
+    /// let set = PatternSet::from_texts(["*.o", "target/**"], MatchOptions::new())?;
+    /// assert!(set.is_match("a.o") && set.is_match("target/x") && !set.is_match("a.rs"));
+    /// # Ok::<(), cadmiumdove::set::SetRefusal>(())
+    /// ```
     ///
     /// <details><summary>Contract</summary>
     ///
@@ -154,7 +180,18 @@ impl PatternSet {
         self.first_match(text).is_some()
     }
 
-    /// The number of the first pattern that matches the text, or `None`: by `a*` and `*b`, 0 of `ab`, and 1 of `b`.
+    /// The number of the first pattern that matches the text, or `None`. For `a*` and `*b` it is 0 for `ab` and 1 for
+    /// `b`.
+    ///
+    /// ```
+    /// use cadmiumdove::set::PatternSet;
+    /// use cadmiumdove::MatchOptions;
+    ///
+    /// let set = PatternSet::from_texts(["*.rs", "src/*"], MatchOptions::new())?;
+    /// assert_eq!((set.first_match("src/a.rs"), set.last_match("src/a.rs")), (Some(0), Some(1)));
+    /// assert_eq!(set.first_match("a.c"), None);
+    /// # Ok::<(), cadmiumdove::set::SetRefusal>(())
+    /// ```
     ///
     /// <details><summary>Contract</summary>
     ///
@@ -174,7 +211,8 @@ impl PatternSet {
         earlier(listed, found)
     }
 
-    /// The number of the last pattern that matches the text, or `None`: by `a*` and `*b`, 1 of `ab`, and 0 of `a`.
+    /// The number of the last pattern that matches the text, or `None`. For `a*` and `*b` it is 1 for `ab` and 0 for
+    /// `a`.
     ///
     /// <details><summary>Contract</summary>
     ///
@@ -194,8 +232,21 @@ impl PatternSet {
         later(listed, found)
     }
 
-    /// Replaces the content of `numbers` by the numbers of all patterns that match the text, in ascending order: by
-    /// `a*` and `*b`, 0 and 1 for `ab`, and none for `c`.
+    /// Replaces the content of `numbers` with the numbers of all patterns that match the text, in ascending order. For
+    /// `a*` and `*b` these are 0 and 1 for `ab`, and none for `c`.
+    ///
+    /// ```
+    /// use cadmiumdove::set::PatternSet;
+    /// use cadmiumdove::MatchOptions;
+    ///
+    /// let set = PatternSet::from_texts(["*.rs", "src/*"], MatchOptions::new())?;
+    /// let mut numbers = Vec::new();
+    /// for (text, matched) in [("src/a.rs", &[0, 1][..]), ("a.rs", &[0]), ("a.c", &[])] {
+    ///     set.matches_into(text, &mut numbers);
+    ///     assert_eq!(numbers, matched);
+    /// }
+    /// # Ok::<(), cadmiumdove::set::SetRefusal>(())
+    /// ```
     ///
     /// <details><summary>Contract</summary>
     ///
@@ -208,7 +259,7 @@ impl PatternSet {
     pub fn matches_into(&self, text: &str, numbers: &mut Vec<usize>) {
         self.find_matches(text, numbers);
 
-        // Those with a key come after the others, and twice where all patterns were asked.
+        // Patterns with a key come after the others, and twice if all patterns were asked.
         numbers.as_mut_slice().sort_unstable();
         numbers.dedup();
     }

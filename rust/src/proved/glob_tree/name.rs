@@ -1,20 +1,30 @@
-//! Made by `bin/rust_crate` from `crates/glob_tree/src/name.rt`, where its contracts are: sha256 3d3dc4a4fb5c6db5.
+//! Made by `bin/rust_crate` from `crates/glob_tree/src/name.rt`, where its contracts are: sha256 2dff9226807c6ee8.
 //! Not derived there: `Name`.
 //!
 //! Names of entries.
 
-/// A proper name, as an entry of a directory has: not empty, not `.`, not `..`, and without `/` and NUL.
+/// A proper name, as the entries of directories have: not empty, not `.` or `..`, and without `/` and NUL.
 ///
-/// `a.rs` and `...` are names; `a/b` is none.
+/// `a.rs` and `...` are names; `a/b` is not.
+///
+/// ```
+/// use cadmiumdove::walk::Name;
+///
+/// assert_eq!(Name::new("a.rs".to_owned())?.as_str(), "a.rs");
+/// assert_eq!(Name::new("a/b".to_owned()), Err("a/b".to_owned()));
+/// # Ok::<(), String>(())
+/// ```
 #[derive(Debug, Clone, PartialEq, Eq, PartialOrd, Ord, Hash)]
 pub struct Name {
     text: String,
 }
 
 impl Name {
-    /// The name `text`, as `a.rs`.
+    /// Makes the name `text`, such as `a.rs`.
     ///
-    /// The error is `text` itself, where it is no proper name: `Name::new(text)` is `Err(text)` for `..` and for `a/b`.
+    /// # Errors
+    ///
+    /// The error is `text` itself, if it is not a proper name: `Name::new(text)` is `Err(text)` for `..` and for `a/b`.
     ///
     /// <details><summary>Contract</summary>
     ///
@@ -33,7 +43,7 @@ impl Name {
         }
     }
 
-    /// The text of the name, as `a.rs`.
+    /// The text of the name, such as `a.rs`.
     ///
     /// <details><summary>Contract</summary>
     ///
@@ -48,17 +58,17 @@ impl Name {
     }
 }
 
-/// Whether the text is a proper name: `a.rs` is, and `..` is not.
+/// Whether the text is a proper name: `a.rs` is, `..` is not.
 pub fn is_proper(text: &str) -> bool {
     names_entry(text.as_bytes()) && !has_barred(text)
 }
 
-/// Whether the bytes are neither empty nor `.` or `..`, which lead to no entry of the directory.
+/// Whether the bytes can name an entry: they are not empty, `.` or `..`.
 pub(crate) fn names_entry(bytes: &[u8]) -> bool {
     !bytes.is_empty() && bytes != b".".as_slice() && bytes != b"..".as_slice()
 }
 
-/// Whether some byte is `/` or NUL, which no name holds.
+/// Whether some byte is `/` or NUL, which no name contains.
 fn has_barred(text: &str) -> bool {
     text.as_bytes().iter().any(|&byte| byte == b'/' || byte == 0)
 }

@@ -1,9 +1,9 @@
-//! Made by `bin/rust_crate` from `crates/glob_tree/src/path_text.rt`, where its contracts are: sha256 c686c4c848c7afb1.
+//! Made by `bin/rust_crate` from `crates/glob_tree/src/path_text.rt`, where its contracts are: sha256 ac283dcbc42f27b6.
 //!
 //! The texts of paths.
 
-/// The path of a name in a directory: the name alone where the directory is `.`, and else the two joined, as `a/b` of
-/// `a` and `b`.
+/// The path of a name in a directory: only the name if the directory is `.` (or `./`, `./.`), and otherwise the two
+/// joined, such as `a/b` for `a` and `b`.
 pub fn child(dir: &str, name: &str) -> String {
     if is_here(dir) {
         String::from(name)
@@ -12,7 +12,7 @@ pub fn child(dir: &str, name: &str) -> String {
     }
 }
 
-/// The path, a separator unless the path is empty or ends in one, and the name: `a/b` of `a` and `b`, and of `a/` and
+/// The path, a separator unless the path is empty or ends in one, and the name: `a/b` for `a` and `b`, and for `a/` and
 /// `b`.
 pub fn join(dir: &str, name: &str) -> String {
     let room = dir.len().saturating_add(1).saturating_add(name.len());
@@ -25,22 +25,22 @@ pub fn join(dir: &str, name: &str) -> String {
     path
 }
 
-/// Whether a separator stands between the path and a name.
+/// Whether a separator has to come between the path and a name.
 fn needs_separator(dir: &str) -> bool {
     !dir.is_empty() && !dir.ends_with('/')
 }
 
-/// Whether the path is `.`, and further pieces that stay there.
+/// Whether the path is `.`, or `.` and further pieces that stay there, such as `./.`.
 fn is_here(path: &str) -> bool {
     path.starts_with('.') && all_stay(path)
 }
 
-/// Whether no piece of the path leads elsewhere.
+/// Whether each piece of the path is empty or `.`.
 fn all_stay(path: &str) -> bool {
     path.split('/').all(stays)
 }
 
-/// Whether a piece of a path is empty or `.`, so that it leads nowhere else.
+/// Whether a piece of a path leads nowhere else: it is empty or `.`, and not `a` or `..`.
 pub fn stays(piece: &str) -> bool {
     piece.is_empty() || piece == "."
 }

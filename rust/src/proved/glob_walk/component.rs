@@ -1,24 +1,24 @@
-//! Made by `bin/rust_crate` from `crates/glob_walk/src/component.rt`, where its contracts are: sha256 156e1d58be9e78a8.
+//! Made by `bin/rust_crate` from `crates/glob_walk/src/component.rt`, where its contracts are: sha256 b1e6f73f6442f04e.
 //!
 //! The components of a pattern, each read once.
 
 use crate::proved::glob_pattern::{MatchOptions, Pattern, PatternError};
 
-/// What is kept of a component: of a literal one its text, of one with wildcards its pattern, and of `**` nothing more,
-/// since no name is matched with it.
+/// What is kept of a component: the text of a literal one, the pattern of one with wildcards, and for `**` nothing,
+/// since no name is matched against it.
 enum Form {
     Literal(String),
     Recursive,
     Wild(Pattern),
 }
 
-/// A component of a pattern. Contracts see its text.
+/// A component of a pattern.
 pub struct Component {
     form: Form,
 }
 
 impl Component {
-    /// Its text.
+    /// The text of the component.
     pub fn as_str(&self) -> &str {
         match &self.form {
             Form::Literal(text) => text.as_str(),
@@ -27,7 +27,7 @@ impl Component {
         }
     }
 
-    /// Whether it has no wildcard, and is looked up.
+    /// Whether it has no wildcard, and so is looked up by name.
     pub fn is_literal(&self) -> bool {
         match &self.form {
             Form::Literal(_) => true,
@@ -43,7 +43,7 @@ impl Component {
         }
     }
 
-    /// Reads a component. One with a fault is refused with it.
+    /// Reads a component. The error is its fault.
     pub fn read(text: &str) -> Result<Self, PatternError> {
         let form = if is_literal(text) {
             Form::Literal(String::from(text))
@@ -55,7 +55,7 @@ impl Component {
         Ok(Component { form })
     }
 
-    /// Refuses a text that has a fault, and keeps nothing of it.
+    /// Checks a text for a fault, and keeps nothing of it. The error is that fault.
     pub fn check(text: &str) -> Result<(), PatternError> {
         if is_literal(text) {
             return Ok(());
@@ -64,7 +64,7 @@ impl Component {
         Ok(())
     }
 
-    /// Whether it is no `**` and matches the name.
+    /// Whether it matches the name; `**` matches none.
     pub fn matches(&self, name: &str, options: MatchOptions) -> bool {
         match &self.form {
             Form::Literal(text) => is_same_text(name, text.as_str(), options.case_sensitive),
@@ -74,7 +74,7 @@ impl Component {
     }
 }
 
-/// Whether the texts are the same, case-sensitively or not.
+/// Whether the texts are equal, case-sensitively or not.
 fn is_same_text(text: &str, other: &str, case_sensitive: bool) -> bool {
     if case_sensitive {
         text == other
@@ -83,7 +83,7 @@ fn is_same_text(text: &str, other: &str, case_sensitive: bool) -> bool {
     }
 }
 
-/// Compiles a text. One with a fault is refused with it.
+/// Compiles a text. The error is its fault.
 fn compile(text: &str) -> Result<Pattern, PatternError> {
     Pattern::new(text)
 }
@@ -93,7 +93,7 @@ pub fn is_recursive(component: &str) -> bool {
     component == "**"
 }
 
-/// Whether the component stands for itself alone.
+/// Whether the component has no wildcard, and so matches only its own text.
 pub fn is_literal(component: &str) -> bool {
     !has_wildcard(component)
 }

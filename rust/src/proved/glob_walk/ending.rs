@@ -1,18 +1,19 @@
-//! Made by `bin/rust_crate` from `crates/glob_walk/src/ending.rt`, where its contracts are: sha256 1b9b6114bc78e7e5.
+//! Made by `bin/rust_crate` from `crates/glob_walk/src/ending.rt`, where its contracts are: sha256 b5d92708484c0ab0.
 //!
 //! How a walk ended.
 
 use crate::proved::glob_walk::error::{GlobCause, GlobResult};
 
-/// How a walk ended. Over a file `x`, `*` needs 3 units: with the limit 3 it ends with `Done`, and with 2 with `Limit`.
+/// How a walk ended. Over a file `x`, `*` needs 3 units: it ends with `Done` at a limit of 3, and with `Limit` at a
+/// limit of 2.
 #[derive(Clone, Copy, Debug, PartialEq, Eq)]
 pub enum End {
-    /// A further unit of work did not fit the limit.
+    /// The next unit of work did not fit the limit.
     Limit,
 }
 
-/// How a walk ended that gave this item, if that is a refusal: `None` for a path and for a directory that could not be
-/// listed, and `End::Limit` for an error with the cause `Limit`.
+/// How a walk ended if this item ended it: `None` for a path and for a directory that could not be listed, and
+/// `End::Limit` for an error with the cause `Limit`.
 pub fn end_of(item: &GlobResult) -> Option<End> {
     match item {
         Ok(_) => None,

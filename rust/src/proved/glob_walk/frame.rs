@@ -1,13 +1,13 @@
-//! Made by `bin/rust_crate` from `crates/glob_walk/src/frame.rt`, where its contracts are: sha256 96ae922bdc9b1dfb.
+//! Made by `bin/rust_crate` from `crates/glob_walk/src/frame.rt`, where its contracts are: sha256 82bceb180b32acf6.
 //!
-//! A directory that is gone through.
+//! A directory that a walk is going through.
 //!
-//! A frame is what `walkdir` would call an open directory: its path, its entries, and how far the walk came. It is read
-//! from the tree once, as a whole. Each step moves the cursor on by one, and makes at most one task, so that a child's
-//! path is made only where the child is met or entered.
+//! A frame is what `walkdir` would call an open directory: its path, its entries, and how far the walk has come in it.
+//! It is read from the tree once, as a whole. Each step moves the cursor once, and makes at most one task, so a child's
+//! path is built only if the child is met or entered.
 //!
-//! Under `**` each entry has two steps. First it is met by the component after the `**`, or given at the pattern's end;
-//! then, if it is a directory, the `**` goes on in it.
+//! Under `**` each entry takes two steps. First the component after the `**` meets it, or at the pattern's end it is
+//! given; then, if it is a directory, the `**` enters it.
 
 mod tasks;
 
@@ -15,16 +15,16 @@ use crate::proved::glob_tree::Entry;
 use crate::proved::glob_walk::plan::Plan;
 use crate::proved::glob_walk::task::Task;
 
-/// The cursor that is reached in a directory.
+/// The position of a walk in a directory.
 #[derive(Clone, Copy)]
 pub enum Cursor {
     /// Before `..`, which a component that begins with a dot may match.
     Parent,
     /// Before `.`, after `..`.
     Current,
-    /// Before the entry with the number.
+    /// Before the entry of this number.
     At(usize),
-    /// In the entry with the number: it was met, and `**` is still to enter it.
+    /// Inside the entry of this number: it was met, and `**` has yet to enter it.
     Inside(usize),
 }
 
@@ -32,8 +32,8 @@ pub enum Cursor {
 pub struct Frame {
     /// Its path.
     pub path: String,
-    /// The number of the component for which it was listed. If that has wildcards, it is matched with the entries. If it
-    /// is `**`, the component after it is.
+    /// The number of the component that it was listed for. A component with wildcards is matched against the entries;
+    /// for `**`, the component after it is.
     pub component: usize,
     /// Whether that component is `**`.
     pub recursive: bool,
@@ -44,7 +44,7 @@ pub struct Frame {
 }
 
 impl Frame {
-    /// Whether nothing is left in it: the cursor is past the last entry.
+    /// Whether nothing is left in it, as the cursor is past the last entry.
     pub fn is_done(&self) -> bool {
         match self.cursor {
             Cursor::Parent | Cursor::Current => false,
@@ -52,8 +52,8 @@ impl Frame {
         }
     }
 
-    /// Goes to the next cursor, and returns the task that comes of the one before it, if any. Each step leaves fewer
-    /// steps: at most two are left for each entry, and one for each of `..` and `.`.
+    /// Moves to the next cursor, and returns the task that follows from the last one, if any. The steps that are left
+    /// get fewer: at most two for each entry, and one each for `..` and `.`.
     pub fn step(&mut self, plan: &Plan) -> Option<Task> {
         match self.cursor {
             Cursor::Parent => {

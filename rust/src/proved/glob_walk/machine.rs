@@ -1,6 +1,6 @@
-//! Made by `bin/rust_crate` from `crates/glob_walk/src/machine.rt`, where its contracts are: sha256 ebf808c61604702e.
+//! Made by `bin/rust_crate` from `crates/glob_walk/src/machine.rt`, where its contracts are: sha256 f67e446bcdaf4773.
 //!
-//! A walk that asks its caller, and reads nothing itself.
+//! A walk that asks its caller, and reads nothing by itself.
 
 use crate::proved::glob_pattern::{MatchOptions, PatternError};
 use crate::proved::glob_tree::{Entry, Look, Tree};
@@ -14,68 +14,111 @@ use crate::proved::glob_walk::walker::Walker;
 use std::io;
 
 /// What a walk does next.
+///
+/// ```
+/// use cadmiumdove::walk::{Disk, Step, WalkMachine};
+/// use cadmiumdove::MatchOptions;
+///
+/// let (mut machine, mut disk, mut found) = (WalkMachine::new("Cargo.tom?", MatchOptions::new(), 1_000)?, Disk::new(), 0);
+/// loop {
+///     match machine.advance(&mut disk) {
+///         Step::Item(_) => found += 1,
+///         Step::Done => break,
+///         Step::Look | Step::List | Step::ListNames => {} // answered by the next `advance`
+///     }
+/// }
+/// assert_eq!(found, 1);
+/// # Ok::<(), cadmiumdove::PatternError>(())
+/// ```
 pub enum Step {
     /// It asks what [`path`](WalkMachine::path) leads to, and [`looked`](WalkMachine::looked) answers.
     Look,
     /// It asks for the entries of the directory at [`path`](WalkMachine::path), and [`listed`](WalkMachine::listed)
     /// answers.
     List,
-    /// It asks for the same, where the names alone matter: `is_dir` may be `false` at any entry.
+    /// It asks for the same, but needs only the names: `is_dir` may be `false` for any entry.
     /// [`listed`](WalkMachine::listed) answers.
     ListNames,
-    /// It gives an item: a path, or an error. After an error with the cause `Limit` only `Done` follows.
+    /// It gives an item: a path, or an error. After an error with the cause `Limit`, only `Done` follows.
     Item(GlobResult),
     /// Nothing is left: each further call of [`next`](WalkMachine::next) returns it again.
     Done,
 }
 
-/// The answer to the question that is open, as [`ask`](WalkMachine::ask) returns it. Where a look at the directory `a`
-/// is asked for, that is an `Answer::Look` with `Look::Dir`.
+/// The answer to the open question, as [`ask`](WalkMachine::ask) returns it. For a look at the directory `a` it is an
+/// `Answer::Look` with `Look::Dir`.
+///
+/// ```
+/// use cadmiumdove::walk::{Answer, Look, Step, WalkMachine};
+/// use cadmiumdove::MatchOptions;
+///
+/// let mut machine = WalkMachine::new("a", MatchOptions::new(), 100)?;
+/// assert!(matches!(machine.resume(Answer::Nothing), Step::Look));
+/// assert!(matches!(machine.resume(Answer::Look(Look::Dir)), Step::Look));
+/// assert_eq!(machine.path(), "a");
+/// assert!(matches!(machine.resume(Answer::Look(Look::Missing)), Step::Done));
+/// # Ok::<(), cadmiumdove::PatternError>(())
+/// ```
 pub enum Answer {
     /// No question is open.
     Nothing,
     /// The answer to a look.
     Look(Look),
-    /// The answer to a listing, of entries or of names alone.
+    /// The answer to a listing, of entries or of names.
     List(Result<Vec<Entry>, io::Error>),
 }
 
-/// A walk without a tree: it asks its questions one by one, and whoever drives it answers them from a file system, an
+/// A walk without a tree: it asks one question after another, and its caller answers them from a file system, an
 /// archive or a network, at once or later.
 ///
 /// ```text
 /// let mut machine = WalkMachine::new("*", MatchOptions::new(), 100)?;
-/// machine.next()                  // Step::Look, where machine.path() is "."
-/// machine.looked(Look::Dir)   // Step::ListNames, where machine.path() is "."
+/// machine.next()                  // Step::Look; machine.path() is "."
+/// machine.looked(Look::Dir)   // Step::ListNames; machine.path() is "."
 /// machine.listed(Ok(entries))     // of files `y` and `x`: Step::Item(Ok("x"))
 /// machine.next()                  // Step::Item(Ok("y"))
 /// machine.next()                  // Step::Done; machine.spent() is 4
 /// ```
 ///
-/// As long as each answer is that of one content, its questions and items are those of the written listing, one after
-/// another: the items so far are a beginning of all of them, and at `Done` all. Whatever is answered, it charges a unit
-/// for each question before it asks it, and one for each entry that is answered, gives at most one item more than it
-/// charged units, never charges more than its limit, and so comes to an end.
+/// As long as all answers are those of one content, its questions and items are those of the written listing, in order:
+/// the items so far are a prefix of the listing's, and at `Done` they are all. Whatever the answers are, it charges one
+/// unit for each question, before it asks it, and one for each entry in an answer; it gives at most one item more than
+/// it charged units; and it never charges more than its limit, so it comes to an end.
+///
+/// ```
+/// use cadmiumdove::walk::{Look, Step, WalkMachine};
+/// use cadmiumdove::MatchOptions;
+///
+/// let mut machine = WalkMachine::new("a/b", MatchOptions::new(), 100)?;
+/// assert!(matches!(machine.next(), Step::Look) && machine.path() == ".");
+/// assert!(matches!(machine.looked(Look::Dir), Step::Look) && machine.path() == "a");
+/// assert!(matches!(machine.looked(Look::Dir), Step::Look) && machine.path() == "a/b");
+/// assert!(matches!(machine.looked(Look::Other), Step::Item(Ok(path)) if path.ends_with("b")));
+/// assert!(matches!(machine.next(), Step::Done));
+/// # Ok::<(), cadmiumdove::PatternError>(())
+/// ```
 pub struct WalkMachine {
     walker: Walker,
-    /// How many items were given: up to one more than the limit, so it may be 2^64.
+    /// The number of items that were given: up to one more than the limit, so it can be 2^64.
     given: u128,
     over: bool,
 }
 
 impl WalkMachine {
-    /// A walk after the components of a pattern, with at most `limit` units of work: one for each lookup, one for each
-    /// listing, and one for each entry of a listing. It has asked nothing.
+    /// A walk of a pattern with at most `limit` units of work: one for each lookup, one for each listing, and one for
+    /// each entry of a listing. It has asked nothing yet.
     ///
-    /// A pattern with a fault is refused: the fault of the whole text, or else that of the first component that has
-    /// one.
+    /// # Errors
+    ///
+    /// A pattern with a fault is refused: the fault of the whole text or, if that has none, of the first component that
+    /// has one.
     ///
     /// <details><summary>Contract</summary>
     ///
     /// ```text
     /// ensures accepted { IfOk result (λ _. walk_fault pattern.now ≡ None) }
     /// ensures refused { IfErr result (RefusesWith (walk_fault pattern.now)) }
-    /// ensures fresh { IfOk result (IsFreshMachine limit) }
+    /// ensures fresh { IfOk result (IsFresh limit) }
     /// ensures aim { IfOk result
     ///     (λ walk. (c : Content) → listing_of c walk.aim ≡ listing c options pattern.now) }
     /// ```
@@ -87,7 +130,7 @@ impl WalkMachine {
         Ok(WalkMachine::from_plan(plan, start, limit))
     }
 
-    /// A walk after a plan from its start, which is looked up first.
+    /// A walk of a plan. It first looks up the start.
     fn from_plan(plan: Plan, start: String, limit: u64) -> Self {
         let frames = Vec::new();
         let next = Some(Task { path: start, component: 0, state: TaskState::Unseen(Accepted::Any) });
@@ -96,8 +139,8 @@ impl WalkMachine {
         WalkMachine { walker: Walker { meter, query: None, stack }, given: 0, over: false }
     }
 
-    /// The next step, where no question is open: at first, and after an item. The first step of each walk is
-    /// `Step::Look`, at the path `.` or `/`, or the refusal of its unit by a limit of 0.
+    /// The next step when no question is open: at first, and after an item. The first step of each walk is
+    /// `Step::Look`, at the path `.` or `/`; at a limit of 0 it is an error with the cause `Limit`.
     ///
     /// <details><summary>Contract</summary>
     ///
@@ -111,10 +154,22 @@ impl WalkMachine {
         self.resume(Answer::Nothing)
     }
 
-    /// The next step, where a tree answers the question that is open, if one is. Calls of it alone make a whole walk:
-    /// over a file `x`, those of `*` return `Look`, `ListNames`, the item `x`, and `Done`.
+    /// The next step, with the open question, if there is one, answered by a tree. These calls are enough for a whole
+    /// walk: for `*` over a file `x` they return `Look`, `ListNames`, the item `x`, and `Done`.
     ///
     /// The tree is asked at most one question.
+    ///
+    /// ```
+    /// use cadmiumdove::walk::{Disk, Step, WalkMachine};
+    /// use cadmiumdove::MatchOptions;
+    ///
+    /// let (mut machine, mut disk) = (WalkMachine::new("Cargo.toml", MatchOptions::new(), 100)?, Disk::new());
+    /// assert!(matches!(machine.advance(&mut disk), Step::Look));
+    /// assert!(matches!(machine.advance(&mut disk), Step::Look) && machine.path() == "Cargo.toml");
+    /// assert!(matches!(machine.advance(&mut disk), Step::Item(Ok(_))));
+    /// assert!(matches!(machine.advance(&mut disk), Step::Done));
+    /// # Ok::<(), cadmiumdove::PatternError>(())
+    /// ```
     ///
     /// <details><summary>Contract</summary>
     ///
@@ -132,8 +187,8 @@ impl WalkMachine {
         self.resume(answer)
     }
 
-    /// The answer of a tree to the question that is open, and `Nothing` where none is. [`resume`](WalkMachine::resume)
-    /// takes it; [`advance`](WalkMachine::advance) is the two in one.
+    /// A tree's answer to the open question; `Nothing` if none is open. [`resume`](WalkMachine::resume) takes the
+    /// answer; [`advance`](WalkMachine::advance) does both.
     ///
     /// <details><summary>Contract</summary>
     ///
@@ -160,14 +215,13 @@ impl WalkMachine {
         }
     }
 
-    /// Answers the look that is asked for, and returns the next step. Where `*` looks at `.`, `looked(Look::Dir)` is
-    /// `Step::ListNames`, and `looked(Look::Missing)` is `Step::Done`.
+    /// Answers the open look, and returns the next step. If `*` looks at `.`, then `looked(Look::Dir)` returns
+    /// `Step::ListNames`, and `looked(Look::Missing)` returns `Step::Done`.
     ///
     /// <details><summary>Contract</summary>
     ///
     /// ```text
     /// requires asked { IsLook self.old.asked }
-    /// ensures failed { IfErr seen (λ _. saying result ≡ Says NoMemory) }
     /// ensures steps { StepGoes (IsSeenIn self.old.asked seen) 0
     ///     self.old (saying result) self.new }
     /// ```
@@ -177,10 +231,9 @@ impl WalkMachine {
         self.resume(Answer::Look(seen))
     }
 
-    /// Answers the listing that is asked for, of entries or of names alone, with its entries in any order, and returns
-    /// the next step, for one unit of work an entry. Where `*` lists `.`, `listed` of the files `y` and `x` gives the
-    /// item `x`. After `Err(e)` that is an error with the path, the kind of `e` and the cause `Read`, and the walk goes
-    /// on.
+    /// Answers the open listing, of entries or of names, with its entries in any order, and returns the next step. Each
+    /// entry costs one unit of work. If `*` lists `.`, `listed` with the files `y` and `x` returns the item `x`. After
+    /// `Err(e)` the step is an error with the path, the kind of `e` and the cause `Read`, and the walk goes on.
     ///
     /// <details><summary>Contract</summary>
     ///
@@ -197,19 +250,23 @@ impl WalkMachine {
         self.resume(Answer::List(listed))
     }
 
-    /// Takes the answer to the question that is open, or `Nothing` where none is, and returns the next step, as
-    /// [`looked`](WalkMachine::looked), [`listed`](WalkMachine::listed) and [`next`](WalkMachine::next) do: with
-    /// `Answer::Look(seen)` it is `looked(seen)`. What is no answer to the open question leaves it open: it is asked
-    /// again, for no unit.
+    /// Takes the answer to the open question, if there is one, and returns the next step, as
+    /// [`looked`](WalkMachine::looked), [`listed`](WalkMachine::listed) and [`next`](WalkMachine::next) do:
+    /// `Answer::Look(seen)` does what `looked(seen)` does. If no question is open, the answer does not matter. An
+    /// answer to another question leaves the walk as it is: the question is asked again, at no cost.
     ///
     /// <details><summary>Contract</summary>
     ///
     /// ```text
-    /// requires answer { IsAnswer self.old.asked answer }
-    /// ensures failed { IfFailed answer (question_path self.old.asked)
-    ///     (λ o. saying result ≡ Says o) }
-    /// ensures steps { StepGoes (IsAnswered self.old.asked answer) (answer_count answer)
+    /// ensures failed { IsAnswer self.old.asked answer
+    ///     → IfFailed answer (question_path self.old.asked) (λ o. saying result ≡ Says o) }
+    /// ensures steps { IsAnswer self.old.asked answer
+    ///     → StepGoes (IsAnswered self.old.asked answer) (answer_count answer)
     ///     self.old (saying result) self.new }
+    /// ensures free { self.old.asked ≡ None
+    ///     → StepGoes IsSomeContent 0 self.old (saying result) self.new }
+    /// ensures waits { IsSome self.old.asked → ¬ (IsAnswer self.old.asked answer)
+    ///     → IsAskedAfter (saying result) self.old.asked × (self.new ≡ self.old) }
     /// ```
     ///
     /// </details>
@@ -223,8 +280,7 @@ impl WalkMachine {
         step
     }
 
-    /// The path that is asked for, as `a` where the entries of the directory `a` are, and the empty text where no
-    /// question is open.
+    /// The path of the open question, such as `a` for the entries of the directory `a`; empty if no question is open.
     ///
     /// <details><summary>Contract</summary>
     ///
@@ -241,8 +297,8 @@ impl WalkMachine {
         }
     }
 
-    /// How many units of work were charged, that of an open question too: never more than the limit. It is 1 at the
-    /// first question, and 4 where `*` has looked at a directory, and listed it with two entries.
+    /// How many units of work were charged, including that of an open question: never more than the limit. It is 1 at
+    /// the first question, and 4 after `*` has looked at a directory and listed it with two entries.
     ///
     /// <details><summary>Contract</summary>
     ///
@@ -257,8 +313,8 @@ impl WalkMachine {
         self.walker.meter.spent
     }
 
-    /// How many items were given, a refusal too: at most one more than `spent`. It is 2 where `*` has given two files,
-    /// and 1 where a limit of 0 refused the first unit.
+    /// How many items were given, including a refusal: at most one more than `spent`. It is 2 after `*` has given two
+    /// files, and 1 after a limit of 0 refused the first unit.
     ///
     /// <details><summary>Contract</summary>
     ///

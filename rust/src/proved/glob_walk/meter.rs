@@ -1,13 +1,13 @@
-//! Made by `bin/rust_crate` from `crates/glob_walk/src/meter.rt`, where its contracts are: sha256 55740a1d74689bbb.
+//! Made by `bin/rust_crate` from `crates/glob_walk/src/meter.rt`, where its contracts are: sha256 722dae5c84056cb3.
 //!
-//! The limit of a walk, and what is charged to it.
+//! The limit of a walk, and what is charged against it.
 //!
-//! Each unit is charged before the question that it pays for, and a question that the limit does not allow is not
-//! asked. Only the entries of a listing are charged after it, since they cannot be counted before.
+//! Each unit is charged before the question that it pays for, and a question that does not fit the limit is not asked.
+//! Only the entries of a listing are charged afterwards, since they cannot be counted before.
 
 use crate::proved::glob_tree::Entry;
 
-/// How many units of a limit were spent: never more than the limit.
+/// How many units of a limit were spent; never more than the limit.
 #[derive(Clone, Copy)]
 pub struct Meter {
     pub limit: u64,
@@ -24,7 +24,7 @@ impl Meter {
         true
     }
 
-    /// Charges a unit for each of `count` entries. Where they pass the limit, all of it is spent.
+    /// Charges one unit for each of `count` entries. If they do not fit the limit, all of it is spent.
     pub fn charge_entries(&mut self, count: usize) -> bool {
         let count = count as u64;
         if count > self.limit - self.spent {

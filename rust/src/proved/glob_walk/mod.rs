@@ -1,6 +1,6 @@
-//! Made by `bin/rust_crate` from `crates/glob_walk/src/lib.rt`, where its contracts are: sha256 9e88a1b9fd62568f.
+//! Made by `bin/rust_crate` from `crates/glob_walk/src/lib.rt`, where its contracts are: sha256 5aa58c0e8306f44f.
 //!
-//! The walk of a pattern over a tree, as a machine whose questions its caller answers.
+//! The walk of a pattern over a tree, as a machine whose caller answers its questions.
 
 mod component;
 mod ending;

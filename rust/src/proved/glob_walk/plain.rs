@@ -1,4 +1,4 @@
-//! Made by `bin/rust_crate` from `crates/glob_walk/src/plain.rt`, where its contracts are: sha256 69bd7c771693e8e5.
+//! Made by `bin/rust_crate` from `crates/glob_walk/src/plain.rt`, where its contracts are: sha256 2891c75c3cbdb27c.
 //!
 //! Which patterns are plain.
 
@@ -7,12 +7,23 @@ use crate::proved::glob_tree::begins_with_dot;
 use crate::proved::glob_walk::component::{is_current_or_parent, is_literal, is_recursive};
 use crate::proved::glob_walk::plan::{past_root, Plan};
 
-/// Whether the pattern is plain, so that a walk by it finds what the undivided pattern matches: no component is empty,
-/// `.` or `..`, and each that has a wildcard and begins with a dot is right after a `**`. A `/` at the start or at the
-/// end makes no component; `/` alone, as the empty pattern, has an empty one. What
-/// [`WalkMachine::new`](crate::proved::glob_walk::WalkMachine::new) refuses is refused as there.
+/// Whether the pattern is plain, so that its walk finds what the undivided pattern matches: no component is empty, `.`
+/// or `..`, and each that has a wildcard and begins with a dot is right after a `**`. A `/` at the start or at the end
+/// makes no component, but `/` by itself has an empty one, as the empty pattern has.
 ///
-/// So `src/**/*.rs` is plain, and `src/./*.rs` and `.*` are not; `a**` is refused.
+/// For example, `src/**/*.rs` is plain, `src/./*.rs` and `.*` are not, and `a**` is refused.
+///
+/// ```
+/// use cadmiumdove::walk::is_plain;
+///
+/// assert!(is_plain("src/**/*.rs")? && !is_plain("src/./*.rs")?);
+/// assert!(is_plain("a**").is_err());
+/// # Ok::<(), cadmiumdove::PatternError>(())
+/// ```
+///
+/// # Errors
+///
+/// The errors are those of [`WalkMachine::new`](crate::proved::glob_walk::WalkMachine::new).
 ///
 /// <details><summary>Contract</summary>
 ///
@@ -28,7 +39,7 @@ pub fn is_plain(pattern: &str) -> Result<bool, PatternError> {
     Ok(are_plain(past_root(pattern)))
 }
 
-/// Whether the components of a text are plain, which stand between separators.
+/// Whether the components of a text, which are between its separators, are plain.
 fn are_plain(text: &str) -> bool {
     let mut after_recursive = false;
     for component in text.split('/') {
@@ -40,7 +51,7 @@ fn are_plain(text: &str) -> bool {
     true
 }
 
-/// Whether the component is plain, where `**` is right before it or not.
+/// Whether the component is plain; `after_recursive` says whether it is right after a `**`.
 fn is_plain_component(after_recursive: bool, component: &str) -> bool {
     !component.is_empty()
         && !is_current_or_parent(component)

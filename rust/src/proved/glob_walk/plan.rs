@@ -1,10 +1,10 @@
-//! Made by `bin/rust_crate` from `crates/glob_walk/src/plan.rt`, where its contracts are: sha256 b243a7b7bcae9009.
+//! Made by `bin/rust_crate` from `crates/glob_walk/src/plan.rt`, where its contracts are: sha256 9ed62834cba123e1.
 //!
 //! What a walk looks for.
 //!
-//! A plan is a pattern that was read once, before the walk: its components in order, each with its kind, the options,
-//! and whether directories alone are given. Neighbouring `**` mean what one of them means, and are read as one. Nothing
-//! of it changes while the walk goes on.
+//! A plan is a pattern read once, before the walk: its components in order, each with its kind, the options, and
+//! whether only directories are given. Adjacent `**` mean the same as one of them, and are read as one. A plan does not
+//! change during the walk.
 
 use crate::proved::glob_pattern::{MatchOptions, PatternError};
 use crate::proved::glob_tree::begins_with_dot;
@@ -12,21 +12,21 @@ use crate::proved::glob_walk::component::{is_recursive, Component};
 
 /// What a walk looks for: the components of a pattern, in order.
 pub struct Plan {
-    /// The components. No two neighbours are `**`.
+    /// The components. No two adjacent ones are `**`.
     pub components: Vec<Component>,
     /// How names are matched.
     pub options: MatchOptions,
-    /// Whether it begins at the root, and not at the current directory.
+    /// Whether it starts at the root, and not in the current directory.
     pub rooted: bool,
-    /// Whether directories alone are given.
+    /// Whether only directories are given.
     pub directories: bool,
 }
 
 impl Plan {
-    /// Reads a pattern. One with a fault is refused with the fault of the whole text, or else with that of the first
-    /// component that has one.
+    /// Reads a pattern. The error is the fault of the whole text or, if that has none, of the first component that has
+    /// one.
     pub fn read(pattern: &str, options: MatchOptions) -> Result<Self, PatternError> {
-        // The whole first, so that a fault's place counts from the start of the pattern where the whole has one.
+        // The whole text first, so that the place of its fault is counted from the start of the pattern.
         Component::check(pattern)?;
         let components = read_components(past_root(pattern))?;
         Ok(Plan {
@@ -46,12 +46,12 @@ impl Plan {
         }
     }
 
-    /// The component with the number, counted from 0; `None` past the last.
+    /// The component of this number, counted from 0; `None` past the last.
     pub fn component(&self, number: usize) -> Option<&Component> {
         self.components.get(number)
     }
 
-    /// Whether the component with the number begins with a dot.
+    /// Whether the component of this number begins with a dot.
     pub fn is_dotted(&self, number: usize) -> bool {
         match self.component(number) {
             Some(component) => begins_with_dot(component.as_str()),
@@ -59,14 +59,14 @@ impl Plan {
         }
     }
 
-    /// Whether it matters which of the entries that are met are directories, where the component with the number is
-    /// `**` or has wildcards: not where it is the last, is no `**`, and directories are not wanted.
+    /// Whether the kinds of a directory's entries matter for the component of this number, which is `**` or has
+    /// wildcards. They do not if it is the last, is not `**`, and not only directories are wanted.
     pub fn needs_kinds(&self, number: usize, recursive: bool) -> bool {
         recursive || self.directories || number + 1 < self.components.len()
     }
 }
 
-/// Reads the components of a text, which stand between separators. A `**` right after a `**` is left out.
+/// Reads the components of a text, which are between its separators. A `**` right after a `**` is left out.
 fn read_components(text: &str) -> Result<Vec<Component>, PatternError> {
     let mut components = Vec::new();
     let mut after_recursive = false;
@@ -81,7 +81,7 @@ fn read_components(text: &str) -> Result<Vec<Component>, PatternError> {
     Ok(components)
 }
 
-/// The text of the components: what follows the root, without one separator at its end.
+/// The text of the components: the pattern without a separator at its start and one at its end.
 pub fn past_root(pattern: &str) -> &str {
     without_end(pattern.strip_prefix('/').unwrap_or(pattern))
 }

@@ -1,14 +1,14 @@
-//! Made by `bin/rust_crate` from `crates/glob_walk/src/query.rt`, where its contracts are: sha256 0f66a9aebe34b8b8.
+//! Made by `bin/rust_crate` from `crates/glob_walk/src/query.rt`, where its contracts are: sha256 73b989e7e2eaa52f.
 //!
-//! A question that is open.
+//! An open question.
 
 use crate::proved::glob_walk::task::Accepted;
 
-/// A question whose unit was charged, and whose answer is awaited.
+/// A question that was charged and waits for its answer.
 pub struct Query {
     /// The path that it is about, as the walk gives it.
     pub path: String,
-    /// The number of the component that is met there.
+    /// The number of the component with which the walk goes on there.
     pub component: usize,
     /// What is asked of the path.
     pub kind: QueryKind,
@@ -17,13 +17,13 @@ pub struct Query {
 /// What is asked of a path.
 #[derive(Clone, Copy)]
 pub enum QueryKind {
-    /// What it leads to, and with which answers the walk goes on.
+    /// What it leads to, and which answers let the walk go on.
     Look(Accepted),
     /// The entries of the directory that it leads to.
     List {
-        /// For `**`, and not for a component with wildcards.
+        /// Whether it is for `**`, and not for a component with wildcards.
         recursive: bool,
-        /// With the kinds of its entries, and not for their names alone.
+        /// Whether it is with the kinds of the entries, and not only for their names.
         kinds: bool,
     },
 }

@@ -1,32 +1,32 @@
-//! Made by `bin/rust_crate` from `crates/glob_walk/src/stack.rt`, where its contracts are: sha256 db08b790c77409f0.
+//! Made by `bin/rust_crate` from `crates/glob_walk/src/stack.rt`, where its contracts are: sha256 4902bc658fee265b.
 //!
-//! What a walk has still to do.
+//! What a walk still has to do.
 //!
-//! The stack of `walkdir` holds a directory for each level, and so does this one, with two differences. What comes next
-//! is a task of its own, kept here before the directories. And a directory in which nothing is left is not on the
-//! stack: it goes, with its names, in its last step. In a directory that `**` is listed for, the last step enters the
-//! last entry. It comes after that entry was met, so the directory stays while the components after `**` go on in the
-//! entry. Down a chain of directories with one entry each, the stack holds at most one directory for each `**` and one
-//! more, and not the chain.
+//! The stack of `walkdir` holds one directory for each level, and so does this one, with two differences. The next task
+//! is kept apart, before the directories. And a directory with nothing left is not on the stack: its last step removes
+//! it, with its names. In a directory listed for `**`, the last step enters the last entry. That comes after the entry
+//! was met, so the directory stays while the components after `**` go on in the entry. Down a chain of directories with
+//! one entry each, the stack so holds at most one directory for each `**` and one more, and not the whole chain (no
+//! clause says this).
 
 use crate::proved::glob_walk::frame::Frame;
 use crate::proved::glob_walk::plan::Plan;
 use crate::proved::glob_walk::task::Task;
 
-/// What a walk looks for, and what it has still to do: a task, if there is one, and then what is left in the
-/// directories that it is in, the last first.
+/// What a walk looks for, and what it still has to do: a task, if there is one, and then what is left in the
+/// directories that it is in, from the last to the first.
 pub struct Stack {
     /// What it looks for.
     pub plan: Plan,
-    /// What is done before the directories go on.
+    /// What to do before the directories go on.
     pub next: Option<Task>,
-    /// The directories, each reached by way of the one before it. Something is left in each of them.
+    /// The directories, each reached through the one before it. Each has something left.
     pub frames: Vec<Frame>,
 }
 
 impl Stack {
-    /// Takes one step in the last directory, which may leave a task, and lets the directory go if that was its last
-    /// step. The answer is `false` where there is no directory. The weight falls by the step, so steps come to an end.
+    /// Takes one step in the last directory, which may make a task, and removes the directory if this was its last
+    /// step. Returns `false` if there is no directory. Each step lowers the weight, so steps come to an end.
     pub fn step(&mut self) -> bool {
         let Some(frame) = self.frames.last_mut() else {
             return false;
@@ -39,13 +39,12 @@ impl Stack {
         true
     }
 
-    /// Lets go of the task and of all directories.
     pub fn clear(&mut self) {
         self.next = None;
         self.frames = Vec::new();
     }
 
-    /// Puts a directory on top, unless nothing is left in it.
+    /// Puts a directory on top, unless it has nothing left.
     pub fn open(&mut self, frame: Frame) {
         if frame.is_done() {
             return;

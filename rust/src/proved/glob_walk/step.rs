@@ -1,6 +1,6 @@
-//! Made by `bin/rust_crate` from `crates/glob_walk/src/step.rt`, where its contracts are: sha256 79f1cf2a8ef299a1.
+//! Made by `bin/rust_crate` from `crates/glob_walk/src/step.rt`, where its contracts are: sha256 6680853eb269dcbc.
 //!
-//! What a step of a walk says.
+//! What a step of a walk returns.
 
 use crate::proved::glob_walk::ending::end_of;
 use crate::proved::glob_walk::error::GlobError;
@@ -10,7 +10,7 @@ use std::io;
 use std::path::PathBuf;
 
 impl Step {
-    /// It asks for a look, or for a listing, with the kinds of the entries or for their names alone.
+    /// Asks for a look, or for a listing with the kinds of the entries or only their names.
     pub(crate) fn ask(kind: QueryKind) -> Self {
         match kind {
             QueryKind::Look(_) => Step::Look,
@@ -19,22 +19,22 @@ impl Step {
         }
     }
 
-    /// It gives a path that the pattern leads to.
+    /// Gives a path that the pattern leads to.
     pub(crate) fn found(path: String) -> Self {
         Step::Item(Ok(PathBuf::from(path)))
     }
 
-    /// It reports a directory that could not be listed. The walk goes on after it.
+    /// Reports a directory that could not be listed. The walk goes on.
     pub(crate) fn unread(path: String, e: io::Error) -> Self {
         Step::Item(Err(GlobError::read(PathBuf::from(path), e)))
     }
 
-    /// The limit was reached at the path. The walk is over.
+    /// The walk reached its limit at the path, and is over.
     pub(crate) fn limit(path: String) -> Self {
         Step::Item(Err(GlobError::limit(PathBuf::from(path))))
     }
 
-    /// How many items it gives.
+    /// The number of items that it gives.
     pub(crate) fn item_count(&self) -> u128 {
         match self {
             Step::Item(_) => 1,
@@ -42,7 +42,7 @@ impl Step {
         }
     }
 
-    /// Whether only `Done` follows it.
+    /// Whether only `Done` can follow.
     pub(crate) fn is_last(&self) -> bool {
         match self {
             Step::Look | Step::List | Step::ListNames => false,

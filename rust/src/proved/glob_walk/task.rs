@@ -1,32 +1,32 @@
-//! Made by `bin/rust_crate` from `crates/glob_walk/src/task.rt`, where its contracts are: sha256 c0376d1b6b77db95.
+//! Made by `bin/rust_crate` from `crates/glob_walk/src/task.rt`, where its contracts are: sha256 9ff60e158f629c6c.
 //!
-//! What a walk does next: at one path, with the components from a number on.
+//! What a walk does next: a path, and the number of the component from which it goes on there.
 
 use crate::proved::glob_tree::Look;
 
 /// Which answers to a look let the walk go on at the path.
 #[derive(Clone, Copy)]
 pub enum Accepted {
-    /// Any of them.
+    /// All of them.
     Any,
-    /// Those that say that something is there.
+    /// `Dir` and `Other`: something is there.
     Present,
-    /// None of them. The path is looked up all the same: its unit is part of the written listing, which is the same
-    /// whether `.` and `..` stand after a directory or after a file.
+    /// None of them. The path is still looked up, so that the written listing costs the same whether `.` and `..` come
+    /// after a directory or after a file.
     Nothing,
 }
 
-/// What is known of a task's path, and so what the task is: to ask for a look, or to go on at the path.
+/// What is known of a task's path, which decides the task: ask for a look, or go on at the path.
 #[derive(Clone, Copy)]
 pub enum TaskState {
-    /// Nothing: it is to be looked up.
+    /// Nothing: look it up.
     Unseen(Accepted),
-    /// It is there, and this says whether it is a directory: it is to be entered, or given.
+    /// It is there, and this is whether it is a directory: enter it, or give it.
     Seen(bool),
 }
 
-/// One thing to do: a path, and the number of the component that is met at it. Past the last component none is left,
-/// and the path is to be given.
+/// One thing to do: a path, and the number of the component with which the walk goes on there. After the last component
+/// the path is given.
 pub struct Task {
     /// The path, as the walk gives it.
     pub path: String,
@@ -37,8 +37,8 @@ pub struct Task {
 }
 
 impl Accepted {
-    /// Which looks are accepted at a literal component in a path that is a directory or not: `.` and `..` are there in
-    /// a directory, whatever the look says.
+    /// Which looks are accepted for a literal component below a path: `.` and `..` are there exactly if the path is a
+    /// directory, whatever the look returns.
     pub fn of_literal(is_current_or_parent: bool, is_dir: bool) -> Accepted {
         if !is_current_or_parent {
             Accepted::Present
@@ -49,7 +49,7 @@ impl Accepted {
         }
     }
 
-    /// Whether the walk goes on after this answer to the look.
+    /// Whether the walk goes on after this look.
     pub fn accepts(self, seen: Look) -> bool {
         match self {
             Accepted::Any => true,
@@ -62,8 +62,7 @@ impl Accepted {
     }
 }
 
-/// The task that follows a look: to go on at the path with the same component, or nothing where the answer is not the
-/// one that is accepted.
+/// The task after a look: to go on at the path with the same component, or none if the look is not accepted.
 pub fn task_after_look(path: String, component: usize, accepted: Accepted, seen: Look) -> Option<Task> {
     if !accepted.accepts(seen) {
         return None;

@@ -1,15 +1,15 @@
-//! Made by `bin/rust_crate` from `crates/glob_walk/src/walker.rt`, where its contracts are: sha256 6e6516c2e6c49a2d.
+//! Made by `bin/rust_crate` from `crates/glob_walk/src/walker.rt`, where its contracts are: sha256 8ea9fbeaf81b9e15.
 //!
 //! The turns of a walk.
 //!
-//! A walk has a [`Stack`]: one [`Task`] or none, and below it the directories that it is in, one [`Frame`] for each. A
-//! turn does the task: it asks for a look at one path, or for the listing of one directory, or gives one path. Where
-//! there is no task, a turn takes one step in the directory on top, and that step may make the next task. What a turn
-//! asks for, the [`Meter`] is charged for first. A task that asks makes way for a [`Query`], which is open until it is
-//! answered: a turn is taken only while none is.
+//! A walk has a [`Stack`]: at most one [`Task`], and below it the directories that it is in, one [`Frame`] each. A turn
+//! does the task: it asks for a look at one path or for the listing of one directory, or gives one path. Without a
+//! task, a turn takes one step in the directory on top, which may make the next task. The [`Meter`] is charged before a
+//! turn asks anything. A task that asks is replaced by a [`Query`], which is open until it is answered; turns are taken
+//! only while none is open.
 //!
-//! Nothing here reads a file: whoever drives the walk answers. And nothing calls itself: a walk is a loop of turns. It
-//! comes to a question or an item because a turn that does neither leaves less weight in the stack.
+//! Nothing here reads a file: the caller answers. And nothing is recursive: a walk is a loop of turns. It comes to a
+//! question or an item, because a turn that does neither lowers the weight of the stack.
 //!
 //! ```text
 //! proceed               takes an answer, goes on to the next question or item, and clears a walk that is over
@@ -22,8 +22,8 @@
 //! ```
 //!
 //! The written listing is what a walk does, mark by mark. Each method of [`Walker`] has the same contract, `TurnsTo`:
-//! what was left of the listing begins with what the turn charged and gave, and what the walk then stands for is the
-//! rest. A turn that returns no [`Step`] goes on.
+//! what was left of the listing starts with what the turn charged and gave, and the rest is what is left of the walk
+//! then. After a turn without a [`Step`] the walk just goes on.
 
 use crate::proved::glob_tree::{child, Entry, Look};
 use crate::proved::glob_walk::component::{is_current_or_parent, Component};
@@ -35,10 +35,10 @@ use crate::proved::glob_walk::stack::Stack;
 use crate::proved::glob_walk::task::{task_after_look, Accepted, Task, TaskState};
 use std::io;
 
-/// A limit, and what a walk has still to do.
+/// A limit, and what a walk still has to do.
 pub struct Walker {
     pub meter: Meter,
-    /// The question that is open. Until it is answered, the stack waits.
+    /// The open question. The stack waits until it is answered.
     pub query: Option<Query>,
     pub stack: Stack,
 }
@@ -52,8 +52,8 @@ impl Walker {
         self.ask(Query { path, component, kind: QueryKind::Look(accepted) })
     }
 
-    /// Asks for the listing of a directory for a component, which is `**` or has wildcards, for one unit. Where no
-    /// entry's kind matters, names alone are asked for.
+    /// Asks for the listing of a directory, for one unit. The component is `**` or has wildcards. If the kinds of the
+    /// entries do not matter, only the names are asked for.
     fn list(&mut self, path: String, component: usize, recursive: bool) -> Step {
         if !self.meter.charge() {
             return Step::limit(path);
@@ -62,8 +62,8 @@ impl Walker {
         self.ask(Query { path, component, kind: QueryKind::List { recursive, kinds } })
     }
 
-    /// Charges the entries of a directory that was listed, and puts it on the stack with its first cursor. Where names
-    /// alone were asked for, the entries' kinds are not used.
+    /// Charges the entries of a listed directory, and puts it on the stack with its first cursor. If only the names
+    /// were asked for, the kinds are not used.
     fn enter_listed(
         &mut self,
         path: String,
@@ -75,16 +75,16 @@ impl Walker {
             return Some(Step::limit(path));
         }
         sort_entries(&mut entries);
-        // Before `..` if the component begins with a dot, as `**` never does.
+        // Start before `..` if the component begins with a dot; `**` never does.
         let cursor = if self.stack.plan.is_dotted(component) { Cursor::Parent } else { Cursor::At(0) };
         self.stack.open(Frame { path, component, recursive, entries, cursor });
         None
     }
 
-    /// Meets the components from this number on at a path that is there. If none is left, the path is given: that of a
-    /// directory always, and of anything else unless the pattern ends in a separator. A literal one is joined to the
-    /// path, and to look that up is the next task. For `**` and for a component with wildcards the directory is listed;
-    /// nothing comes of what is no directory.
+    /// Goes on at an existing path with the components from this number on. If none is left, the path is given: always
+    /// for a directory, and for anything else unless the pattern ends in a separator. A literal component is joined to
+    /// the path, and the next task is to look that up. For `**` and for a component with wildcards, a directory is
+    /// listed; for anything else nothing follows.
     fn enter(&mut self, path: String, number: usize, is_dir: bool) -> Option<Step> {
         let plan = &self.stack.plan;
         let Some(component) = plan.component(number) else {
@@ -106,8 +106,8 @@ impl Walker {
         Some(self.list(path, number, recursive))
     }
 
-    /// One turn: does the task if there is one, and else takes one step in the directory on top. Where there is
-    /// neither, the walk is done. It calls nothing that calls it.
+    /// One turn: does the task, if there is one, and otherwise takes one step in the directory on top. If there is none
+    /// either, the walk is done. There is no recursion.
     fn turn(&mut self) -> Option<Step> {
         let Some(task) = self.stack.next.take() else {
             return match self.stack.step() {
@@ -122,7 +122,7 @@ impl Walker {
         }
     }
 
-    /// Turns until there is a question or an item, or nothing is left.
+    /// Takes turns until there is a question or an item, or nothing is left.
     fn turns(&mut self) -> Step {
         loop {
             if let Some(step) = self.turn() {
@@ -131,34 +131,29 @@ impl Walker {
         }
     }
 
-    /// Takes the answer to the question that is open, if one is: what comes of it at once. After what is no answer to
-    /// the question it stays open, and is asked again, for no further unit.
+    /// Takes the answer to the open question, if there is one. An answer to another question leaves it open: it is
+    /// asked again, for no further unit.
     fn take_answer(&mut self, answer: Answer) -> Option<Step> {
         let query = self.query.take()?;
-        match query.kind {
-            QueryKind::Look(accepted) => {
-                let Answer::Look(seen) = answer else {
-                    return Some(self.ask(query));
-                };
+        match (query.kind, answer) {
+            (QueryKind::Look(accepted), Answer::Look(seen)) => {
                 self.take_look(query.path, query.component, accepted, seen)
             }
-            QueryKind::List { recursive, kinds: _ } => {
-                let Answer::List(listed) = answer else {
-                    return Some(self.ask(query));
-                };
+            (QueryKind::List { recursive, kinds: _ }, Answer::List(listed)) => {
                 self.take_listing(query.path, query.component, recursive, listed)
             }
+            _ => Some(self.ask(query)),
         }
     }
 
-    /// Asks a question whose unit was charged.
+    /// Asks a question that was already charged.
     fn ask(&mut self, query: Query) -> Step {
         let step = Step::ask(query.kind);
         self.query = Some(query);
         step
     }
 
-    /// Takes the answer to a look, and leaves the task that follows, if any.
+    /// Takes the answer to a look, and keeps the task that follows, if any.
     fn take_look(&mut self, path: String, component: usize, accepted: Accepted, answer: Look) -> Option<Step> {
         let seen = answer;
         self.stack.next = task_after_look(path, component, accepted, seen);
@@ -179,8 +174,7 @@ impl Walker {
         }
     }
 
-    /// Takes the answer to the question that is open, or `Nothing` where none is, and goes on to the next question or
-    /// item.
+    /// Takes the answer to the open question, if there is one, and goes on to the next question or item.
     fn take_turns(&mut self, answer: Answer) -> Step {
         match self.take_answer(answer) {
             Some(step) => step,
@@ -188,8 +182,8 @@ impl Walker {
         }
     }
 
-    /// The step that [`take_turns`](Walker::take_turns) ends with. Where no item follows it, as after a refusal,
-    /// nothing stays on the stack, since a walk that is over may be kept for long.
+    /// The step of [`take_turns`](Walker::take_turns). If no item can follow it, for example after a refusal, the stack
+    /// is cleared, since a finished walk may be kept for long.
     pub fn proceed(&mut self, answer: Answer) -> Step {
         let step = self.take_turns(answer);
         if step.is_last() {
@@ -199,8 +193,8 @@ impl Walker {
     }
 }
 
-/// The task of a literal component at a path: the look at the two joined. `.` and `..` are there in a directory alone,
-/// and any other name where something is there.
+/// The task of a literal component at a path: to look up the two joined. `.` and `..` are there only in a directory,
+/// any other name if something is there.
 fn literal_task(component: &Component, path: &str, number: usize, is_dir: bool) -> Task {
     let name = component.as_str();
     let accepted = Accepted::of_literal(is_current_or_parent(name), is_dir);

@@ -1,55 +1,47 @@
-//! Made by `bin/rust_crate` from `crates/glob_pattern/src/matcher/positions.rt`, where its contracts are: sha256 bd9d1b41b1243d42.
+//! Made by `bin/rust_crate` from `crates/glob_pattern/src/matcher/positions.rt`, where its contracts are: sha256 1262e2ed0be3843d.
 //! `Vec::with_capacity` and `resize` are there `vec![x; n]`: memory that is asked for as zeros is never what was freed
 //! last, and costs more.
 //!
-//! A bit-parallel automaton (NFA). Its states are positions: which numbers of leading tokens may have split the
-//! characters so far. Bit n of a word is set where the tokens before the word's nth are done, or the nth has begun and
-//! may go on. A character moves all positions at once.
+//! A bit-parallel automaton (NFA). Its states are positions: position n is alive if the first n tokens split the
+//! characters so far, or if token n has begun a piece that may go on. Each position is a bit, and a character moves all
+//! of them at once.
 
 use super::shape_word::ShapeWord;
 use super::{Judge, WORD};
 
-/// Which part of the shapes a run goes over.
+/// The shapes that a run goes over.
 #[derive(Clone, Copy)]
 pub struct Span {
-    /// How many leading shapes have to split all characters. Others may follow, which decide where a last `Deep` ends.
+    /// The number of leading shapes that have to split all characters. Whether shapes follow decides where a last
+    /// `Deep` ends.
     pub end: usize,
-    /// Positions of the word that has the last shape before `end`. Once one is alive, this shape takes all further
-    /// characters.
+    /// Bits in the word of the last shape before `end`: once one is alive, this shape takes all characters that are
+    /// left.
     pub accepting: u64,
 }
 
-/// The words from number `low` up to `high`: nothing is alive in any other.
+/// Words `low..high`. Nothing is alive in any other word.
 #[derive(Clone, Copy)]
 struct Live {
     low: usize,
     high: usize,
 }
 
-/// Whether the shapes before the span's end split the characters. Contracts alone read `tokens`, here and below: no
-/// body does.
+/// Whether the shapes before the span's end split the characters. Only contracts read `tokens`, here and below.
 #[inline(always)]
 pub fn decide<J: Judge>(words: &[ShapeWord], span: Span, judge: &mut J) -> bool {
-    if words.len() == 1 {
-        run_word(words[0], span, judge)
-    } else {
-        let mut alive = Vec::with_capacity(words.len());
-        alive.resize(words.len(), 0);
-        run_words(words, alive.as_mut_slice(), span, judge)
+    match words {
+        [word] if word.is_flat() => run(*word, true, span, judge),
+        [word] => run(*word, false, span, judge),
+        _ => {
+            let mut alive = Vec::with_capacity(words.len());
+            alive.resize(words.len(), 0);
+            run_words(words, alive.as_mut_slice(), span, judge)
+        }
     }
 }
 
-/// [`decide`] where there is one word. The two loops differ in their step alone.
-#[inline(always)]
-fn run_word<J: Judge>(word: ShapeWord, span: Span, judge: &mut J) -> bool {
-    if word.is_flat() {
-        run(word, true, span, judge)
-    } else {
-        run(word, false, span, judge)
-    }
-}
-
-/// [`run_word`], by the step of flat shapes if these are `flat`.
+/// [`decide`] for one word. Flat shapes have a faster step, which `flat` chooses.
 #[inline(always)]
 fn run<J: Judge>(word: ShapeWord, flat: bool, span: Span, judge: &mut J) -> bool {
     let mut alive = word.step(0, judge.opens(), true);
@@ -66,7 +58,7 @@ fn run<J: Judge>(word: ShapeWord, flat: bool, span: Span, judge: &mut J) -> bool
     false
 }
 
-/// [`decide`] where there are several words, with room for the position set: a zero for each word.
+/// [`decide`] for several words. `alive` is room for the position set: a zero for each word.
 #[inline(always)]
 fn run_words<J: Judge>(words: &[ShapeWord], alive: &mut [u64], span: Span, judge: &mut J) -> bool {
     let last = word_before(span.end);
@@ -83,13 +75,13 @@ fn run_words<J: Judge>(words: &[ShapeWord], alive: &mut [u64], span: Span, judge
     false
 }
 
-/// Asks the tokens of word `n` that are alive about the character last stepped over. Returns those that take it.
+/// Asks the tokens of word `n` that are alive about the last character stepped over. Returns those that take it.
 #[inline(always)]
 fn ask<J: Judge>(word: ShapeWord, n: usize, alive: u64, judge: &mut J) -> u64 {
     judge.takes_each(n, alive & word.tokens)
 }
 
-/// Sets the words, which must be 0, to the position set before the first character.
+/// Sets the words, which must be 0, to the positions before the first character. Returns the live words.
 #[inline(always)]
 fn set_start(words: &[ShapeWord], opens: bool, alive: &mut [u64]) -> Live {
     let mut whole = true;
@@ -104,22 +96,22 @@ fn set_start(words: &[ShapeWord], opens: bool, alive: &mut [u64]) -> Live {
     Live { low: 0, high: alive.len() }
 }
 
-/// The number of the word that has the last shape before number `end`, if there is one.
+/// The number of the word with the last shape before `end`; 0 if there is no such shape.
 #[inline(always)]
 fn word_before(end: usize) -> usize {
     end.saturating_sub(1) / WORD
 }
 
-/// Whether the shapes before number `end` split the characters: whether the position after the last is in the set.
+/// Whether the shapes before `end` split the characters: whether the position after the last one is alive.
 #[inline(always)]
 fn is_whole(end: usize, alive: &[u64]) -> bool {
-    // Where the last word is full this is its last bit.
+    // In a full last word this is the highest bit.
     let word = word_before(end);
     (alive[word] >> (end - WORD * word)) & 1 != 0
 }
 
-/// Steps the words to the judge's place, and returns those that are live there. Words in which nothing is alive are
-/// neither asked nor stepped, unless the word before them has come to its end.
+/// Steps the words to the judge's place. Returns the words that are live there. A word with nothing alive is skipped,
+/// unless the shapes before it split the characters so far.
 #[inline(always)]
 fn step_words<J: Judge>(words: &[ShapeWord], alive: &mut [u64], live: Live, judge: &mut J) -> Live {
     let opens = judge.opens();
@@ -137,7 +129,7 @@ fn step_words<J: Judge>(words: &[ShapeWord], alive: &mut [u64], live: Live, judg
     next
 }
 
-/// What is alive in word `n` after the character last stepped over. `opens` and `whole` are as in [`ShapeWord::step`].
+/// What is alive in word `n` after the last character stepped over. `opens` and `whole` are as in [`ShapeWord::step`].
 #[inline(always)]
 fn step_word<J: Judge>(word: ShapeWord, n: usize, alive: u64, opens: bool, whole: bool, judge: &mut J) -> u64 {
     if alive == 0 && !whole {
@@ -148,7 +140,7 @@ fn step_word<J: Judge>(word: ShapeWord, n: usize, alive: u64, opens: bool, whole
 }
 
 impl Live {
-    /// These words and number `n`, unless that is 0.
+    /// These words and word `n`, unless that is 0.
     #[inline(always)]
     fn with(self, n: usize, word: u64) -> Self {
         if word == 0 {

@@ -1,21 +1,21 @@
-//! Made by `bin/rust_crate` from `crates/glob_pattern/src/matcher/shape_word.rt`, where its contracts are: sha256 9074b3a6829d0ebe.
+//! Made by `bin/rust_crate` from `crates/glob_pattern/src/matcher/shape_word.rt`, where its contracts are: sha256 9355d7a4b45a8ac1.
 //!
-//! The shapes of neighbouring tokens as bits, and one step of a position set over them.
+//! Shapes of neighbouring tokens as bits, and a step of a position set over them.
 
 use super::{Shape, Shaped, WORD};
 
-/// The shapes of 63 neighbouring tokens, or fewer at the end: bit n is of the nth of them.
+/// The shapes of up to 63 neighbouring tokens: bit n is of the nth.
 #[derive(Clone, Copy)]
 pub struct ShapeWord {
-    /// The tokens that there are.
+    /// The bits that have a token.
     pub tokens: u64,
-    /// The wildcards, whose pieces may have any length.
+    /// Wildcards: their pieces may have any length.
     pub wildcards: u64,
-    /// Recursive wildcards that other tokens follow: a piece that is not empty ends at a component start.
+    /// Recursive wildcards before other tokens: a piece is empty or ends where a component starts.
     pub recursive: u64,
 }
 
-/// The words of the tokens before number `end`, at least one.
+/// The shape words of the tokens before `end`, at least one word.
 pub fn shape_words<T: Shaped>(tokens: &[T], end: usize) -> Vec<ShapeWord> {
     let count = end.div_ceil(WORD).max(1);
     let mut words = Vec::with_capacity(count);
@@ -29,7 +29,7 @@ impl ShapeWord {
     /// The shapes of no tokens.
     pub const NONE: ShapeWord = ShapeWord { tokens: 0, wildcards: 0, recursive: 0 };
 
-    /// The shapes of the tokens from number `start` up to `end`, or of the first 63 of them.
+    /// The shapes of the tokens from `start` up to `end`, or of the first 63 of them.
     pub fn new<T: Shaped>(tokens: &[T], end: usize, start: usize) -> Self {
         let mut word = ShapeWord::NONE;
         for n in start..end.min(start.saturating_add(WORD)) {
@@ -38,7 +38,7 @@ impl ShapeWord {
         word
     }
 
-    /// These shapes and one more, which has others after it or not.
+    /// These shapes and one more. `followed`: other shapes come after it.
     fn with(self, bit: usize, shape: Shape, followed: bool) -> Self {
         let mut word = self;
         word.tokens = with_bit(self.tokens, bit);
@@ -55,12 +55,12 @@ impl ShapeWord {
         word
     }
 
-    /// The positions that are alive after a character, from the tokens that took it. `opens`: a component starts after
-    /// the character. `whole`: the shapes before the first of these split the characters up to there.
+    /// The positions alive after a character, given the tokens that took it. `opens`: a component starts after the
+    /// character. `whole`: the shapes before this word split the characters up to there.
     #[inline(always)]
     pub fn step(self, took: u64, opens: bool, whole: bool) -> u64 {
-        // A piece that ends lets the next token begin. A wildcard that begins may be empty, so that the one after it
-        // begins, too: adding the mask of wildcards carries a bit through each run of them.
+        // Where a piece ends, the next token begins. A wildcard may be empty, so that the token after it begins too:
+        // adding the mask of wildcards carries a bit through neighbouring ones.
         let ending = self.ending(took, opens);
         let begun = (ending << 1) | u64::from(whole);
         let sum = (begun & self.wildcards).wrapping_add(self.wildcards);
@@ -68,13 +68,13 @@ impl ShapeWord {
         (took & self.wildcards) | closed
     }
 
-    /// Whether pieces end anywhere and no two wildcards are neighbours: so in `*a?b*`, but not in `**/*`.
+    /// Whether pieces may end anywhere and no two wildcards are neighbours, as in `*a?b*`, but not in `**/*`.
     pub fn is_flat(self) -> bool {
         self.recursive == 0 && self.wildcards & (self.wildcards << 1) == 0
     }
 
-    /// [`step`](Self::step) after the first character. If the shapes are `flat`, a piece that ends lets at most one
-    /// wildcard begin after it: a shift takes the place of the sum.
+    /// [`step`](Self::step) for the only word, after a character. With `flat` shapes a piece that ends lets at most one
+    /// wildcard begin, so that a shift replaces the sum.
     #[inline(always)]
     pub fn step_by(self, flat: bool, took: u64, opens: bool) -> u64 {
         if !flat {
@@ -85,7 +85,7 @@ impl ShapeWord {
         growing | (begun | ((begun & self.wildcards) << 1))
     }
 
-    /// Of the tokens that took a character, those whose pieces may end after it.
+    /// The tokens among those that took a character whose pieces may end after it.
     #[inline(always)]
     fn ending(self, took: u64, opens: bool) -> u64 {
         if opens {

@@ -1,7 +1,6 @@
-//! Made by `bin/rust_crate` from `crates/glob_pattern/src/pattern/automaton.rt`, where its contracts are: sha256 0a0fad36fc338950.
+//! Made by `bin/rust_crate` from `crates/glob_pattern/src/pattern/automaton.rt`, where its contracts are: sha256 0ede2fee64b2628c.
 //!
-//! The automaton of a pattern's tokens between the ends: their shapes as words of bits, and which of them take which
-//! characters.
+//! The automaton of the tokens between a pattern's ends: their shapes as words of bits, and the characters they take.
 
 use crate::proved::glob_pattern::matcher::{decide, shape_words, Judge, Shape, ShapeWord, Shaped, Span, WORD};
 use crate::proved::glob_pattern::options::MatchOptions;
@@ -12,32 +11,32 @@ use crate::proved::glob_pattern::token::taking::has_rules;
 use crate::proved::glob_pattern::token::Token;
 use std::slice;
 
-/// What a run over tokens reads of them besides.
+/// What a run over tokens needs beside the tokens.
 pub struct Automaton {
-    // the shapes as bits: those of the first 63 tokens, and if there are more, those of all
+    // the shapes as bits: of the first 63 tokens, and of all tokens if there are more
     first: ShapeWord,
     words: Vec<ShapeWord>,
-    // the bit of the last token, in its word, if it is a wildcard whose pieces end anywhere
+    // the bit of the last token in its word, if it is a wildcard whose pieces may end anywhere
     accepting: u64,
     masks: CharMasks,
 }
 
 impl Automaton {
-    /// That of the tokens before number `end`. Of those after them it matters whether there are any: a last `**` ends
-    /// anywhere if there are none.
+    /// The automaton of the tokens before `end`. Later tokens matter only to a last `**`: if there are none, it may end
+    /// anywhere.
     pub fn new(tokens: &[Token<Bracket>], end: usize) -> Self {
         let words = if end <= WORD { Vec::new() } else { shape_words(tokens, end) };
         let masks = CharMasks::new(&tokens[..end], end.div_ceil(WORD));
         Automaton { first: ShapeWord::new(tokens, end, 0), words, accepting: free_end(tokens, end), masks }
     }
 
-    /// That of no tokens.
+    /// The automaton of no tokens.
     pub fn empty() -> Self {
         Automaton { first: ShapeWord::NONE, words: Vec::new(), accepting: 0, masks: CharMasks::Plain([0; 3]) }
     }
 
-    /// Whether the tokens before number `end` split the text, at whose start a component starts or not, and how many
-    /// questions it took.
+    /// Whether the tokens before `end` split the text, and how many questions that took. `opening`: a component starts
+    /// at the start of the text.
     #[inline(always)]
     pub fn matches(
         &self,
@@ -48,7 +47,7 @@ impl Automaton {
         options: MatchOptions,
     ) -> (bool, u128) {
         let accepting = self.accepting(options);
-        // The only token takes all that there may be.
+        // The only token takes everything.
         if end == 1 && accepting != 0 {
             return (true, 0);
         }
@@ -69,7 +68,8 @@ impl Automaton {
         }
     }
 
-    /// The bit of the last token, in its word, if it takes all that is left of any text: once it is alive, they match.
+    /// The bit of the last token in its word, if it takes all that is left of any text: once it is alive, the tokens
+    /// match.
     #[inline(always)]
     fn accepting(&self, options: MatchOptions) -> u64 {
         if has_rules(options) {
@@ -80,7 +80,7 @@ impl Automaton {
     }
 }
 
-/// The bit of the last token before number `end`, in its word, if it is a wildcard whose pieces end anywhere.
+/// The bit of the last token before `end` in its word, if it is a wildcard whose pieces may end anywhere, or else 0.
 fn free_end(tokens: &[Token<Bracket>], end: usize) -> u64 {
     if end == 0 {
         return 0;

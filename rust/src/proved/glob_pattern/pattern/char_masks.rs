@@ -1,8 +1,8 @@
-//! Made by `bin/rust_crate` from `crates/glob_pattern/src/pattern/char_masks.rt`, where its contracts are: sha256 02525868ebe8d6c5.
+//! Made by `bin/rust_crate` from `crates/glob_pattern/src/pattern/char_masks.rt`, where its contracts are: sha256 b44405f1ce57e192.
 //! `Vec::with_capacity` and `resize` are there `vec![x; n]`: memory that is asked for as zeros is never what was freed
 //! last, and costs more.
 //!
-//! Masks: for each class of characters, which of 63 neighbouring tokens take its characters.
+//! Masks: for each class of characters, which of 63 neighbouring tokens take them.
 
 mod row;
 
@@ -14,46 +14,51 @@ use crate::proved::glob_pattern::token::taking::{has_rules, is_excluded_dot, is_
 use crate::proved::glob_pattern::token::Token;
 use row::{fill, DOT, SEPARATOR};
 
-/// For each class of characters, which tokens take its characters.
+/// For each class of characters, which tokens take them.
 pub enum CharMasks {
-    /// The masks of at most 63 tokens that list no character: those of the rules' classes, and of all characters.
+    /// At most 63 tokens that list no character: a mask for each of the two rules, and one for all other characters.
     Plain([u64; 3]),
-    /// The masks of other tokens.
+    /// More tokens that list no character: two rows of three such masks for each word.
+    PlainWords(Vec<u64>),
+    /// All other tokens.
     Listed(Box<Listed>),
 }
 
-/// The masks of tokens, if some of these list characters.
+/// The masks of tokens, some of which list characters.
 pub struct Listed {
     /// The class of each ASCII character.
     ascii: [u8; ASCII],
-    /// Where the classes beyond ASCII begin, and how many have begun at some characters.
+    /// Where the classes beyond ASCII begin, and for some characters how many have begun.
     beyond: Vec<u32>,
     begun: Vec<u8>,
     /// Two rows for each word of tokens, case-sensitive and case-insensitive, with a mask for each class.
     masks: Vec<u64>,
 }
 
-/// The masks of one case.
+/// The masks of case-sensitive or of case-insensitive matching.
 #[derive(Clone, Copy)]
 pub struct Rows<'a> {
     classes: Classes<'a>,
+    /// The masks from the first such row on. Every second row is one.
     masks: &'a [u64],
-    /// How many masks a row has.
+    /// The number of masks in a row.
     columns: usize,
-    /// Which of a word's two rows is of this case.
-    half: usize,
 }
 
 impl CharMasks {
-    /// The masks of the tokens, and of so many words. The last word may have no token.
+    /// The masks of the tokens, in `words` words. The last word may have no token.
     pub fn new(tokens: &[Token<Bracket>], words: usize) -> Self {
-        if words <= 1 && are_plain(tokens) {
-            let mut masks = [0; 3];
-            fill(&mut masks, Classes::NONE, tokens, 0, true);
-            return CharMasks::Plain(masks);
+        if !are_plain(tokens) {
+            let listed = Listed::new(tokens, words);
+            return CharMasks::Listed(Box::new(listed));
         }
-        let listed = Listed::new(tokens, words);
-        CharMasks::Listed(Box::new(listed))
+        if words > 1 {
+            let masks = rows_of(tokens, words, Classes::NONE);
+            return CharMasks::PlainWords(masks);
+        }
+        let mut masks = [0; 3];
+        fill(&mut masks, Classes::NONE, tokens, 0, true);
+        CharMasks::Plain(masks)
     }
 }
 
@@ -61,6 +66,7 @@ impl Clone for CharMasks {
     fn clone(&self) -> Self {
         match self {
             CharMasks::Plain(masks) => CharMasks::Plain(*masks),
+            CharMasks::PlainWords(masks) => CharMasks::PlainWords(masks.clone()),
             CharMasks::Listed(listed) => {
                 let copy = listed.as_ref().clone();
                 CharMasks::Listed(Box::new(copy))
@@ -70,18 +76,23 @@ impl Clone for CharMasks {
 }
 
 impl CharMasks {
-    /// The masks of one case.
+    /// The masks of case-sensitive or of case-insensitive matching.
     #[inline(always)]
     pub fn rows(&self, case_sensitive: bool) -> Rows<'_> {
         match self {
-            CharMasks::Plain(masks) => Rows { classes: Classes::NONE, masks, columns: 3, half: 0 },
-            CharMasks::Listed(listed) => listed.rows(case_sensitive),
+            CharMasks::Plain(masks) => Rows { classes: Classes::NONE, masks, columns: 3 },
+            CharMasks::PlainWords(masks) => Rows::of(Classes::NONE, masks.as_slice(), case_sensitive),
+            CharMasks::Listed(listed) => {
+                let classes =
+                    Classes { ascii: &listed.ascii, beyond: listed.beyond.as_slice(), begun: listed.begun.as_slice() };
+                Rows::of(classes, listed.masks.as_slice(), case_sensitive)
+            }
         }
     }
 }
 
 impl Listed {
-    /// The masks of the tokens, and of so many words.
+    /// The masks of the tokens, in `words` words.
     fn new(tokens: &[Token<Bracket>], words: usize) -> Self {
         let boundaries = Boundaries::of(tokens);
         let ascii = boundaries.ascii_classes();
@@ -98,23 +109,24 @@ impl Clone for Listed {
     }
 }
 
-impl Listed {
-    /// The masks of one case.
+impl<'a> Rows<'a> {
+    /// Picks the case-sensitive or the case-insensitive masks.
     #[inline(always)]
-    fn rows(&self, case_sensitive: bool) -> Rows<'_> {
-        let classes = Classes { ascii: &self.ascii, beyond: self.beyond.as_slice(), begun: self.begun.as_slice() };
-        Rows { classes, masks: self.masks.as_slice(), columns: classes.count(), half: usize::from(!case_sensitive) }
+    fn of(classes: Classes<'a>, masks: &'a [u64], case_sensitive: bool) -> Self {
+        let columns = classes.count();
+        let start = if case_sensitive { 0 } else { columns };
+        Rows { classes, masks: &masks[start.min(masks.len())..], columns }
     }
 }
 
 impl Rows<'_> {
-    /// Which of the word's tokens take the characters of the class.
+    /// The word's tokens that take the characters of the class.
     #[inline(always)]
     pub fn taking(self, word: usize, class: usize) -> u64 {
-        self.masks[(2 * word + self.half) * self.columns + class]
+        self.masks[2 * word * self.columns + class]
     }
 
-    /// The class of a character. `opening`: a component starts at its place.
+    /// The class of a character under the options. `opening`: a component starts at its place.
     #[inline(always)]
     pub fn class_of(self, options: MatchOptions, opening: bool, c: char) -> usize {
         if has_rules(options) {
@@ -129,7 +141,7 @@ impl Rows<'_> {
     }
 }
 
-/// The rows of so many words of tokens.
+/// The rows of masks of `words` words of tokens.
 fn rows_of(tokens: &[Token<Bracket>], words: usize, classes: Classes<'_>) -> Vec<u64> {
     let rows = 2 * words;
     let mut masks = Vec::with_capacity(rows.saturating_mul(classes.count()));
@@ -138,7 +150,7 @@ fn rows_of(tokens: &[Token<Bracket>], words: usize, classes: Classes<'_>) -> Vec
     masks
 }
 
-/// Makes these zeros so many rows of masks.
+/// Turns zeros into `rows` rows of masks.
 fn fill_rows(masks: &mut [u64], classes: Classes<'_>, tokens: &[Token<Bracket>], rows: usize) {
     let columns = classes.count();
     for n in 0..rows {
@@ -153,7 +165,7 @@ fn are_plain(tokens: &[Token<Bracket>]) -> bool {
     tokens.iter().all(is_plain)
 }
 
-/// Whether the token lists no character: it is neither a literal nor a bracket.
+/// Whether the token lists no character: it is a wildcard.
 fn is_plain(token: &Token<Bracket>) -> bool {
     matches!(token, Token::AnyChar | Token::AnySequence | Token::Recursive)
 }

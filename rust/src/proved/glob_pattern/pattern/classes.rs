@@ -1,10 +1,10 @@
-//! Made by `bin/rust_crate` from `crates/glob_pattern/src/pattern/classes.rt`, where its contracts are: sha256 8d4dece27762050d.
+//! Made by `bin/rust_crate` from `crates/glob_pattern/src/pattern/classes.rt`, where its contracts are: sha256 856c49646552c0ab.
 //!
-//! Classes of characters: the characters of a class are taken by the same tokens.
+//! Classes of characters: all characters of a class are taken by the same tokens.
 //!
-//! What tokens list are intervals of characters. Between two neighbouring boundaries of intervals no token tells
-//! characters apart: that is a class. So the tokens of `*[a-z]x` have one class for `a` to `w`, one for `x`, one for
-//! `y` and `z`, the same three in upper case, and one each for what is before, between and after these.
+//! Tokens list intervals of characters. Between two neighbouring boundaries of intervals no token tells characters
+//! apart, so that these are a class. The tokens of `*[a-z]x` have one class for `a` to `w`, one for `x`, one for `y`
+//! and `z`, the same three in upper case, and one each for what is before, between and after these.
 
 use crate::proved::glob_pattern::token::bracket::{Bracket, Entry};
 use crate::proved::glob_pattern::token::Token;
@@ -12,10 +12,10 @@ use crate::proved::glob_pattern::token::Token;
 /// The class of the first characters, up to the first boundary.
 pub const FIRST: u8 = 2;
 
-/// How many characters ASCII has.
+/// The number of ASCII characters.
 pub const ASCII: usize = 128;
 
-/// Of how many characters beyond ASCII it is stored how many boundaries there are up to them.
+/// For this many characters, from the first boundary beyond ASCII on, the number of boundaries up to each is stored.
 const COUNTED: usize = 128;
 
 /// The class of each character.
@@ -23,23 +23,23 @@ const COUNTED: usize = 128;
 pub struct Classes<'a> {
     /// The class of each ASCII character.
     pub ascii: &'a [u8; ASCII],
-    /// The boundaries beyond ASCII, in order. At each a class begins, and they are numbered on.
+    /// The boundaries beyond ASCII, ascending. Each begins a class, and the numbers of the classes go on.
     pub beyond: &'a [u32],
-    /// How many of these there are up to each of some characters, from the first of these on.
+    /// The number of these boundaries up to each of some characters, which are counted from the first boundary.
     pub begun: &'a [u8],
 }
 
 impl Classes<'_> {
-    /// Each character is of the class `FIRST`.
+    /// All characters in the class `FIRST`.
     pub const NONE: Classes<'static> = Classes { ascii: &[FIRST; ASCII], beyond: &[], begun: &[] };
 
-    /// How many classes there are: all are below this number.
+    /// The number of classes. Every class is below it.
     #[inline(always)]
     pub fn count(self) -> usize {
         usize::from(self.ascii[ASCII - 1]) + 1 + self.beyond.len()
     }
 
-    /// The class of a character, whatever the rules.
+    /// The class of a character, without regard to the rules.
     #[inline(always)]
     pub fn class(self, c: char) -> usize {
         let ascii = self.ascii;
@@ -51,7 +51,7 @@ impl Classes<'_> {
     }
 }
 
-/// How many boundaries there are up to a character. It takes no struct, since one that is passed is in memory.
+/// The number of boundaries up to `c`. It takes slices, since a struct would be passed in memory.
 #[inline(never)]
 fn begun_at(boundaries: &[u32], counts: &[u8], c: char) -> usize {
     let c = c as u32;
@@ -67,16 +67,16 @@ fn begun_at(boundaries: &[u32], counts: &[u8], c: char) -> usize {
     }
 }
 
-/// The boundaries of intervals of characters.
+/// The boundaries of character intervals.
 pub struct Boundaries {
-    /// Whether an interval begins at the ASCII character, or ends before it.
+    /// Whether an interval begins at this ASCII character or ends right before it.
     ascii: [bool; ASCII],
     /// The boundaries beyond ASCII.
     pub beyond: Vec<u32>,
 }
 
 impl Boundaries {
-    /// The boundaries of the intervals of all literals and brackets, in either case.
+    /// The boundaries of the intervals of all literals and brackets, in both cases.
     pub fn of(tokens: &[Token<Bracket>]) -> Self {
         let mut boundaries = Boundaries { ascii: [false; ASCII], beyond: Vec::new() };
         for token in tokens {
@@ -86,7 +86,7 @@ impl Boundaries {
         boundaries
     }
 
-    /// Adds the intervals of the token.
+    /// Adds the token's intervals.
     fn mark_token(&mut self, token: &Token<Bracket>) {
         match token {
             Token::Literal(c) => self.mark_cases(*c, *c),
@@ -95,7 +95,7 @@ impl Boundaries {
         }
     }
 
-    /// Adds the intervals of all entries.
+    /// Adds the intervals of the entries.
     fn mark_all(&mut self, entries: &[Entry]) {
         for entry in entries {
             let (first, last) = entry.ends();
@@ -103,7 +103,7 @@ impl Boundaries {
         }
     }
 
-    /// Adds the characters from the first to the last, in either case if both are letters.
+    /// Adds the characters from `first` to `last`, in both cases if both are letters.
     fn mark_cases(&mut self, first: char, last: char) {
         self.mark(first, last);
         if !are_letters(first, last) {
@@ -113,7 +113,7 @@ impl Boundaries {
         self.mark(first.to_ascii_uppercase(), last.to_ascii_uppercase());
     }
 
-    /// Adds the characters from the first to the last.
+    /// Adds the characters from `first` to `last`.
     fn mark(&mut self, first: char, last: char) {
         self.begin(first as u32);
         self.begin(last as u32 + 1);
@@ -129,13 +129,13 @@ impl Boundaries {
         }
     }
 
-    /// The boundaries beyond ASCII in order, without duplicates.
+    /// Sorts the boundaries beyond ASCII and removes duplicates.
     fn sort(&mut self) {
         self.beyond.sort_unstable();
         self.beyond.dedup();
     }
 
-    /// The class of each ASCII character: it rises by one at each boundary.
+    /// The class of each ASCII character. Each boundary raises it by one.
     pub fn ascii_classes(&self) -> [u8; ASCII] {
         let mut classes = [FIRST; ASCII];
         let mut class = FIRST;
@@ -145,7 +145,7 @@ impl Boundaries {
         classes
     }
 
-    /// Writes the classes of eight characters, given the class before them, and returns that of the last.
+    /// Writes the classes of eight characters, given the class before them. Returns the class of the last one.
     #[inline(always)]
     fn number(&self, classes: &mut [u8; ASCII], start: usize, last: u8) -> u8 {
         if self.has_none(start) {
@@ -160,7 +160,7 @@ impl Boundaries {
         class
     }
 
-    /// Whether there is no boundary at eight characters, which are compared at once.
+    /// Whether none of eight characters has a boundary, by one comparison.
     #[inline(always)]
     fn has_none(&self, start: usize) -> bool {
         let eight = &self.ascii[start..start + 8];
@@ -169,7 +169,7 @@ impl Boundaries {
     }
 }
 
-/// Gives the class to eight characters.
+/// Gives eight characters the same class.
 #[inline(always)]
 fn keep(classes: &mut [u8; ASCII], start: usize, class: u8) {
     for c in start..start + 8 {
@@ -177,14 +177,14 @@ fn keep(classes: &mut [u8; ASCII], start: usize, class: u8) {
     }
 }
 
-/// How many of these boundaries there are up to a character.
+/// The number of boundaries up to `c`, by binary search.
 #[inline(never)]
 fn begun_by_search(boundaries: &[u32], c: u32) -> usize {
     boundaries.partition_point(|first: &u32| -> bool { *first <= c })
 }
 
-/// How many boundaries there are up to each character, from the first boundary on: for those of a script with an
-/// alphabet nothing is searched. The list is empty if a byte cannot count the boundaries.
+/// The number of boundaries up to each of `COUNTED` characters, from the first boundary on: most alphabets then need no
+/// search. The list is empty if there is no boundary, or if there are too many for a byte.
 pub fn counts_of(boundaries: &[u32]) -> Vec<u8> {
     match boundaries.first() {
         Some(base) if boundaries.len() < 256 => counts_from(boundaries, *base),
@@ -192,7 +192,7 @@ pub fn counts_of(boundaries: &[u32]) -> Vec<u8> {
     }
 }
 
-/// How many boundaries there are up to each of so many characters, from this one on.
+/// The number of boundaries up to each of `COUNTED` characters, from `base` on.
 fn counts_from(boundaries: &[u32], base: u32) -> Vec<u8> {
     let mut counts = Vec::with_capacity(COUNTED);
     let mut count = 0;
@@ -203,7 +203,7 @@ fn counts_from(boundaries: &[u32], base: u32) -> Vec<u8> {
     counts
 }
 
-/// How many boundaries there are up to a character, if there are at least so many.
+/// The number of boundaries up to `c`, which must be at least `least`.
 fn passed(boundaries: &[u32], least: usize, c: u64) -> usize {
     let mut count = least;
     while count < boundaries.len() && u64::from(boundaries[count]) <= c {
@@ -212,7 +212,7 @@ fn passed(boundaries: &[u32], least: usize, c: u64) -> usize {
     count
 }
 
-/// Whether both are letters of ASCII.
+/// Whether both are ASCII letters.
 pub fn are_letters(x: char, y: char) -> bool {
     x.is_ascii_alphabetic() && y.is_ascii_alphabetic()
 }

@@ -1,6 +1,6 @@
-//! Made by `bin/rust_crate` from `crates/glob_pattern/src/pattern/compare.rt`, where its contracts are: sha256 10f59138e26d070f.
+//! Made by `bin/rust_crate` from `crates/glob_pattern/src/pattern/compare.rt`, where its contracts are: sha256 0452128af9f558f8.
 //!
-//! A pattern is compared, hashed and printed as its text.
+//! Patterns are compared, hashed and printed as their texts.
 
 use crate::proved::glob_pattern::pattern::Pattern;
 use std::cmp::Ordering;

@@ -1,7 +1,7 @@
-//! Made by `bin/rust_crate` from `crates/glob_pattern/src/pattern/compiled.rt`, where its contracts are: sha256 657ea33323b2b1ef.
+//! Made by `bin/rust_crate` from `crates/glob_pattern/src/pattern/compiled.rt`, where its contracts are: sha256 31d96fb9a37102ec.
 //!
-//! What a match reads of a pattern, and how a match goes: the ends of the text are compared, a needle is searched for,
-//! and what is between goes through the automaton.
+//! What a match reads of a pattern, and how it goes: it compares the ends of the text, searches for a needle, and runs
+//! the automaton over what is between.
 
 use crate::proved::glob_pattern::options::MatchOptions;
 use crate::proved::glob_pattern::pattern::automaton::Automaton;
@@ -10,15 +10,15 @@ use crate::proved::glob_pattern::pattern::needle::Needle;
 use crate::proved::glob_pattern::token::bracket::Bracket;
 use crate::proved::glob_pattern::token::Token;
 
-/// How many tokens between the ends are searched for a needle: a run of literals behind them seldom rejects more texts.
+/// How many tokens between the ends are searched for a needle. Later literals would seldom reject more texts.
 const SEARCHED: usize = 128;
 
-/// What a match reads of a pattern's tokens, made once when it is parsed.
+/// What a match reads of a pattern's tokens, made once at parsing.
 pub struct Compiled {
     tokens: Vec<Token<Bracket>>,
     ends: Ends,
     needle: Needle,
-    // that of the tokens between the ends
+    // the automaton of the tokens between the ends
     automaton: Automaton,
 }
 
@@ -29,7 +29,7 @@ impl Compiled {
         self.tokens.as_slice()
     }
 
-    /// The character of the token of this number, if there is one and it is a literal.
+    /// The character of token `number`, if there is such a token and it is a literal.
     pub fn literal_at(&self, number: usize) -> Option<char> {
         match self.tokens.get(number) {
             Some(Token::Literal(c)) => Some(*c),
@@ -43,7 +43,7 @@ impl Compiled {
         let ends = Ends::of(list);
         let rest = &list[ends.lead..];
         let between = list.len() - ends.trail - ends.lead;
-        // Of fewer than three tokens none is a literal between others.
+        // The first and the last token between the ends are wildcards, so that a literal needs three.
         let needle = if between < 3 { Needle::NONE } else { Needle::of(&rest[..between.min(SEARCHED)]) };
         Compiled { automaton: Automaton::new(rest, between), tokens, ends, needle }
     }
@@ -62,17 +62,17 @@ impl Compiled {
         self.matches_in_full(pattern, text, options)
     }
 
-    /// The answer of [`matches`](Self::matches), out of line, for texts that may match by their first byte.
+    /// [`matches`](Self::matches) out of line, for texts that [`Ends::reject`] lets through.
     #[inline(never)]
     fn matches_in_full(&self, pattern: &str, text: &str, options: MatchOptions) -> bool {
-        // The compiler leaves out a count that is dropped here.
+        // The count is dropped here, and the compiler leaves it out.
         let (answer, _) = self.matches_asking(pattern, text, options);
         answer
     }
 
-    /// The answer of [`matches`](Self::matches), and how many questions it took: how often a token was asked whether it
-    /// takes a character. Each token at an end counts, though the text may be rejected before it is asked. If one is at
-    /// the start, and the text is not empty, one more counts: [`Ends::reject`] may compare the first byte beforehand.
+    /// The answer of [`matches`](Self::matches), and how many times a token was asked whether it takes a character.
+    /// Each token at an end counts, even if the text is rejected before the token is asked. If there is one at the
+    /// start and the text is not empty, one more counts, since [`Ends::reject`] may compare the first byte.
     #[inline(always)]
     fn matches_asking(&self, pattern: &str, text: &str, options: MatchOptions) -> (bool, u128) {
         let tokens = self.tokens.as_slice();

@@ -1,7 +1,7 @@
-//! Made by `bin/rust_crate` from `crates/glob_pattern/src/pattern/ends.rt`, where its contracts are: sha256 adf2aaa2056c5cbd.
+//! Made by `bin/rust_crate` from `crates/glob_pattern/src/pattern/ends.rt`, where its contracts are: sha256 6b414177d838465e.
 //!
-//! What a text has to have at its ends: the literals with which a pattern begins and ends, compared as bytes, and the
-//! characters that other tokens of one character take there.
+//! What a text needs at its ends: the literals with which a pattern begins and ends, compared as bytes, and the
+//! characters that other one-character tokens take there.
 
 use crate::proved::glob_pattern::matcher::{Shape, Shaped};
 use crate::proved::glob_pattern::options::MatchOptions;
@@ -9,12 +9,12 @@ use crate::proved::glob_pattern::token::bracket::Bracket;
 use crate::proved::glob_pattern::token::taking::{takes, takes_any};
 use crate::proved::glob_pattern::token::Token;
 
-/// The tokens at both ends that take one character each, and the literals among them.
+/// The one-character tokens at both ends, and the literals among them.
 #[derive(Clone, Copy)]
 pub struct Ends {
-    /// How many tokens at the start take one character each.
+    /// The number of one-character tokens at the start.
     pub lead: usize,
-    /// How many of the other tokens at the end do.
+    /// The number of one-character tokens at the end, without those at the start.
     pub trail: usize,
     /// The literals with which the leading tokens begin.
     pub prefix: Literals,
@@ -25,18 +25,18 @@ pub struct Ends {
 /// Neighbouring literals.
 #[derive(Clone, Copy)]
 pub struct Literals {
-    /// How many there are.
+    /// Their number.
     pub count: usize,
-    /// How many bytes they have in UTF-8.
+    /// Their length in UTF-8, in bytes.
     pub bytes: usize,
 }
 
-/// What the tokens at the ends leave of a text.
+/// What the ends leave of a text.
 #[derive(Clone, Copy)]
 pub struct Part<'a> {
     /// The characters that are left.
     pub text: &'a str,
-    /// Whether a component starts with them.
+    /// Whether a component starts at its first character.
     pub opening: bool,
 }
 
@@ -44,17 +44,17 @@ impl Literals {
     /// No literals.
     const NONE: Literals = Literals { count: 0, bytes: 0 };
 
-    /// These and one more. `None`: there are more bytes than can be counted.
+    /// One literal more. `None`: there are more bytes than a `usize` can count.
     fn with(self, c: char) -> Option<Literals> {
         Some(Literals { count: self.count.checked_add(1)?, bytes: self.bytes.checked_add(c.len_utf8())? })
     }
 }
 
 impl Ends {
-    /// Those of no tokens.
+    /// The ends of no tokens.
     pub const NONE: Ends = Ends { lead: 0, trail: 0, prefix: Literals::NONE, suffix: Literals::NONE };
 
-    /// Those of the tokens: for `src/*.rs` four literals at the start, and three at the end.
+    /// The ends of the tokens: for `src/*.rs`, four literals at the start and three at the end.
     pub fn of(tokens: &[Token<Bracket>]) -> Self {
         let lead = leading_ones(tokens);
         let trail = trailing_ones(tokens, lead);
@@ -75,7 +75,7 @@ impl Ends {
         has_ends(bytes, prefix, suffix, options)
     }
 
-    /// Whether the text is rejected by its length or its first byte. It is cheap, so that callers have it inline.
+    /// Whether the length or the first byte of the text rejects it. This is cheap enough to inline into callers.
     #[inline(always)]
     pub fn reject(&self, pattern: &str, text: &str, options: MatchOptions) -> bool {
         let (bytes, literals) = (text.as_bytes(), pattern.as_bytes());
@@ -85,7 +85,7 @@ impl Ends {
         self.prefix.bytes > 0 && !are_same(&bytes[..1], &literals[..1], options)
     }
 
-    /// Takes the ends from a text: so those of `src/*.rs` leave `main` of `src/main.rs`. `None`: the text does not match.
+    /// Strips the ends off a text: those of `src/*.rs` leave `main` of `src/main.rs`. `None`: the text does not match.
     #[inline(always)]
     pub fn strip<'a>(
         &self,
@@ -102,7 +102,7 @@ impl Ends {
         self.take_last(tokens, left, options)
     }
 
-    /// Takes the literals from the ends of a text. `None`: it does not have them.
+    /// Strips the literals off the ends of a text. `None`: the text does not match.
     #[inline(always)]
     fn strip_literals<'a>(&self, pattern: &str, text: &'a str, options: MatchOptions) -> Option<Part<'a>> {
         if self.prefix.count == 0 && self.suffix.count == 0 {
@@ -117,15 +117,15 @@ impl Ends {
         Some(Part { text: left, opening: opens_after(before, true) })
     }
 
-    /// Has the tokens between the first literals and the middle take a character each from the start of a part. `None`:
-    /// they do not.
+    /// Strips off the characters that the leading tokens after the literals take, one each. `None`: the text does not
+    /// match.
     #[inline(always)]
     fn take_first<'a>(&self, tokens: &[Token<Bracket>], part: Part<'a>, options: MatchOptions) -> Option<Part<'a>> {
         let mut rest = part.text.chars();
         let mut opening = part.opening;
         let mut count = self.prefix.count;
         let ones = &tokens[..self.lead];
-        // A run of tokens that take any character is a count of characters.
+        // Tokens that take any character only need to be counted.
         while count < ones.len() && takes_any(&ones[count], options) {
             opening = rest.next()? == '/';
             count += 1;
@@ -141,8 +141,8 @@ impl Ends {
         Some(Part { text: rest.as_str(), opening })
     }
 
-    /// Has the tokens between the middle and the last literals take a character each from the end of a part. `None`:
-    /// they do not.
+    /// Strips off the characters that the trailing tokens before the literals take, one each. `None`: the text does not
+    /// match.
     #[inline(always)]
     fn take_last<'a>(&self, tokens: &[Token<Bracket>], part: Part<'a>, options: MatchOptions) -> Option<Part<'a>> {
         let mut rest = part.text.chars();
@@ -167,8 +167,8 @@ impl Ends {
     }
 }
 
-/// Whether the bytes begin with a prefix and end with a suffix, which do not overlap, in either case where the options
-/// say so.
+/// Whether the bytes begin with the prefix and end with the suffix, which must not overlap. The options say whether
+/// ASCII case counts.
 #[inline(always)]
 fn has_ends(bytes: &[u8], prefix: &[u8], suffix: &[u8], options: MatchOptions) -> bool {
     bytes.len() >= prefix.len()
@@ -177,10 +177,10 @@ fn has_ends(bytes: &[u8], prefix: &[u8], suffix: &[u8], options: MatchOptions) -
         && are_same(&bytes[..prefix.len()], prefix, options)
 }
 
-/// Whether two texts of the same length are the same, in either case where the options say so.
+/// Whether two texts of the same length are equal. The options say whether ASCII case counts.
 #[inline(always)]
 fn are_same(bytes: &[u8], other: &[u8], options: MatchOptions) -> bool {
-    // A call that compares no bytes may be slow.
+    // Saves a call that would compare no bytes.
     if other.is_empty() {
         return true;
     }
@@ -191,7 +191,7 @@ fn are_same(bytes: &[u8], other: &[u8], options: MatchOptions) -> bool {
     }
 }
 
-/// Whether a component starts after the text: after a `/`, and after no characters if one starts before them.
+/// Whether a component starts after the text: after a `/`, or after no characters if one starts before them.
 #[inline(always)]
 fn opens_after(text: &str, opening: bool) -> bool {
     match text.as_bytes() {
@@ -200,7 +200,7 @@ fn opens_after(text: &str, opening: bool) -> bool {
     }
 }
 
-/// How many tokens of one character there are before the first other: of those of `src/*.rs` four.
+/// The number of one-character tokens before the first other token: four for `src/*.rs`.
 fn leading_ones(tokens: &[Token<Bracket>]) -> usize {
     let mut lead = 0;
     while lead < tokens.len() && tokens[lead].shape() == Shape::One {
@@ -209,8 +209,8 @@ fn leading_ones(tokens: &[Token<Bracket>]) -> usize {
     lead
 }
 
-/// How many tokens of one character there are after the last other and the first `lead`: of those of `src/*.rs` three,
-/// and of those of `main.rs` none.
+/// The number of one-character tokens at the end, without the first `lead` tokens: three for `src/*.rs`, none for
+/// `main.rs`.
 fn trailing_ones(tokens: &[Token<Bracket>], lead: usize) -> usize {
     let mut trail = 0;
     while lead + trail < tokens.len() && tokens[tokens.len() - 1 - trail].shape() == Shape::One {
@@ -219,7 +219,7 @@ fn trailing_ones(tokens: &[Token<Bracket>], lead: usize) -> usize {
     trail
 }
 
-/// The literals with which the tokens begin.
+/// The literals at the start of the tokens.
 fn leading_literals(tokens: &[Token<Bracket>]) -> Literals {
     let mut literals = Literals::NONE;
     while let Some(Token::Literal(c)) = tokens.get(literals.count) {
@@ -231,7 +231,7 @@ fn leading_literals(tokens: &[Token<Bracket>]) -> Literals {
     literals
 }
 
-/// The literals with which the tokens end.
+/// The literals at the end of the tokens.
 fn trailing_literals(tokens: &[Token<Bracket>]) -> Literals {
     let mut literals = Literals::NONE;
     while literals.count < tokens.len() {

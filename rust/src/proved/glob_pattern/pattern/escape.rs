@@ -1,12 +1,12 @@
-//! Made by `bin/rust_crate` from `crates/glob_pattern/src/pattern/escape.rt`, where its contracts are: sha256 6df2577e311c5ad5.
+//! Made by `bin/rust_crate` from `crates/glob_pattern/src/pattern/escape.rt`, where its contracts are: sha256 8ca735165486f6ab.
 //!
-//! Texts escaped, as patterns that match themselves.
+//! Escaped texts: patterns that match the text they are made from.
 
 use crate::proved::glob_pattern::pattern::Pattern;
 
 impl Pattern {
-    /// The text as a pattern that matches it: each `?`, `*`, `[` and `]` is put in a bracket of its own, and every
-    /// other character as it is. So `a[1].rs` becomes `a[[]1[]].rs`.
+    /// Escapes a text to a pattern that matches it: puts each `?`, `*`, `[` and `]` in a bracket of its own, and keeps
+    /// every other character. `a[1].rs` becomes `a[[]1[]].rs`.
     ///
     /// ```
     /// # use cadmiumdove::Pattern;
@@ -30,7 +30,7 @@ impl Pattern {
         if specials == 0 {
             return String::from(s);
         }
-        // Each special character becomes three bytes.
+        // Each special character grows from one byte to three.
         let length = specials.saturating_mul(2).saturating_add(s.len());
         let mut escaped = String::with_capacity(length);
         for c in s.chars() {
@@ -40,12 +40,12 @@ impl Pattern {
     }
 }
 
-/// How many special characters there are, which are of one byte each.
+/// The number of special characters, each of one byte.
 fn count_special(text: &str) -> usize {
     text.bytes().filter(|byte| is_special(char::from(*byte))).count()
 }
 
-/// Puts an escaped character at the end.
+/// Appends a character, escaped.
 #[inline(always)]
 fn push_escaped(escaped: &mut String, c: char) {
     if !is_special(c) {

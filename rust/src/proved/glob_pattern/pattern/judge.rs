@@ -1,4 +1,4 @@
-//! Made by `bin/rust_crate` from `crates/glob_pattern/src/pattern/judge.rt`, where its contracts are: sha256 5b31bca0dc96c13a.
+//! Made by `bin/rust_crate` from `crates/glob_pattern/src/pattern/judge.rt`, where its contracts are: sha256 f844c8a1e60f5095.
 //!
 //! The judge of a text's characters and a pattern's tokens.
 
@@ -12,21 +12,21 @@ use crate::proved::glob_pattern::token::Token;
 pub use mask_judge::MaskJudge;
 use std::str::Chars;
 
-/// A judge of a text's characters and a pattern's tokens, which asks the tokens one by one.
+/// A judge of a text's characters and a pattern's tokens. It asks the tokens one by one.
 pub struct TextJudge<'a> {
     tokens: &'a [Token<Bracket>],
     options: MatchOptions,
     rest: Chars<'a>,
-    // the character last stepped over and the one before it: `/` comes before the text, too, where a component starts
-    // there
+    // the last character stepped over and the one before it; if a component starts at the start of the text, the text
+    // counts as preceded by `/`
     current: char,
     before: char,
     count: u128,
 }
 
 impl<'a> TextJudge<'a> {
-    /// A judge at the start of a text that was asked nothing. `opening`: a component starts there, as it does at the
-    /// start of a whole text, and at that of `b/c` in `a/b/c`.
+    /// A judge at the start of a text, with no questions asked. `opening`: a component starts there, as at the start of
+    /// a whole text, or of `b/c` in `a/b/c`.
     #[inline(always)]
     pub fn new(tokens: &'a [Token<Bracket>], text: &'a str, opening: bool, options: MatchOptions) -> Self {
         TextJudge {
@@ -42,7 +42,7 @@ impl<'a> TextJudge<'a> {
     /// Steps over the next character. Returns whether there was one.
     #[inline(always)]
     fn advance(&mut self) -> bool {
-        // Named for the proof: what is left is UTF-8.
+        // Named for the proof: the rest is UTF-8.
         let Some(c) = self.rest.next() else {
             return false;
         };
@@ -51,7 +51,7 @@ impl<'a> TextJudge<'a> {
         true
     }
 
-    /// Whether the token takes the character last stepped over.
+    /// Whether the token takes the last character stepped over.
     #[inline(always)]
     fn is_taken(&self, token: usize) -> bool {
         takes(&self.tokens[token], self.options, self.before == '/', self.current)

@@ -1,20 +1,20 @@
-//! Made by `bin/rust_crate` from `crates/glob_pattern/src/pattern/needle.rt`, where its contracts are: sha256 1b761c17a4710399.
+//! Made by `bin/rust_crate` from `crates/glob_pattern/src/pattern/needle.rt`, where its contracts are: sha256 fe8ca1b213df8906.
 //! `use crate::lanes::u8x16` is there `use std::simd::prelude::*`: SIMD of std is not stable, so `crate::lanes` has the
 //! one type that is used.
 //!
-//! Bytes of a pattern that each text it matches contains, searched for sixteen offsets at a time.
+//! Needles: bytes that every text matched by a pattern contains, searched for at sixteen offsets at a time.
 
 use crate::lanes::u8x16;
 use crate::proved::glob_pattern::token::bracket::Bracket;
 use crate::proved::glob_pattern::token::Token;
 
-/// How many offsets are searched at once, and how many bytes a needle has at most.
+/// The number of offsets searched at once, and the greatest length of a needle in bytes.
 const LANES: usize = 16;
 
-/// In this bit alone an ASCII letter in upper case differs from lower case.
+/// The one bit in which upper and lower case of an ASCII letter differ.
 const CASE: u8 = 0x20;
 
-/// Bytes that each matching text contains, in either case.
+/// Bytes that every matching text contains, in either case.
 #[derive(Clone, Copy)]
 pub struct Needle {
     bytes: [u8; LANES],
@@ -25,8 +25,8 @@ impl Needle {
     /// No bytes.
     pub const NONE: Needle = Needle { bytes: [0; LANES], len: 0 };
 
-    /// The UTF-8 of the longest stretch of neighbouring literals, of which one past 16 bytes is cut into pieces. If
-    /// none has two bytes or more, it is of no use, and is not searched for.
+    /// The UTF-8 of the longest stretch of neighbouring literals. Stretches beyond 16 bytes are cut into pieces. A
+    /// needle of fewer than two bytes is useless, and is never searched for.
     pub fn of(tokens: &[Token<Bracket>]) -> Needle {
         let mut longest = Needle::NONE;
         let mut needle = Needle::NONE;
@@ -42,8 +42,8 @@ impl Needle {
         longest
     }
 
-    /// Adds a character, or leaves it alone if these are more than 16 bytes. In place: what was written by bytes and is
-    /// then copied as a whole is slow.
+    /// Appends a character, or starts over with it if there would be more than 16 bytes. In place, since copying an
+    /// array that was just written byte by byte is slow.
     fn add(&mut self, c: char) {
         if c.is_ascii() {
             let at = if self.len < LANES { self.len } else { 0 };
@@ -59,8 +59,8 @@ impl Needle {
         self.len = len;
     }
 
-    /// Whether the bytes may contain the needle. A needle of one byte, which most texts contain, is not searched for,
-    /// nor are texts of fewer than 16 bytes searched.
+    /// Whether the bytes may contain the needle. True without a search if the needle has fewer than two bytes, since
+    /// most texts contain those, or if the text has fewer than 16.
     #[inline(always)]
     pub fn may_be_in(&self, bytes: &[u8]) -> bool {
         let Some(needle) = self.bytes.get(..self.len) else {
@@ -70,7 +70,7 @@ impl Needle {
     }
 }
 
-/// Whether the needle is in the bytes: only offsets are compared at which its first and its last byte are.
+/// Searches the bytes for the needle. Compares only at offsets where both its first and its last byte are.
 #[inline(never)]
 fn may_hold(bytes: &[u8], needle: &[u8]) -> bool {
     let gap = needle.len() - 1;
@@ -86,8 +86,7 @@ fn may_hold(bytes: &[u8], needle: &[u8]) -> bool {
     false
 }
 
-/// Whether the needle is at an offset of which `found` has the bit, in either case: bit k is of the kth from `start`
-/// on.
+/// Whether the needle is at one of the offsets in `found`, in either case. Bit k is for the offset `start` + k.
 #[inline(always)]
 fn is_at_any(bytes: &[u8], needle: &[u8], start: usize, found: u64) -> bool {
     let mut left = found;
@@ -100,8 +99,8 @@ fn is_at_any(bytes: &[u8], needle: &[u8], start: usize, found: u64) -> bool {
     false
 }
 
-/// Which of the sixteen bytes from an offset on are `x`, in either case for a letter: bit k is of the kth of them. Some
-/// others count too, as `[` does for `{`.
+/// Which of the sixteen bytes from an offset on are `x`, in either case: bit k is for the kth. A few other bytes count
+/// too, as `[` for `{`.
 #[inline(always)]
 fn same_lanes(bytes: &[u8], from: usize, x: u8) -> u64 {
     let start = from.min(bytes.len() - LANES);

@@ -1,10 +1,10 @@
-//! Made by `bin/rust_crate` from `crates/glob_pattern/src/token/bracket.rt`, where its contracts are: sha256 5d49499239220761.
+//! Made by `bin/rust_crate` from `crates/glob_pattern/src/token/bracket.rt`, where its contracts are: sha256 44a57d0ae76b22f7.
 //!
 //! Brackets: which characters they hold.
 
 use std::slice;
 
-/// So many entries have room at once: those of most brackets with several, whose list then never grows.
+/// The initial capacity of a list of entries. Most brackets never need more.
 const FEW: usize = 16;
 
 /// An entry of a bracket.
@@ -12,22 +12,12 @@ const FEW: usize = 16;
 pub enum Entry {
     /// One character.
     Single(char),
-    /// The characters from the first to the second, by their numbers.
+    /// The characters from the first to the second, by code point.
     Range(char, char),
 }
 
 impl Entry {
-    /// The first and the last character. A single character is both.
-    ///
-    /// <details><summary>Contract</summary>
-    ///
-    /// ```text
-    /// ensures first { result.0 ≡ first_of self }
-    /// ensures last { result.1 ≡ last_of self }
-    /// ```
-    ///
-    /// </details>
-    #[must_use]
+    /// The first and the last character, which are equal for a single one.
     pub fn ends(self) -> (char, char) {
         match self {
             Entry::Single(x) => (x, x),
@@ -49,14 +39,14 @@ pub struct Bracket {
     entries: Entries,
 }
 
-/// The entries of a bracket. Most have one, as `[0-9]`.
+/// The entries of a bracket.
 enum Entries {
     One(Entry),
     Many(Vec<Entry>),
 }
 
 impl Bracket {
-    /// The entries of a bracket's content.
+    /// Reads the entries of a bracket's content.
     pub fn read(content: &[char]) -> Self {
         let entries = match content {
             [only] => Entries::One(Entry::Single(*only)),
@@ -74,7 +64,8 @@ impl Bracket {
         }
     }
 
-    /// Whether an entry holds `c`. Case-insensitively, ASCII letters in either case are the same.
+    /// Whether an entry holds `c`. Case-insensitively, a single ASCII letter holds either case, and a range between two
+    /// of them also holds the ASCII characters whose lower case is between those of its ends.
     pub fn holds(&self, c: char, case_sensitive: bool) -> bool {
         self.entries().iter().any(|entry| entry.holds(c, case_sensitive))
     }
@@ -90,7 +81,7 @@ impl Clone for Bracket {
     }
 }
 
-/// The entries of a bracket's content, as a list.
+/// Reads the entries of a bracket's content into a list.
 fn read_entries(content: &[char]) -> Vec<Entry> {
     let mut entries = Vec::with_capacity(content.len().min(FEW));
     let mut rest = content;
@@ -105,14 +96,13 @@ fn read_entries(content: &[char]) -> Vec<Entry> {
     entries
 }
 
-/// Whether `c` and `x` are the same character. Case-insensitively, two of ASCII are also the same if their lowercase
-/// forms are.
+/// Whether `c` and `x` are equal, or, case-insensitively, are ASCII characters with the same lower case.
 pub fn is_same(case_sensitive: bool, c: char, x: char) -> bool {
     c == x || (!case_sensitive && c.is_ascii() && x.is_ascii() && c.to_ascii_lowercase() == x.to_ascii_lowercase())
 }
 
-/// Whether `c` is in the range from `x` to `y` once all are in lowercase. The three are of ASCII, and both ends
-/// letters.
+/// Whether `c` is in the range from `x` to `y` once all are in lower case. False unless all three are ASCII and both
+/// ends are letters.
 fn is_in_folded_range(x: char, y: char, c: char) -> bool {
     if !x.is_ascii() || !y.is_ascii() || !c.is_ascii() {
         return false;

@@ -1,4 +1,4 @@
-//! Made by `bin/rust_crate` from `crates/glob_pattern/src/token/taking.rt`, where its contracts are: sha256 e0f7677998fc9ee8.
+//! Made by `bin/rust_crate` from `crates/glob_pattern/src/token/taking.rt`, where its contracts are: sha256 39b09c555e2de6bf.
 //!
 //! Which characters a token takes under the options.
 
@@ -13,21 +13,20 @@ pub fn takes(token: &Token<Bracket>, options: MatchOptions, opening: bool, c: ch
         Token::Literal(x) => bracket::is_same(options.case_sensitive, c, *x),
         Token::AnyChar => is_free(options, opening, c),
         _ => {
-            // The call needs the options in memory. With a copy, which is made on this path alone, those of the caller
-            // stay in registers.
+            // The call needs the options in memory. A copy on this path leaves those of the caller in registers.
             let copy = MatchOptions { ..options };
             takes_other(token, copy, opening, c)
         }
     }
 }
 
-/// Whether the token takes any character: it is `?`, and no rule is set.
+/// Whether the token is a `?` and no rule is set, so that it takes any character.
 #[inline(always)]
 pub fn takes_any(token: &Token<Bracket>, options: MatchOptions) -> bool {
     !has_rules(options) && matches!(token, Token::AnyChar)
 }
 
-/// [`takes`], out of line, for a token that is neither a literal nor `?`.
+/// [`takes`] out of line, for tokens other than literals and `?`.
 #[inline(never)]
 fn takes_other(token: &Token<Bracket>, options: MatchOptions, opening: bool, c: char) -> bool {
     match token {
@@ -45,19 +44,20 @@ fn is_free(options: MatchOptions, opening: bool, c: char) -> bool {
     !is_excluded_separator(options, c) && !is_excluded_dot(options, opening, c)
 }
 
-/// Whether the separator rule excludes the character from wildcards: it is a `/`.
+/// Whether the separator rule excludes the character from wildcards: the rule is set, and the character is a `/`.
 #[inline(always)]
 pub fn is_excluded_separator(options: MatchOptions, c: char) -> bool {
     c == '/' && options.require_literal_separator
 }
 
-/// Whether the dot rule excludes the character from wildcards: it is a leading dot at a component start.
+/// Whether the dot rule excludes the character from wildcards: the rule is set, and the character is a `.` at a
+/// component start.
 #[inline(always)]
 pub fn is_excluded_dot(options: MatchOptions, opening: bool, c: char) -> bool {
     c == '.' && opening && options.require_literal_leading_dot
 }
 
-/// Whether `**` may take the name: no rule excludes its first character at a component start.
+/// Whether `**` may take the name of a component: any name, but under the dot rule none with a leading dot, as `.git`.
 pub fn is_open(options: MatchOptions, name: &str) -> bool {
     match name.as_bytes() {
         [] => true,
@@ -65,8 +65,9 @@ pub fn is_open(options: MatchOptions, name: &str) -> bool {
     }
 }
 
-/// Whether some rule is set, so that it may exclude characters from wildcards.
+/// Whether a rule is set, which may exclude characters from wildcards.
 #[inline(always)]
 pub fn has_rules(options: MatchOptions) -> bool {
-    options.require_literal_separator || options.require_literal_leading_dot
+    // One test per character, where `||` would be two branches.
+    options.require_literal_separator | options.require_literal_leading_dot
 }

@@ -1,23 +1,23 @@
-//! Made by `bin/rust_crate` from `crates/glob_set/src/braces/counting.rt`, where its contracts are: sha256 41d8fbc7c3994934.
+//! Made by `bin/rust_crate` from `crates/glob_set/src/braces/counting.rt`, where its contracts are: sha256 4600b152087c8c9f.
 //!
-//! How many alternatives lexemes have, and whether their braces are balanced.
+//! The number of alternatives of lexemes, and whether their braces are balanced.
 
 use crate::proved::glob_set::braces::error::BraceError;
 use crate::proved::glob_set::braces::lexemes::Lexeme;
 
-/// A `{` without its `}` so far. Counts of alternatives are at most the largest `usize`.
+/// A `{` that is still open. Numbers of alternatives stop at `usize::MAX`.
 #[derive(Clone, Copy)]
 pub struct Opened {
     /// Its place, in characters from 0.
     pub place: usize,
-    /// How many alternatives there are before it.
+    /// The number of alternatives before it.
     pub before: usize,
-    /// How many there are between it and its last comma.
+    /// The number of alternatives between it and its last comma.
     pub found: usize,
 }
 
-/// How many alternatives the lexemes have, at most the largest `usize`. The error is the first brace from the left that
-/// has no partner.
+/// The number of alternatives of the lexemes, which stops at `usize::MAX`. The error is the first brace from the left
+/// that has no partner.
 pub fn count_of(lexemes: &[Lexeme]) -> Result<usize, BraceError> {
     let mut opened = Vec::new();
     let mut count: usize = 1;
@@ -30,7 +30,8 @@ pub fn count_of(lexemes: &[Lexeme]) -> Result<usize, BraceError> {
     }
 }
 
-/// The count of what follows the last `{` without its `}`, or the comma after it, with one more lexeme.
+/// Reads one more lexeme. `count` is the number of alternatives since the last open `{` or its last comma; the result
+/// is the new one.
 fn count_lexeme(opened: &mut Vec<Opened>, count: usize, place: usize, lexeme: Lexeme) -> Result<usize, BraceError> {
     match lexeme {
         Lexeme::Literal(_) => Ok(count),

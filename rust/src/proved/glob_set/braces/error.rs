@@ -1,16 +1,25 @@
-//! Made by `bin/rust_crate` from `crates/glob_set/src/braces/error.rt`, where its contracts are: sha256 6314135ebb73524b.
+//! Made by `bin/rust_crate` from `crates/glob_set/src/braces/error.rt`, where its contracts are: sha256 3fe1b674e3ef3773.
+//! `BraceError` is not `#[non_exhaustive]` there.
 //!
 //! Why braces are refused.
 
 use std::error::Error;
 use std::fmt;
 
-/// What is wrong with the braces of a text. Places are in characters, counted from 0: of `a{b`, `Unclosed(1)`.
+/// What is wrong with the braces of a text. Places are in characters from 0: `a{b` has the error `Unclosed(1)`.
+///
+/// ```
+/// use cadmiumdove::set::braces::{expand, BraceError};
+///
+/// assert_eq!(expand("a{b"), Err(BraceError::Unclosed(1)));
+/// assert_eq!(expand(&"{a,b}".repeat(40)), Err(BraceError::TooMany));
+/// ```
 #[derive(Clone, Copy, Debug, PartialEq, Eq)]
+#[non_exhaustive]
 pub enum BraceError {
-    /// The first `}` that no `{` before it belongs to.
+    /// The first `}` without a `{` before it that is its partner.
     Unmatched(usize),
-    /// The first `{` that no `}` after it belongs to.
+    /// The first `{` without a `}` after it that is its partner.
     Unclosed(usize),
     /// More than [`MOST_ALTERNATIVES`](crate::proved::glob_set::braces::MOST_ALTERNATIVES) alternatives.
     TooMany,

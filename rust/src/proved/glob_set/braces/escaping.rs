@@ -1,10 +1,28 @@
-//! Made by `bin/rust_crate` from `crates/glob_set/src/braces/escaping.rt`, where its contracts are: sha256 70e2361acea78525.
+//! Made by `bin/rust_crate` from `crates/glob_set/src/braces/escaping.rt`, where its contracts are: sha256 8a984e95de9bf0d4.
 //!
-//! Texts escaped, as patterns with braces that match themselves.
+//! Escaped texts: patterns with braces that match the text they are made from.
 
-/// The text as a pattern with braces that matches it: each `?`, `*`, `[`, `]`, `{` and `}` is put in a bracket of its
-/// own, and every other character as it is. So `{a}*` becomes `[{]a[}][*]`, which
-/// [`expand`](crate::proved::glob_set::braces::expand) returns as it is.
+/// Escapes a text to a pattern with braces that matches it: puts each `?`, `*`, `[`, `]`, `{` and `}` in a bracket of
+/// its own, and keeps every other character. `{a}*` becomes `[{]a[}][*]`, which is its own only alternative in
+/// [`expand`](crate::proved::glob_set::braces::expand).
+///
+/// ```
+/// use cadmiumdove::set::braces::{escape, expand};
+///
+/// assert_eq!(expand(&escape("{a}*"))?, ["[{]a[}][*]"]);
+/// # Ok::<(), cadmiumdove::set::braces::BraceError>(())
+/// ```
+///
+/// <details><summary>Contract</summary>
+///
+/// ```text
+/// ensures escaped { IfOk result
+///     (λ escaped. chars (string_bytes escaped) ≡ escaped_text (chars text.now)) }
+/// ensures stands { IfOk result (λ escaped. StandsFor (string_bytes escaped) text.now) }
+/// ```
+///
+/// </details>
+#[must_use]
 pub fn escape(text: &str) -> String {
     let mut escaped = String::new();
     for c in text.chars() {
@@ -13,7 +31,7 @@ pub fn escape(text: &str) -> String {
     escaped
 }
 
-/// Puts an escaped character at the end.
+/// Appends a character, escaped.
 fn push_escaped(escaped: &mut String, c: char) {
     if !is_special(c) {
         return escaped.push(c);
@@ -23,7 +41,7 @@ fn push_escaped(escaped: &mut String, c: char) {
     escaped.push(']')
 }
 
-/// Whether the character is special in a pattern or a brace.
+/// Whether the character has a meaning in patterns or braces.
 fn is_special(c: char) -> bool {
     matches!(c, '?' | '*' | '[' | ']' | '{' | '}')
 }

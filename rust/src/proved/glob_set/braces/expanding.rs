@@ -1,15 +1,15 @@
-//! Made by `bin/rust_crate` from `crates/glob_set/src/braces/expanding.rt`, where its contracts are: sha256 32327eadbad1ecdd.
+//! Made by `bin/rust_crate` from `crates/glob_set/src/braces/expanding.rt`, where its contracts are: sha256 0f089fe3645677bb.
 //!
 //! The alternatives of lexemes.
 
 use crate::proved::glob_set::braces::lexemes::Lexeme;
 use std::mem;
 
-/// A `{` without its `}` so far.
+/// A `{` that is still open.
 pub struct Group {
-    /// The alternatives of what is before it.
+    /// The alternatives of the text before it.
     pub before: Vec<String>,
-    /// Those of what is between it and its last comma.
+    /// The alternatives between it and its last comma.
     pub found: Vec<String>,
 }
 
@@ -23,14 +23,14 @@ pub fn expand_all(lexemes: &[Lexeme]) -> Vec<String> {
     texts
 }
 
-/// The alternatives of nothing: an empty text.
+/// The alternatives of no lexemes: an empty text.
 fn empty_text() -> Vec<String> {
     let mut texts = Vec::new();
     texts.push(String::new());
     texts
 }
 
-/// Reads a lexeme. The texts are the alternatives of what follows the last `{` or the comma after it.
+/// Reads a lexeme. `texts` are the alternatives since the last open `{` or its last comma.
 fn step(texts: &mut Vec<String>, groups: &mut Vec<Group>, lexeme: Lexeme) {
     match lexeme {
         Lexeme::Literal(c) => push_to_each(texts, c),
@@ -56,14 +56,14 @@ fn step(texts: &mut Vec<String>, groups: &mut Vec<Group>, lexeme: Lexeme) {
     }
 }
 
-/// Puts a character at the end of each text.
+/// Appends a character to each text.
 fn push_to_each(texts: &mut Vec<String>, c: char) {
     for text in texts.iter_mut() {
         text.push(c);
     }
 }
 
-/// Each of the first texts with each of the second ones behind it, in order of the first.
+/// Each of the first texts followed by each of the second ones, in the order of the first.
 fn joined(firsts: &[String], seconds: &[String]) -> Vec<String> {
     let mut texts = Vec::new();
     for first in firsts {
@@ -72,7 +72,7 @@ fn joined(firsts: &[String], seconds: &[String]) -> Vec<String> {
     texts
 }
 
-/// Puts the first text with each of the second ones behind it at the end.
+/// Appends to `texts` the first text followed by each of the second ones.
 fn push_joined(first: &str, seconds: &[String], texts: &mut Vec<String>) {
     for second in seconds {
         let mut text = String::from(first);

@@ -1,13 +1,13 @@
-//! Made by `bin/rust_crate` from `crates/glob_set/src/braces/lexemes.rt`, where its contracts are: sha256 f1dc4aad068b448d.
+//! Made by `bin/rust_crate` from `crates/glob_set/src/braces/lexemes.rt`, where its contracts are: sha256 119168075c61b2fc.
 //!
 //! What each character of a text means to braces.
 
 use crate::proved::glob_pattern::close_from;
 
-/// What a character is: a brace, a comma, or itself.
+/// What a character means to braces.
 #[derive(Clone, Copy)]
 pub enum Lexeme {
-    /// The character, which is no brace and no comma, or is in a bracket.
+    /// A character that is not a brace or a comma, or is in a bracket.
     Literal(char),
     /// `{`
     Open,
@@ -17,7 +17,7 @@ pub enum Lexeme {
     Close,
 }
 
-/// The lexemes of a text, one for each of its characters.
+/// The lexemes of a text, one per character.
 pub fn lexemes_of(text: &str) -> Vec<Lexeme> {
     let mut characters = Vec::new();
     characters.extend(text.chars());
@@ -35,7 +35,8 @@ fn lexemes_in(text: &[char]) -> Vec<Lexeme> {
     found
 }
 
-/// The end of the bracket that a place is in, or that place. The last bracket that begins before it has the end `last`.
+/// The end of the bracket that contains `place`, or `place` if none does. `last` is the end of the last bracket that
+/// begins before it.
 fn end_at(text: &[char], place: usize, last: usize) -> usize {
     if place < last {
         last
@@ -44,7 +45,7 @@ fn end_at(text: &[char], place: usize, last: usize) -> usize {
     }
 }
 
-/// What the character at a place is, where those before `end` are in a bracket.
+/// What the character at `place` means, if a bracket goes up to `end`.
 fn lexeme_at(place: usize, end: usize, c: char) -> Lexeme {
     if place < end {
         Lexeme::Literal(c)
@@ -53,7 +54,7 @@ fn lexeme_at(place: usize, end: usize, c: char) -> Lexeme {
     }
 }
 
-/// What the character is outside of brackets.
+/// What the character means outside brackets.
 fn lexeme_of(c: char) -> Lexeme {
     match c {
         '{' => Lexeme::Open,
@@ -63,7 +64,7 @@ fn lexeme_of(c: char) -> Lexeme {
     }
 }
 
-/// The place after the bracket that begins at a place, or that place if none does.
+/// The place after the bracket that begins at `place`, or `place` if none does.
 fn bracket_end(text: &[char], place: usize) -> usize {
     if text[place] != '[' {
         return place;

@@ -1,28 +1,24 @@
-//! Made by `bin/rust_crate` from `crates/glob_set/src/set/asking.rt`, where its contracts are: sha256 1e7af800228cd9e5.
+//! Made by `bin/rust_crate` from `crates/glob_set/src/set/asking.rt`, where its contracts are: sha256 04051f933f3551a8.
 //!
 //! Asking the patterns of a set that may match a text.
 
-use crate::proved::glob_set::buckets::bucket_at;
 use crate::proved::glob_set::found::Found;
 use crate::proved::glob_set::pairs::{text_bits, text_class, Need};
 use crate::proved::glob_set::set::PatternSet;
 
-/// How many patterns of a list make it worthwhile to know the bits of the text.
-const MANY: usize = 3;
+/// The bits of a text are computed if a list has at least this many patterns to ask. Fewer are asked faster without.
+const FEWEST_WITH_BITS: usize = 3;
 
 impl PatternSet {
-    /// The numbers of the patterns without a key that may match the text. Those of the others go into `found`.
+    /// The patterns without a key that may match the text. Those with a key go into `found`.
     #[inline(always)]
     pub(crate) fn listed_for(&self, text: &str, found: &mut Found) -> &[usize] {
         let bytes = text.as_bytes();
         self.keyed.find_in(bytes, found);
-        if found.is_full() {
-            return self.all.numbers();
-        }
-        bucket_at(self.buckets.as_slice(), text_class(bytes))
+        self.buckets.of_class(text_class(bytes))
     }
 
-    /// The first of the numbers whose pattern matches the text.
+    /// The first of these numbers whose pattern matches the text.
     #[inline(always)]
     pub(crate) fn first_of(&self, numbers: &[usize], text: &str, bits: Option<u128>) -> Option<usize> {
         for number in numbers {
@@ -33,7 +29,7 @@ impl PatternSet {
         None
     }
 
-    /// The last of the numbers whose pattern matches the text.
+    /// The last of these numbers whose pattern matches the text.
     #[inline(always)]
     pub(crate) fn last_of(&self, numbers: &[usize], text: &str, bits: Option<u128>) -> Option<usize> {
         let mut left = numbers.len();
@@ -46,7 +42,7 @@ impl PatternSet {
         None
     }
 
-    /// Replaces the content of `numbers` by the numbers of all patterns that match the text, in any order.
+    /// Replaces the content of `numbers` with the numbers of all patterns that match the text, in any order.
     pub(crate) fn find_matches(&self, text: &str, numbers: &mut Vec<usize>) {
         numbers.clear();
         self.push_matches(text, numbers)
@@ -61,7 +57,7 @@ impl PatternSet {
         self.push_of(found.numbers(), text, bits, numbers)
     }
 
-    /// Adds those of the numbers whose patterns match the text.
+    /// Adds those of the asked numbers whose patterns match the text.
     fn push_of(&self, asked: &[usize], text: &str, bits: Option<u128>, numbers: &mut Vec<usize>) {
         for number in asked {
             if self.matches_at(*number, text, bits) {
@@ -70,7 +66,7 @@ impl PatternSet {
         }
     }
 
-    /// Whether the pattern of this number matches the text, whose bits are known or not.
+    /// Whether pattern `number` matches the text. `bits` are the bits of the text, if they are known.
     #[inline(always)]
     fn matches_at(&self, number: usize, text: &str, bits: Option<u128>) -> bool {
         if lacks(&self.needs[number], bits) {
@@ -80,7 +76,7 @@ impl PatternSet {
     }
 }
 
-/// Whether a text of these bits, if they are known, lacks one that is needed.
+/// Whether a text with these bits, if they are known, lacks one that is needed.
 #[inline(always)]
 fn lacks(need: &Need, bits: Option<u128>) -> bool {
     match bits {
@@ -89,16 +85,16 @@ fn lacks(need: &Need, bits: Option<u128>) -> bool {
     }
 }
 
-/// The bits of the text, unless few patterns are asked about it: these are tried sooner than its bits are known.
+/// The bits of the text, unless only few patterns are asked about it.
 #[inline(always)]
 pub(crate) fn bits_for(text: &str, listed: &[usize], found: &[usize]) -> Option<u128> {
-    if listed.len() < MANY && found.len() < MANY {
+    if listed.len() < FEWEST_WITH_BITS && found.len() < FEWEST_WITH_BITS {
         return None;
     }
     Some(text_bits(text.as_bytes()))
 }
 
-/// The lower of two numbers, or the one that there is.
+/// The lower of two numbers, or the only one, or none.
 pub(crate) fn earlier(one: Option<usize>, other: Option<usize>) -> Option<usize> {
     match (one, other) {
         (Some(one), Some(other)) => Some(one.min(other)),
@@ -107,7 +103,7 @@ pub(crate) fn earlier(one: Option<usize>, other: Option<usize>) -> Option<usize>
     }
 }
 
-/// The higher of two numbers, or the one that there is.
+/// The higher of two numbers, or the only one, or none.
 pub(crate) fn later(one: Option<usize>, other: Option<usize>) -> Option<usize> {
     match (one, other) {
         (Some(one), Some(other)) => Some(one.max(other)),

@@ -1,8 +1,8 @@
-//! Made by `bin/rust_crate` from `crates/glob_walk/src/frame/tasks.rt`, where its contracts are: sha256 c1ffa00daf78e4e4.
+//! Made by `bin/rust_crate` from `crates/glob_walk/src/frame/tasks.rt`, where its contracts are: sha256 e52c373d237dba5c.
 //!
-//! The tasks that come of a directory's entries, and of `.` and `..` in it.
+//! The tasks that follow from a directory's entries, and from `.` and `..` in it.
 //!
-//! Each step leaves at most one task, and a child's path is made only with its task.
+//! Each step makes at most one task, and builds a child's path only for its task.
 
 use crate::proved::glob_pattern::{is_open, MatchOptions};
 use crate::proved::glob_tree::{child, join, Entry};
@@ -12,7 +12,8 @@ use crate::proved::glob_walk::plan::Plan;
 use crate::proved::glob_walk::task::{Accepted, Task, TaskState};
 
 impl Frame {
-    /// The look at `..` or `.` in the directory (joined also to `.`: `./..`), if the component matches that name.
+    /// The look at `..` or `.` in the directory, if the component matches that name. The name is joined even to `.`:
+    /// `./..`.
     pub(super) fn special_task(&self, plan: &Plan, name: &str) -> Option<Task> {
         let Some(component) = plan.component(self.component) else {
             return None;
@@ -27,7 +28,7 @@ impl Frame {
         })
     }
 
-    /// The task to go on at an entry, if its name is met. It makes the child's path only then.
+    /// The task that goes on at an entry, if its name is met. The child's path is built only then.
     pub(super) fn met_task(&self, plan: &Plan, entry: &Entry) -> Option<Task> {
         let name = entry.name.as_str();
         let met = meet(plan, self.recursive, self.component, name, entry.is_dir);
@@ -37,7 +38,7 @@ impl Frame {
         Some(Task { path: child(self.path.as_str(), name), component, state: TaskState::Seen(entry.is_dir) })
     }
 
-    /// The task to go on with the same `**` in an entry, if it enters it.
+    /// The task that goes on with the same `**` in an entry, if the `**` enters it.
     pub(super) fn entered_task(&self, plan: &Plan, entry: &Entry) -> Option<Task> {
         let name = entry.name.as_str();
         if !self.recursive || !is_entered(plan.options, name, entry.is_dir) {
@@ -47,8 +48,8 @@ impl Frame {
     }
 }
 
-/// The number of the component from which the walk goes on at an entry, if the entry is met: by the component with the
-/// number, or under `**` by the one after it. A `**` at the pattern's end meets each entry that it enters.
+/// The number of the component with which the walk goes on at an entry, if the entry is met: by the component of this
+/// number, or under `**` by the next one. A `**` at the pattern's end meets each entry that it enters.
 fn meet(plan: &Plan, recursive: bool, number: usize, name: &str, is_dir: bool) -> Option<usize> {
     let next = if recursive { number + 1 } else { number };
     match plan.component(next) {
@@ -58,7 +59,7 @@ fn meet(plan: &Plan, recursive: bool, number: usize, name: &str, is_dir: bool) -
     }
 }
 
-/// The number `next`, if the component matches the name.
+/// `next`, if the component matches the name.
 fn match_at(plan: &Plan, component: &Component, next: usize, name: &str) -> Option<usize> {
     if component.matches(name, plan.options) {
         Some(next)
@@ -67,7 +68,7 @@ fn match_at(plan: &Plan, component: &Component, next: usize, name: &str) -> Opti
     }
 }
 
-/// Whether `**` enters an entry: a directory whose name it may take.
+/// Whether `**` enters an entry: a directory whose name the dot rule lets it take.
 fn is_entered(options: MatchOptions, name: &str, is_dir: bool) -> bool {
     is_dir && is_open(options, name)
 }

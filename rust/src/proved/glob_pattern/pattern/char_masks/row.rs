@@ -1,6 +1,6 @@
-//! Made by `bin/rust_crate` from `crates/glob_pattern/src/pattern/char_masks/row.rt`, where its contracts are: sha256 e8d836627ba75f33.
+//! Made by `bin/rust_crate` from `crates/glob_pattern/src/pattern/char_masks/row.rt`, where its contracts are: sha256 a265cfd8e119518b.
 //!
-//! A row of masks: for each class of characters, which of 63 neighbouring tokens take its characters.
+//! A row of masks: for each class of characters, which of 63 neighbouring tokens take them.
 
 use crate::proved::glob_pattern::matcher::{with_bit, WORD};
 use crate::proved::glob_pattern::pattern::classes::{are_letters, Classes};
@@ -13,10 +13,10 @@ pub const SEPARATOR: usize = 0;
 /// The class of a `.` that the dot rule excludes from wildcards.
 pub const DOT: usize = 1;
 
-/// Of 63 neighbouring tokens, those of some kinds.
+/// Some kinds of tokens, among 63 neighbouring ones.
 #[derive(Clone, Copy)]
 struct Kinds {
-    /// Those that take all characters but those they list: wildcards and `[!..]`.
+    /// Tokens that take all characters except those they list: wildcards and `[!..]`.
     others: u64,
     /// Brackets.
     brackets: u64,
@@ -29,7 +29,7 @@ impl Kinds {
     const NONE: Kinds = Kinds { others: 0, brackets: 0, recursive: 0 };
 }
 
-/// Makes a row of zeros that of the tokens from number `start` on.
+/// Turns a row of zeros into the row of the tokens from `start` on.
 pub fn fill(row: &mut [u64], classes: Classes<'_>, tokens: &[Token<Bracket>], start: usize, case_sensitive: bool) {
     let mut kinds = Kinds::NONE;
     for n in start..tokens.len().min(start.saturating_add(WORD)) {
@@ -38,7 +38,7 @@ pub fn fill(row: &mut [u64], classes: Classes<'_>, tokens: &[Token<Bracket>], st
     finish(row, classes, kinds);
 }
 
-/// Makes the masks of the tokens that list a character those of the tokens that take it.
+/// Turns the masks of tokens that list a character into those of tokens that take it.
 #[inline(always)]
 fn finish(row: &mut [u64], classes: Classes<'_>, kinds: Kinds) {
     let separator = (row[classes.class('/')] & !kinds.brackets) | kinds.recursive;
@@ -55,7 +55,8 @@ fn invert(row: &mut [u64], bits: u64) {
     }
 }
 
-/// Lists a token: sets its bit in the masks of the characters that it lists, and in those of its kinds.
+/// Lists a token: sets its bit in the masks of the characters that it lists, and in those of its kinds. Returns the
+/// kinds.
 #[inline(always)]
 fn list_token(
     row: &mut [u64],
@@ -85,7 +86,7 @@ fn list_token(
     }
 }
 
-/// Sets the bit in the mask of the character, and case-insensitively in that of its other case.
+/// Sets the bit in the mask of the character, and case-insensitively also in that of its other case.
 #[inline(always)]
 fn list_literal(row: &mut [u64], classes: Classes<'_>, bit: usize, c: char, case_sensitive: bool) {
     if case_sensitive {
@@ -106,7 +107,7 @@ fn list_char(row: &mut [u64], classes: Classes<'_>, bit: usize, c: char) {
     list_class(row, bit, classes.class(c));
 }
 
-/// Sets the bit in the masks of the characters that some entry holds.
+/// Sets the bit in the masks of the characters that an entry holds.
 fn list_all(row: &mut [u64], classes: Classes<'_>, bit: usize, entries: &[Entry], case_sensitive: bool) {
     for entry in entries {
         let (first, last) = entry.ends();
@@ -114,8 +115,8 @@ fn list_all(row: &mut [u64], classes: Classes<'_>, bit: usize, entries: &[Entry]
     }
 }
 
-/// Sets the bit in the masks of the characters from the first to the last, and case-insensitively of those of the other
-/// case, if both are letters.
+/// Sets the bit in the masks of the characters from `first` to `last`. If both are letters, case-insensitively also in
+/// those of the other case.
 #[inline(always)]
 fn list_cases(row: &mut [u64], classes: Classes<'_>, bit: usize, first: char, last: char, case_sensitive: bool) {
     list_interval(row, classes, bit, first, last);
@@ -128,13 +129,13 @@ fn list_cases(row: &mut [u64], classes: Classes<'_>, bit: usize, first: char, la
     list_interval(row, classes, bit, upper, last_upper);
 }
 
-/// Whether the characters between are listed in either case: case-insensitively, if both ends are letters.
+/// Whether a range holds either case: case-insensitively, if both ends are letters.
 #[inline(always)]
 fn has_cases(case_sensitive: bool, first: char, last: char) -> bool {
     !case_sensitive && are_letters(first, last)
 }
 
-/// Sets the bit in the masks of the characters from the first to the last.
+/// Sets the bit in the masks of the characters from `first` to `last`.
 #[inline(always)]
 fn list_interval(row: &mut [u64], classes: Classes<'_>, bit: usize, first: char, last: char) {
     if first <= last {
@@ -142,7 +143,7 @@ fn list_interval(row: &mut [u64], classes: Classes<'_>, bit: usize, first: char,
     }
 }
 
-/// Sets the bit in the masks from the first to the last.
+/// Sets the bit in the masks from `first` to `last`.
 #[inline(always)]
 fn paint(row: &mut [u64], bit: usize, first: usize, last: usize) {
     for class in first..last + 1 {

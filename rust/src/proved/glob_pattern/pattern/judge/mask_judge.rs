@@ -1,21 +1,21 @@
-//! Made by `bin/rust_crate` from `crates/glob_pattern/src/pattern/judge/mask_judge.rt`, where its contracts are: sha256 994f2f8a0d6fb22d.
+//! Made by `bin/rust_crate` from `crates/glob_pattern/src/pattern/judge/mask_judge.rt`, where its contracts are: sha256 f1a75e76861be34e.
 //!
-//! A judge that asks all tokens of a word at once.
+//! A judge that answers for all tokens of a word at once.
 
 use super::TextJudge;
 use crate::proved::glob_pattern::matcher::Judge;
 use crate::proved::glob_pattern::pattern::char_masks::{CharMasks, Rows};
 
-/// A judge that reads from masks which tokens take a character.
+/// A judge that looks up in masks which tokens take a character.
 pub struct MaskJudge<'a> {
     judge: TextJudge<'a>,
     rows: Rows<'a>,
-    // the class of the character last stepped over
+    // the class of the last character stepped over
     class: usize,
 }
 
 impl<'a> MaskJudge<'a> {
-    /// The judge, which has not stepped, with the masks of its tokens, of so many words.
+    /// The judge, which must not have stepped, with the masks of its tokens in `words` words.
     #[inline(always)]
     pub fn new(judge: TextJudge<'a>, masks: &'a CharMasks) -> Self {
         let rows = masks.rows(judge.options.case_sensitive);

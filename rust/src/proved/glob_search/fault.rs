@@ -1,0 +1,56 @@
+//! Made by `bin/rust_crate` from `crates/glob_search/src/fault.rt`, where its contracts are: sha256 f0efc06633f92eea.
+//! `SearchFault` is not `#[non_exhaustive]` there.
+//!
+//! What a search could not do.
+
+use crate::proved::glob_rules::Reason;
+use crate::proved::glob_search::meter::OverLimit;
+use std::error::Error;
+use std::{fmt, io};
+
+/// What a search could not do. It goes on after it.
+#[derive(Debug)]
+#[non_exhaustive]
+pub enum SearchFault {
+    /// The directory at the path could not be listed, so what is below it is not found.
+    Unread(String, io::Error),
+    /// The file with rules at the path could not be read, so its rules are not heard.
+    UnreadRules(String, io::Error),
+    /// A line of the file with rules at the path is refused, so none of its rules is heard.
+    RefusedRules(String, usize, Reason),
+    /// The next unit of work does not fit the limit. The search has ended.
+    Limit,
+}
+
+impl SearchFault {
+    /// Whether the search has ended.
+    pub fn is_last(&self) -> bool {
+        match self {
+            SearchFault::Limit => true,
+            SearchFault::Unread(..) | SearchFault::UnreadRules(..) | SearchFault::RefusedRules(..) => false,
+        }
+    }
+}
+
+impl fmt::Display for SearchFault {
+    fn fmt(&self, f: &mut fmt::Formatter<'_>) -> fmt::Result {
+        match self {
+            SearchFault::Unread(path, error) | SearchFault::UnreadRules(path, error) => {
+                write!(f, "{path}: {error}")
+            }
+            SearchFault::RefusedRules(path, line, reason) => {
+                write!(f, "{path}: line {line}: {reason}")
+            }
+            SearchFault::Limit => f.write_str("search limit reached"),
+        }
+    }
+}
+
+impl Error for SearchFault {}
+
+/// A unit that does not fit the limit.
+impl From<OverLimit> for SearchFault {
+    fn from(_over: OverLimit) -> Self {
+        SearchFault::Limit
+    }
+}

@@ -1,0 +1,48 @@
+//! Made by `bin/rust_crate` from `crates/glob_search/src/search.rt`, where its contracts are: sha256 cf90c639eb5f205e.
+//!
+//! Searches.
+
+use crate::proved::glob_search::fault::SearchFault;
+use crate::proved::glob_search::found::Found;
+use crate::proved::glob_search::rule_texts::RuleTexts;
+use crate::proved::glob_search::searcher::Searcher;
+use crate::proved::glob_search::settings::Settings;
+use crate::proved::glob_set::SetRefusal;
+use crate::proved::glob_tree::Tree;
+
+/// A search for the paths below the current directory of a tree that some of many patterns match, each once and in
+/// ascending order of names.
+///
+/// ```text
+/// let mut search = Search::new(&["src/*.rs", "docs/**"], Settings::new())?;
+/// search.next(&mut tree, &mut NoRuleTexts)    // Some(Ok(found)), and found.path is "docs/index.md"
+/// search.next(&mut tree, &mut NoRuleTexts)    // Some(Ok(found)), and found.path is "src/main.rs"
+/// search.next(&mut tree, &mut NoRuleTexts)    // None
+/// ```
+pub struct Search {
+    searcher: Searcher,
+}
+
+impl Search {
+    /// A search for what some patterns match. It has asked nothing, and all is left that it has to give.
+    ///
+    /// The error is the number of the first pattern with a fault, and that fault.
+    pub fn new(patterns: &[&str], settings: Settings) -> Result<Self, SetRefusal> {
+        let searcher = Searcher::new(patterns, settings)?;
+        Ok(Search { searcher })
+    }
+
+    /// The next path that is found, or what could not be done; `None` where nothing is left, and from then on.
+    ///
+    /// Where the content of the tree and the texts of the files with rules are known, the paths and the directories that
+    /// cannot be listed are exactly those that the search has to give, one after another, and `None` comes after the last.
+    /// After a file with rules that cannot be read or is refused the search goes on by other rules.
+    pub fn next<T: Tree, R: RuleTexts>(&mut self, tree: &mut T, texts: &mut R) -> Option<Result<Found, SearchFault>> {
+        self.searcher.next(tree, texts)
+    }
+
+    /// How many units of work were charged: never more than the limit.
+    pub fn spent(&self) -> u64 {
+        self.searcher.spent()
+    }
+}

@@ -1,0 +1,52 @@
+//! Made by `bin/rust_crate` from `crates/glob_search/src/searcher/entering.rt`, where its contracts are: sha256 09895556c34f4648.
+//!
+//! How a directory is entered.
+
+use crate::proved::glob_search::entries::{list, look_up};
+use crate::proved::glob_search::fault::SearchFault;
+use crate::proved::glob_search::frame::{Frame, Opening, Source};
+use crate::proved::glob_search::searcher::Searcher;
+use crate::proved::glob_tree::{Entry, Tree};
+
+impl Searcher {
+    /// Enters a directory.
+    pub(super) fn enter<T: Tree>(&mut self, tree: &mut T, opening: Opening) -> Result<(), SearchFault> {
+        let source = self.source_of(&opening);
+        let entries = self.entries(tree, &opening, source)?;
+        self.step_into(opening, source, entries)
+    }
+
+    /// Puts a directory on the way, unless it has no entries.
+    fn step_into(&mut self, opening: Opening, source: Source, entries: Vec<Entry>) -> Result<(), SearchFault> {
+        if entries.is_empty() {
+            return Ok(());
+        }
+        let heard = self.heard.files.len();
+        let Opening { path, alive } = opening;
+        self.way.frames.push(Frame { path, alive, source, entries, files: 0, heard });
+        Ok(())
+    }
+
+    /// How what is in a directory is known: names are looked up where only literals go on. It is listed without kinds
+    /// where only entries that literals name may be entered.
+    fn source_of(&self, opening: &Opening) -> Source {
+        let alive = opening.alive.as_slice();
+        if self.beginnings.is_literal(alive) {
+            return Source::LookedUp;
+        }
+        let enters = self.way.frames.len() + 1 < self.depth && self.beginnings.enters_many(alive);
+        if enters || self.needs_kinds() {
+            Source::Listed
+        } else {
+            Source::Named
+        }
+    }
+
+    /// The entries of a directory, in descending order of names.
+    fn entries<T: Tree>(&mut self, tree: &mut T, opening: &Opening, source: Source) -> Result<Vec<Entry>, SearchFault> {
+        match source {
+            Source::LookedUp => look_up(&mut self.meter, tree, &self.beginnings, opening),
+            Source::Listed | Source::Named => list(&mut self.meter, tree, opening, source),
+        }
+    }
+}

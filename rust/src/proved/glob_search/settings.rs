@@ -1,0 +1,85 @@
+//! Made by `bin/rust_crate` from `crates/glob_search/src/settings.rt`, where its contracts are: sha256 aa6e4f2fbc5fa8b0.
+//! `Wanted` is not `#[non_exhaustive]` there.
+//!
+//! What a search is asked for, beside its patterns.
+
+use crate::proved::glob_pattern::MatchOptions;
+use crate::proved::glob_rules::IgnoreList;
+
+/// Which of the paths that a pattern matches are found.
+///
+/// ```
+/// use cadmiumdove::search::{Search, Wanted};
+///
+/// let files = Search::new(["**/*"])?.max_depth(2).wanted(Wanted::Others);
+/// assert!(files.into_iter().flatten().all(|found| !found.is_dir));
+/// # Ok::<(), cadmiumdove::search::SearchRefusal>(())
+/// ```
+#[derive(Clone, Copy, Debug, PartialEq, Eq)]
+#[non_exhaustive]
+pub enum Wanted {
+    /// Each of them.
+    All,
+    /// Directories.
+    Directories,
+    /// Those that are no directories.
+    Others,
+}
+
+impl Wanted {
+    /// Whether a path is found, where `is_dir` says that it is a directory.
+    ///
+    /// <details><summary>Contract</summary>
+    ///
+    /// ```text
+    /// ensures { result ≡ wants self is_dir }
+    /// ```
+    ///
+    /// </details>
+    #[must_use]
+    pub fn takes(self, is_dir: bool) -> bool {
+        match self {
+            Wanted::All => true,
+            Wanted::Directories => is_dir,
+            Wanted::Others => !is_dir,
+        }
+    }
+}
+
+/// What a search is asked for, beside its patterns. [`new`](Settings::new) asks for all that they match.
+pub struct Settings {
+    /// How names are matched. The separator rule holds in any case.
+    pub options: MatchOptions,
+    /// The most names of a path: with 1, what is in the start directory.
+    pub depth: usize,
+    /// Which kinds are found.
+    pub wanted: Wanted,
+    /// Whether the kind of each path that is found is learned. Without it a kind is asked for only where it decides
+    /// something.
+    pub kinds: bool,
+    /// The most units of work: one for each lookup, listing, file of rules, and entry of a listing.
+    pub limit: u64,
+    /// Rules that come before those of any file, for paths from the start directory on. Of these lists the last comes
+    /// first.
+    pub first: Vec<IgnoreList>,
+    /// Rules that come after those of any file, as those of git's `info/exclude`. Of these lists the last comes first.
+    pub last: Vec<IgnoreList>,
+    /// The names of files with rules, as `.gitignore`. Of those in one directory the last comes first.
+    pub rule_files: Vec<String>,
+}
+
+impl Settings {
+    /// All that the patterns match, case-sensitively, with no rules and practically no limit.
+    pub fn new() -> Self {
+        Settings {
+            options: MatchOptions::new(),
+            depth: usize::MAX,
+            wanted: Wanted::All,
+            kinds: false,
+            limit: u64::MAX,
+            first: Vec::new(),
+            last: Vec::new(),
+            rule_files: Vec::new(),
+        }
+    }
+}
