@@ -1,17 +1,17 @@
-"""What is measured: a row for each case, in the tables of each report. In the words of a row `paths` and `stars` are
-files."""
+"""What is measured: a row for each case, in the tables of each report. In the arguments of a row, `paths` and `stars`
+are files."""
 
 from collections import namedtuple
 
-# What an option's letter means.
+# The meaning of each option letter.
 RULES = {"i": "case-insensitive", "s": "separator rule", "d": "dot rule"}
 
 
-# A case: its name, the words for the programs, and how many times over ours and the crate's do it.
+# A case: its name, the arguments for the programs, and how often ours and the crate's repeat it.
 Row = namedtuple("Row", "name words times times_of_crate", defaults=(1, 0))
 
 
-# A word that is a file with this content, behind a mark.
+# An argument that is a file with this content, after a mark.
 Text = namedtuple("Text", "content mark")
 
 
@@ -20,7 +20,7 @@ def said(letters):
     return "".join(f", {RULES[letter]}" for letter in letters)
 
 
-# A pattern, its options, and how many times over it is matched with a million paths.
+# A pattern, its options, and how often it is matched with a million paths.
 PATTERNS = [
     ("*.rs", "", 1),
     ("**/*.rs", "", 1),
@@ -47,29 +47,29 @@ def of_patterns(patterns):
 
 MATCHES = of_patterns(PATTERNS)
 
-# Patterns, each of which is matched case-sensitive and case-insensitive.
+# Patterns that are each matched case-sensitively and case-insensitively.
 SIX = ("*.rs", "**/*.h", "[a-z]*/[!.]*", "*config*", "src/config.toml", "*[a-z][0-9]*")
 BOTH_CASES = of_patterns((it, letters, 1) for it in SIX for letters in ("", "i"))
 
-# The text ends as the pattern does, so that its end does not decide. The crate's time grows about tenfold with each
-# star.
+# The text has the pattern's literal suffix, so that its end does not decide. The crate's time grows about tenfold with
+# each star.
 STARS = [Row(f"match `*a` {stars} times and `b`, with `a` 60 times and `/ab`, separator rule",
     ("match", "s", "*a" * stars + "b", "stars"), 1000, 1) for stars in (4, 5, 6)]
 
-# Ten characters or a pattern, and how many times it is in the text that is parsed.
+# Ten characters or a pattern, and how often it is repeated in the text to parse.
 TEXTS = [(ten, often) for ten in ("a*b[c-e]?/", "abcdefgh*/", "*?a?*?b?*?") for often in (1, 10, 1_000)]
 TEXTS += [(it, 1) for it in ("*.rs", "*", "?", "src/**/*.rs", "**/node_modules/**", "[a-z]*/[!.]*", "src/config.toml")]
 
 
 def of_texts(command, verb):
-    """A row for each text, done so often that some million characters are read."""
+    """A row for each text, repeated until some million characters are read."""
     return [Row(f"{verb} `{it}` {often:,} times" if often > 1 else f"{verb} `{it}`", (command, it * often),
         10_000_000 // (len(it) * often)) for it, often in TEXTS]
 
 
 PARSES, COPIES = of_texts("compile", "parse"), of_texts("clone", "copy")
 
-# Shapes for which matching could be slow: a name, the pattern, the text and the options.
+# Cases for which matching could be slow: a name, the pattern, the text and the options.
 TEN, CYRILLIC = "abcdefghij", "документы/проект/отчёт.txt"
 LONG_PATH = "/data/somebody/projects/a-rather-long-name/src/{}/generated/{}_test.rs"
 ATTACKS = [
@@ -91,22 +91,22 @@ ATTACKS = [
     ("the empty pattern on the empty text", "", "", ""),
 ]
 ESCAPES = [Row("escape `a*` 500 times", ("escape", "a*" * 500), 10_000)]
-# Patterns whose bytes after a match of a text are counted.
-WEIGHED = ["*.rs", "*a*", "*test*", "**/node_modules/**", "[a-z]*/[!.]*", "src/**/*.rs"]
+# Patterns whose memory in bytes is counted after a match of a text.
+WEIGHED = ["*.rs", "*a*", "*test*", "**/node_modules/**", "[a-z]*/[!.]*", "src/**/*.rs", "*" + "?*" * 64]
 WEIGHED_AFTER = "aaaaaaaaaaaaaaaaaaaaaaaatestaaa"
-# Patterns, each with options, that are matched beside globset and wildmatch with paths.
+# Patterns with options that are matched with paths, compared with globset and wildmatch.
 BESIDE_PEERS = [("*a*e*i*", ""), ("*[a-z][0-9]*", ""), ("????????*", ""), ("**/[a-c]*/**/*e*", "s")]
 
-# The programs, whose standard input is the paths.
+# The programs, with the paths as standard input.
 FILTERS = [Row(f"program `{it}`{said(letters)}", ("match", *(f"-{letter}" for letter in letters), it))
     for it, letters, _ in PATTERNS]
 
-# Trees of bench/inputs.py, each with the patterns whose walks are so short that they are done 200 times over.
+# Trees of bench/inputs.py, each with the patterns whose walks are so short that they are repeated 200 times.
 TREES = {"wide": ["*", "*.rs"], "flat": [], "chain": ["*", "*.rs", "*/*/*.rs"]}
-# Patterns, how deep each leads, and whether no entry of the last level is looked up.
+# Patterns, how deep each reaches, and whether no entry of the last level is looked up.
 WALKS = [("**/*.txt", 9999, False), ("*", 1, True), ("*.rs", 1, True), ("**", 9999, False), ("*/*/*.rs", 3, True)]
 
-# How each finder is told to leave two directories out, to give the names with an ending, and to use one thread.
+# The arguments with which each finder leaves out two directories, finds names with a suffix, and uses one thread.
 OTHERS = ["target", "node_modules"]
 FINDERS = {
     "ours": ["globs", "find", *(word for name in OTHERS for word in ("-x", name)), "**/*.rs"],
@@ -115,25 +115,27 @@ FINDERS = {
         *(word for name in OTHERS for word in ("-g", f"!{name}"))],
 }
 
-# How many patterns a set has, and how many paths it is asked about: globset takes milliseconds for one with 5,000.
-SETS = {125: 100_000, 482: 2_000, 5_000: 50}
+# The number of patterns of a set, and of paths to match: with 5,000 patterns, globset needs milliseconds for a path.
+SETS = {125: 20_000, 482: 2_000, 5_000: 50}
 QUESTIONS = ["all", "first", "last", "any"]
-# About how many paths ours is asked in one run, and how many patterns are read while sets are made.
-ASKED, MADE = 500_000, 50_000
+# About how many paths ours is asked in one run, and how many patterns are read while sets are made. And of how many
+# seconds two rounds are enough.
+ASKED, MADE, LONG = 50_000, 20_000, 0.5
 
 
-# Kinds of patterns, in each the place of a number. The first ones are also measured alone, in sets of these sizes.
+# Kinds of patterns, each with a placeholder for a number. The first ones are also measured by themselves, in sets of
+# these sizes.
 KINDS = ["name{}/**", "**/name{}/**", "src/mod{0}/file{0}.rs", "x/*/{}/*", "*.ext{}", "**/file{}.c", "src/mod{}/*.rs", "*n{}*x",
     "**/*.ext{}", "**/name{}*", "**/*-{}.js", "lib{}.a", "docs/{}/**", "**/*[0-9]{}?.log"]
 KINDS_ALONE, SIZES_ALONE = KINDS[:8], (500, 5_000)
-# How many random sets and shapes there are, and how many of the worst are printed.
+# The numbers of random sets and shapes, and of the worst ones to print.
 RANDOM_SETS, RANDOM_SHAPES, WORST = 800, 8_000, 10
-# About how many microseconds each side works in a round: on a shape, a random one, a set, or a million paths. And how many
-# seconds a report takes at most.
+# About how many microseconds each side works in a round: on a shape or a million paths, on a random shape, and on a
+# set. And the most seconds that a report takes.
 ROUND, RANDOM_ROUND, SET_ROUND, SECONDS = 10_000, 150, 400, 600
 
 
-# Work of a size n, which is to be in proportion to it: the words of the program, of which long ones are a Text.
+# Work of size n, whose cost should be proportional to n: the arguments of the program, with long ones as a Text.
 Growth = namedtuple("Growth", "name size words")
 
 
@@ -143,12 +145,12 @@ def parse(unit):
 
 
 def match(name, size, pattern, text, letters="-"):
-    """Matches what is made of n."""
+    """Matches a pattern and a text made from n."""
     return Growth(f"match {name}", size, lambda n: ("match", letters, Text(pattern(n), "@"), Text(text(n) + "\n", "")))
 
 
 def walk(name, pattern):
-    """Walks a directory in memory, by a pattern that is longer than a path can be."""
+    """Walks directories in memory, by a pattern longer than a path on a disk can be."""
     return Growth(f"walk {name} n times", 10**5, lambda n: ("walk", Text(pattern * n, "@"), "1"))
 
 

@@ -1,10 +1,9 @@
-"""What is read and walked: paths, sets of patterns, long texts and trees, the same ones at each call."""
+"""Inputs: paths, sets of patterns, long texts and trees, the same ones for each call."""
 
 import os
 import random
 
-# How many folders a path has, from none to eight, and how often. A word that is there several times comes that much
-# oftener.
+# How many folders a path has, from none to eight, with their frequencies. Words listed several times are more frequent.
 DEPTHS = (4, 10, 18, 22, 18, 12, 8, 5, 3)
 FOLDERS = (
     "src src src src src src lib lib tests tests test docs include core util utils common api net io os walk parser"
@@ -55,15 +54,15 @@ def name_of(source):
 
 
 def paths(count):
-    """Paths as they are in trees of sources, of up to eight folders."""
+    """Paths like those of source trees, with up to eight folders."""
     source = random.Random(1979)
     depths = (source.choices(range(len(DEPTHS)), DEPTHS)[0] for _ in range(count))
     return ["/".join([*source.choices(FOLDERS, k=depth), name_of(source)]) for depth in depths]
 
 
 def ignored(count):
-    """Patterns as those of ignore files: known rules, and then further ones in the same forms, of which every second
-    names what a path may have."""
+    """Patterns like those of ignore files: known rules, then more in the same forms, half of which name something that
+    a path may have."""
     source = random.Random(482)
     known = [*(f"**/{name}/**" for name in IGNORED_FOLDERS), *(f"**/{name}" for name in IGNORED_FILES)]
     patterns = dict.fromkeys(known[:count])
@@ -77,13 +76,13 @@ def ignored(count):
 
 
 def disk_paths(folder):
-    """The paths of files below a folder. Those whose names cannot be printed are left out."""
+    """The paths of files below a folder, without those whose names cannot be printed."""
     found = [os.path.join(at, name) for at, _, names in os.walk(folder) for name in names]
     return sorted(path.removeprefix("/") for path in found if path.isprintable())
 
 
 def add_files(folder, count):
-    """Makes empty files, of which every other ends in .txt and the rest in .rs."""
+    """Makes empty files. Every other one ends in .txt, the rest in .rs."""
     for number in range(count):
         (folder / f"file{number:06}.{('txt', 'rs')[number % 2]}").touch()
 
@@ -102,7 +101,7 @@ def flat(folder, share):
 
 
 def chain(folder, share):
-    """1,000 directories, one in the other, and a file in each."""
+    """1,000 nested directories, with a file in each."""
     for _ in range(1000 // share):
         folder = folder / "d"
         folder.mkdir()
@@ -110,7 +109,7 @@ def chain(folder, share):
 
 
 def half(folder, share):
-    """100,000 files, of which half are in directories that are excluded."""
+    """100,000 files, half of them in excluded directories."""
     for name, outer in (("src", 50), ("target", 40), ("node_modules", 10)):
         (folder / name).mkdir()
         wide(folder / name, share, outer)

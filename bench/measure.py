@@ -1,4 +1,4 @@
-"""How programs are run, timed and counted, and how tables are printed and kept."""
+"""Runs programs, measures their times and instructions, and prints and saves tables."""
 
 import json
 import os
@@ -16,7 +16,8 @@ CRATE = "the crate"
 
 
 def run(words, **how):
-    """What a program writes, and its time in nanoseconds: what it writes as an error, or else the processor's."""
+    """The output of a program, and its time in nanoseconds: the time that it writes to standard error or, without that,
+    its CPU time."""
     before = resource.getrusage(resource.RUSAGE_CHILDREN)
     ran = subprocess.run(list(map(str, words)), stderr=subprocess.PIPE, **how)
     after = resource.getrusage(resource.RUSAGE_CHILDREN)
@@ -36,14 +37,14 @@ def heads_of(sides):
 
 
 def counted(words):
-    """The instructions of a program. Those of one build do not vary."""
+    """The number of instructions that a program executes. It is the same in each run of a build."""
     words = ["valgrind", "--tool=callgrind", "--callgrind-out-file=/dev/null", *map(str, words)]
     ran = subprocess.run(words, stdout=subprocess.DEVNULL, stderr=subprocess.PIPE, text=True, check=True)
     return int(re.search(r"Collected : (\d+)", ran.stderr)[1])
 
 
 def peak(words):
-    """The most bytes that a program has from `malloc` at once."""
+    """The peak of the bytes that a program has from `malloc`."""
     with tempfile.NamedTemporaryFile() as file:
         words = ["valgrind", "--tool=massif", f"--massif-out-file={file.name}", *map(str, words)]
         subprocess.run(words, stdout=subprocess.DEVNULL, stderr=subprocess.DEVNULL, check=True)
@@ -51,7 +52,7 @@ def peak(words):
 
 
 class Table:
-    """A table, whose rows are printed as they are made."""
+    """A table that prints each row as it is added."""
 
     def __init__(self, title, heads):
         self.title, self.heads, self.rows = title, heads, []
@@ -72,7 +73,7 @@ def about(bench):
 
 
 def keep(name, said, tables):
-    """Writes a report, each row of a table in a line."""
+    """Writes a report, with each row of a table on its own line."""
     commit = subprocess.run(["git", "-C", ROOT, "rev-parse", "--short", "HEAD"], capture_output=True, text=True, check=True)
     report = {"name": name, "commit": commit.stdout.strip(), "about": said, "tables": [vars(it) for it in tables]}
     text = json.dumps(report, indent=1, ensure_ascii=False)

@@ -39,12 +39,12 @@ plot $rows using 1:0:(0):1:($0-0.35):($0+0.35):ytic(2) with boxxyerror linecolor
 
 
 def reports():
-    """Each report, by its name."""
+    """The reports by name."""
     return {path.stem: json.loads(path.read_text(encoding="utf-8")) for path in sorted(BENCH.glob("results/*.json"))}
 
 
 def ratios(table):
-    """The ratios of each column that has them, by its head. `-` is where there is none."""
+    """The ratios of each column of ratios, by its head. A `-` means that there is none."""
     heads = {at: head for at, head in enumerate(table["heads"]) if head.startswith("to ")}
     cells = {head: [row[at] for row in table["rows"] if row[at] != "-"] for at, head in heads.items()}
     return {head: [float(cell.replace(",", "")) for cell in found] for head, found in cells.items()}
@@ -61,7 +61,8 @@ def rows():
 
 
 def spread_rows():
-    """The heads and the rows of the page's table of random cases, whose ratios are spread. No such report, no heads."""
+    """The heads and the rows of the page's table of random cases, with quantiles of their ratios. Without such a report
+    there are no heads."""
     found = [(report, table) for report in reports().values() for table in report["tables"] if "median" in table["heads"]]
     heads = [["Report", "What", *map(str.capitalize, table["heads"]), "Commit"] for _, table in found[:1]]
     return heads + [[f"`{report['name']}`", table["title"], *row, f"`{report['commit']}`"]
@@ -69,7 +70,7 @@ def spread_rows():
 
 
 def written(heads, *rows):
-    """A table, of which the first three columns and the last one are words."""
+    """A table whose first three columns and last column are text."""
     marks = ["---"] * 3 + ["--:"] * (len(heads) - 4) + ["---"]
     return "".join(f"| {' | '.join(row)} |\n" for row in (heads, marks, *rows))
 
@@ -82,7 +83,7 @@ def with_tables(page):
 
 
 def found_in(name, title, head):
-    """The ratios of a column, by the beginning of its table's title."""
+    """The ratios of a column in the table whose title begins with `title`."""
     [table] = [it for it in reports()[name]["tables"] if it["title"].startswith(title)]
     return ratios(table)[head]
 

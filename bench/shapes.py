@@ -1,5 +1,5 @@
-"""Makes random shapes: patterns of pieces in four scripts, each with options and a text that matches or nearly does; and
-random sets of patterns, each with paths. A seed gives the same ones at each call."""
+"""Makes random shapes: patterns of pieces in four scripts, each with options and a text that matches or nearly does.
+Also makes random sets of patterns, each with paths. The same seed gives the same cases."""
 
 import itertools
 import math
@@ -23,7 +23,7 @@ SCRIPTS = {
     "Cyrillic": "".join(map(chr, range(ord("А"), ord("я") + 1))) + "ёЁ",
     "CJK and astral": "中文資料東京漢字日本語年月日目録一二三" + "𝒳𝒴𝒵𠀀𠮷😀🙂",
 }
-# The share of shapes of few letters, in which many tokens may take a character, and how many those are.
+# The share of shapes with few letters, in which many tokens may match a character, and how many letters those have.
 SHARE_OF_FEW, FEW = 0.15, 3
 # How many pieces a pattern has, and the kinds of pieces with how often each comes.
 PIECES = (1, 14)
@@ -32,20 +32,20 @@ KINDS_OF_PIECES = {
     "[a-z]": 6, "[!a]": 4, "[!a-z]": 3,
 }
 LENGTHS = {"short": (1, 3), "word": (3, 10), "line": (12, 60), "long": (60, 400)}
-# The longest that wildcards take together.
+# Limits on the characters that the wildcards of a pattern match together, one of them chosen for each shape.
 FILLS = (0, 8, 30, 30, 80, 400, 4000)
-# The crate tries one way after another: shapes for which there may be more ways are left out.
+# The crate backtracks: shapes that it may split in more ways than this are left out.
 MOST_WAYS = 200_000
-# How many patterns a random set has at most, and how many paths it is asked about.
+# The most patterns of a random set, and the number of paths to match.
 LARGEST_SET, PATHS = 3000, 100
-# The share of the paths that are of a pattern's kind.
+# The share of the paths that are of the kind of a pattern.
 SHARES = (0, 0.5)
-# What wildcards of these patterns stand for in the paths. They are few, as globset is slow where texts vary much.
+# What wildcards of these patterns match in the paths. These are few, since globset is slow if texts vary much.
 NAMES = {"**/": ["", "src/", "lib/", "a/b/"], "**": ["a.rs", "src/b.c"], "*": ["main", "other", "y"], "?": "0a"}
 
 
 def bracket(source, kind, letters):
-    """A bracket, and a character that it takes."""
+    """A bracket, and a character that it matches."""
     listed = source.sample(letters, min(len(letters), source.choice((1, 2, 3, 5))))
     if "-" in kind:
         listed = [f"{min(it)}-{max(it)}" for it in (source.sample(letters, 2) for _ in range(source.choice((1, 1, 2))))]
@@ -56,12 +56,12 @@ def bracket(source, kind, letters):
 
 
 def filled(source, letters, most, others=""):
-    """Up to so many characters, of which about one in seven is another one."""
+    """Up to `most` characters, about one in seven of them from `others`."""
     return some(source, 0, most, letters * 2 + others * -(-len(letters) // 3))
 
 
 def piece(source, kind, letters, options, fill):
-    """A piece of a pattern, and what it takes."""
+    """A piece of a pattern, and a text that it matches."""
     if kind in LENGTHS:
         literal = some(source, *LENGTHS[kind], letters)
         return literal, literal
@@ -84,7 +84,7 @@ def other_case(source, text):
 
 
 def nearly(source, text, letters):
-    """The text but for a character, which is taken out, put in or replaced, often at an end."""
+    """The text with a character removed, inserted or replaced, often at an end."""
     at = source.choice((0, len(text), max(0, len(text) - 1), source.randint(0, len(text))))
     return text[:at] + source.choice(("", source.choice(letters))) + text[at + source.choice((0, 1)) :]
 
@@ -96,7 +96,7 @@ def pieces(source, letters, options):
     fill = source.choice(FILLS) // max(1, wildcards)
     pattern = text = ""
     for kind in kinds:
-        # Between stars and before `**/` is what the grammar wants there.
+        # Add what the grammar requires between stars and before `**/`.
         if kind == "**/" and pattern and pattern[-1] != "/":
             pattern, text = f"{pattern}/", f"{text}/"
         elif kind == "*" and pattern.endswith("*"):
@@ -128,7 +128,7 @@ def shape(source):
 
 
 def shapes(seed, count):
-    """So many shapes."""
+    """`count` shapes."""
     source = random.Random(seed)
     return [shape(source) for _ in range(count)]
 
@@ -140,8 +140,8 @@ def path_of(source, kind, number):
 
 
 def set_of(source, kinds, size, share, letters="s"):
-    """A set of patterns of these kinds, with paths of which about a share are of these kinds, and some of no pattern's
-    number."""
+    """A set of patterns of these kinds, with paths. About `share` of the paths are of these kinds, some with a number
+    that no pattern has."""
     patterns = [source.choice(kinds).format(number) for number in range(size)]
     others = [kind for kind in KINDS if kind not in kinds]
     asked = [source.choice(kinds if source.random() < share else others) for _ in range(PATHS)]
@@ -149,14 +149,14 @@ def set_of(source, kinds, size, share, letters="s"):
 
 
 def sets_of_kinds(seed):
-    """Sets of one kind of patterns each, with a share: that of the paths of this kind."""
+    """Sets with one kind of patterns each, and the share of paths of this kind."""
     source = random.Random(seed)
     some = itertools.product(KINDS_ALONE, SIZES_ALONE, SHARES)
     return [(set_of(source, [kind], size, share), share) for kind, size, share in some]
 
 
 def sets(seed, count):
-    """So many random sets, of one to four kinds."""
+    """`count` random sets, of one to four kinds."""
     source = random.Random(seed)
     for _ in range(count):
         kinds, size = source.sample(KINDS, source.randint(1, 4)), round(LARGEST_SET ** source.random() ** 0.5)

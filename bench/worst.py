@@ -1,4 +1,4 @@
-"""The reports in which ours may be slow: shapes that are each a kind of its own, random shapes, and sets."""
+"""The reports on what may be slow: hand-picked shapes, random shapes, and sets."""
 
 import statistics
 import subprocess
@@ -12,13 +12,14 @@ from measure import CRATE, Table, digits, heads_of, run
 SPREAD = ["how many", "together", "median", "nine of ten", "99 of 100", "worst", "slower"]
 SIDES, SET_SIDES = ["ours", CRATE], ["ours", "globset"]
 MOST_SHOWN, MOST_SHOWN_OF_DIFFERENCES = 100, 2_000
-# The groups of random cases of which the worst are printed.
+# The groups of random cases whose worst ones are printed.
 SETS, BEYOND = "all sets", "beyond ASCII"
 WITH_WORST = [SETS, shapes.ASCII, BEYOND]
 
 
 def spread(pairs):
-    """How many pairs of times there are, the ratio of their sums, quantiles of ratios, the worst, and the share above 1."""
+    """The number of pairs of times, the ratio of their sums, quantiles of their ratios, the worst one, and the share
+    above 1."""
     ratios = [ours / theirs for ours, theirs in pairs]
     quantiles = statistics.quantiles(ratios, n=100, method="inclusive")
     together = sum(ours for ours, _ in pairs) / sum(theirs for _, theirs in pairs)
@@ -27,15 +28,15 @@ def spread(pairs):
 
 
 def shortened(text):
-    """A text as code. What is too long is left out in its middle."""
+    """A text as code, with its middle left out if it is too long."""
     half = MOST_SHOWN // 2
     short = f"{text[:half]}…{text[-half:]}" if len(text) > MOST_SHOWN else text
     return f"`{short}`" + (f" ({len(text):,} characters)" if short != text else "")
 
 
 def measured(bench, program, round_time, asked):
-    """Each case, with the numbers that a program prints about its line. The program stops after some minutes. Where the
-    answers differ, this prints for which cases, and ends."""
+    """Each case, with the numbers that a program prints for its line. The program stops after some minutes. If answers
+    differ, this prints the cases, and ends."""
     text = "".join("\t".join(line) + "\n" for _, line in asked).encode()
     output, _ = run([*program, bench.rounds, round_time, cases.SECONDS], input=text, stdout=subprocess.PIPE)
     found = [(case, line) for (case, _), line in zip(asked, output.decode().splitlines())]
@@ -50,7 +51,8 @@ def measured(bench, program, round_time, asked):
 
 
 def tables_of(title, other, first, groups, found, words):
-    """How the ratios of a pair of numbers are spread in each group, and the worst of some groups, with words about each."""
+    """The quantiles of the ratios of a pair of numbers in each group, and the worst of some groups, with a description
+    of each."""
     pair = slice(first, first + 2)
     table = Table(title, ["which", *SPREAD])
     for name, is_in in groups.items():
@@ -69,7 +71,7 @@ def tables_of(title, other, first, groups, found, words):
 
 
 def attack(bench):
-    """Shapes by themselves, what their patterns weigh, and some patterns beside other crates."""
+    """Hand-picked shapes, the memory of their patterns, and some patterns compared with other crates."""
     asked = [(case, [letters, pattern, text]) for case in cases.ATTACKS for _, pattern, text, letters in [case]]
     found = measured(bench, [bench.of_rust("shapes")], cases.ROUND, asked)
     for title, pair in (("Matching", slice(2)), ("Parsing and matching once", slice(2, 4))):
@@ -85,14 +87,14 @@ def attack(bench):
 
 
 def row_of(found):
-    """A shape as a row of the library, done as often as it was in a round from Rust."""
+    """A shape as a row of the library, repeated as often as in a round from Rust."""
     (name, pattern, text, letters), numbers = found
     words = ("match", letters or "-", pattern, cases.Text(f"{text}\n", ""))
     return cases.Row(name + cases.said(letters), words, *(max(1, int(1000 * cases.ROUND / it)) for it in numbers[:2]))
 
 
 def weights(bench):
-    """What patterns weigh after a match."""
+    """The memory of patterns after a match."""
     table = Table("A pattern after a match from Rust, bytes", ["pattern", *heads_of(SIDES)])
     output, _ = run([bench.of_rust("bytes"), cases.WEIGHED_AFTER, *cases.WEIGHED], stdout=subprocess.PIPE)
     for pattern, line in zip(cases.WEIGHED, output.splitlines()):
@@ -101,7 +103,7 @@ def weights(bench):
 
 
 def beside_peers(bench):
-    """Patterns beside globset and, where it has all that they need, wildmatch."""
+    """Patterns compared with globset and, if it supports them, wildmatch."""
     # globset's `?` is a byte.
     paths = bench.text("ascii", lambda: filter(str.isascii, bench.lines_of_paths()))
     table = Table("From Rust beside other crates, nanoseconds a path",
@@ -132,7 +134,7 @@ def random_shapes(bench):
 
 
 def table_of_kinds(title, times_of, bench):
-    """A row for each set of one kind, with the times that a function gives."""
+    """A row for each set of one kind, with times from `times_of`."""
     table = Table(title, ["kind", "patterns", "paths of that kind", *heads_of(SET_SIDES)])
     for number, (case, share) in enumerate(shapes.sets_of_kinds(bench.seed)):
         cells = bench.cells(dict(zip(SET_SIDES, times_of(number, case))), 1)
@@ -141,7 +143,7 @@ def table_of_kinds(title, times_of, bench):
 
 
 def sets_from_rust(bench):
-    """Sets of one kind of patterns, and random ones, beside globset's in one process."""
+    """Sets of one kind of patterns, and random ones, compared with globset in one process."""
     alone = [case for case, _ in shapes.sets_of_kinds(bench.seed)]
     drawn = list(shapes.sets(bench.seed, cases.RANDOM_SETS // bench.share))
     asked = [(it, [it.letters, str(len(it.patterns)), *it.patterns, *it.paths]) for it in (*alone, *drawn)]

@@ -52,8 +52,8 @@ pub fn least_in_turns(sides: [(&Work, u32); 2], rounds: usize, clock: Clock) -> 
     least
 }
 
-/// How many times over work is to be done, so that it takes about so many nanoseconds, or once.
-fn times_within(work: &Work, most: i64) -> u32 {
+/// How many times over work is to be done, so that it takes about so many nanoseconds, or once; and how long that took.
+fn times_within(work: &Work, most: i64) -> (u32, i64) {
     let mut times = 1;
     loop {
         let mut took = timed(work, times, passing_time).1;
@@ -62,18 +62,23 @@ fn times_within(work: &Work, most: i64) -> u32 {
             took = took.min(timed(work, times, passing_time).1);
         }
         if 2 * took >= most {
-            return times;
+            return (times, took);
         }
         times *= 4;
     }
 }
 
 /// The nanoseconds of doing the work of each side once: the least of all rounds, of about so many microseconds each. Two
-/// rounds are enough for work that takes longer.
+/// rounds are enough for work that takes longer, and one for work that takes much longer.
 pub fn nanoseconds(sides: &[Work; 2], rounds: usize, round: i64) -> [f64; 2] {
-    let times = [0, 1].map(|at| times_within(&sides[at], 1000 * round));
-    let is_long = times.contains(&1);
-    let (rounds, clock): (_, Clock) = if is_long { (rounds.min(2), processor_time) } else { (rounds, passing_time) };
+    let most = 1000 * round;
+    let found = [0, 1].map(|at| times_within(&sides[at], most));
+    let times = found.map(|(times, _)| times);
+    let (rounds, clock): (_, Clock) = match found.iter().map(|(_, took)| took / most).max() {
+        _ if !times.contains(&1) => (rounds, passing_time),
+        Some(0..25) => (rounds.min(2), processor_time),
+        _ => (1, processor_time),
+    };
     let least = least_in_turns([0, 1].map(|at| (&sides[at], times[at])), rounds, clock);
     [0, 1].map(|at| least[at] as f64 / f64::from(times[at]))
 }
