@@ -1,5 +1,5 @@
-/* Unix shell patterns, matched and walked by a library whose every function is proved (crates/glob_c), for Linux on
- * x86-64-v2.
+/* Unix shell patterns, for matching texts and walking trees on Linux on x86-64-v2. Every function of the library is
+ * proved (crates/glob_c).
  *
  *     #include <stdio.h>
  *     #include <string.h>
@@ -24,15 +24,15 @@
  *
  *     cc main.c $(pkg-config --cflags --libs cadmiumdove)
  *
- * What is proved of a call holds where its caller keeps these rules, which nothing checks:
+ * What is proved about a call holds if its caller follows these rules, which nothing checks:
  *
- * - A pointer is not null, not even with a length of 0. Its memory is there for the call, and no other call or thread
- *   writes it meanwhile. What a call writes overlaps nothing else that it is given.
- * - A handle is `{0}` before its first call, and only calls write it. It may be moved, but not copied.
- * - Threads may match with one pattern at once. A call that takes a handle without `const` needs it alone: a lock, a
- *   thread's start or its join orders it and the others.
+ * - No pointer is null, even with a length of 0. Its memory is valid during the call, and no other call or thread
+ *   writes to it meanwhile. Memory that a call writes to overlaps none of its other arguments.
+ * - A handle is `{0}` before its first call, and only calls write to it. It may be moved, but not copied.
+ * - Several threads may match with the same pattern at once. A call that takes a handle without `const` needs exclusive
+ *   access: a lock, or the start or join of a thread, orders it with all other calls on that handle.
  * - No call is made from a signal handler, or in the forked child of a process with threads.
- * - malloc, realloc and free come from one allocator.
+ * - malloc, realloc and free come from the same allocator.
  */
 #ifndef CADMIUMDOVE_H
 #define CADMIUMDOVE_H
@@ -50,38 +50,38 @@
 extern "C" {
 #endif
 
-/* Where a pattern is kept. `{0}` is an empty one. */
+/* A handle of a pattern. `{0}` is an empty one. */
 struct cadmiumdove_pattern {
     void *at;
     bool full;
 };
 
-/* What a call answers. */
+/* What calls return. */
 enum cadmiumdove_answer {
     CADMIUMDOVE_DONE = 0,
-    CADMIUMDOVE_SYNTAX_FAULT = 1,  /* the text is no pattern */
+    CADMIUMDOVE_SYNTAX_FAULT = 1,  /* the text is not a valid pattern */
     CADMIUMDOVE_OUT_OF_MEMORY = 2, /* an allocation failed */
-    CADMIUMDOVE_NOT_UTF8 = 3,      /* the bytes are no UTF-8 */
+    CADMIUMDOVE_NOT_UTF8 = 3,      /* the bytes are not UTF-8 */
     CADMIUMDOVE_TOO_SHORT = 4,     /* the buffer is too short */
-    CADMIUMDOVE_UNKNOWN_FLAG = 5,  /* a flag has no meaning */
-    CADMIUMDOVE_IN_USE = 6,        /* the handle is not empty */
+    CADMIUMDOVE_UNKNOWN_FLAG = 5,  /* there is no such flag */
+    CADMIUMDOVE_IN_USE = 6,        /* the handle is already full */
     CADMIUMDOVE_EMPTY = 7          /* the handle is empty, or was freed */
 };
 
-/* What a match answers, besides OUT_OF_MEMORY, NOT_UTF8, UNKNOWN_FLAG and EMPTY. */
+/* What a match returns, besides OUT_OF_MEMORY, NOT_UTF8, UNKNOWN_FLAG and EMPTY. */
 enum cadmiumdove_match {
     CADMIUMDOVE_NO = 0,
     CADMIUMDOVE_YES = 1
 };
 
-/* The options, added up. 0 is case-sensitive, and without the two rules. */
+/* The flags of a match, to be added up. 0 means case-sensitive, without the two rules. */
 enum cadmiumdove_flag {
-    CADMIUMDOVE_CASE_INSENSITIVE = 1,   /* letters of ASCII are the same in either case */
+    CADMIUMDOVE_CASE_INSENSITIVE = 1,   /* ASCII letters match in either case */
     CADMIUMDOVE_LITERAL_SEPARATOR = 2,  /* `/` is matched only by a `/` outside brackets, or by `**` */
     CADMIUMDOVE_LITERAL_LEADING_DOT = 4 /* a `.` that begins a component is matched only by a `.` outside brackets */
 };
 
-/* Where a text is no pattern, and why. */
+/* Where a text is not a valid pattern, and why. */
 struct cadmiumdove_fault {
     size_t place; /* in characters from 0 */
     uint32_t message;
@@ -101,18 +101,18 @@ static inline const char *cadmiumdove_message_text(uint32_t message) {
                                             : "invalid range pattern";
 }
 
-/* Parses `length` bytes as a pattern. The answer is DONE, or SYNTAX_FAULT with the first fault in `fault`, or
- * OUT_OF_MEMORY, NOT_UTF8, or IN_USE for a handle that has a pattern. But for DONE `pattern` stays as it was, and
- * `fault` is written for SYNTAX_FAULT alone. */
+/* Parses `length` bytes as a pattern, and puts it into the handle. Returns DONE; SYNTAX_FAULT, with the first fault in
+ * `fault`; OUT_OF_MEMORY; NOT_UTF8; or IN_USE if the handle already has a pattern. Unless DONE is returned, `pattern`
+ * is unchanged; `fault` changes only if SYNTAX_FAULT is returned. */
 uint32_t cadmiumdove_pattern_new(struct cadmiumdove_pattern *pattern, const char *text, size_t length,
                                  struct cadmiumdove_fault *fault);
 
-/* The call behind the two that follow: `at` is that of a handle that has a pattern. With the flag 8 the caller owes
- * that the text is UTF-8. */
+/* The call behind the next two. `at` is the pointer of a handle that has a pattern. With the flag 8, the caller
+ * promises that the text is UTF-8. */
 uint32_t cadmiumdove_pattern_matches_at(const void *at, const char *text, size_t length, uint32_t flags);
 
-/* Whether the pattern matches all of the text, under the options whose flags are added up: YES, NO, EMPTY,
- * UNKNOWN_FLAG, NOT_UTF8 or OUT_OF_MEMORY. The last is never the answer of a pattern of at most 63 tokens. */
+/* Whether the pattern matches the whole text under the options in `flags`: YES, NO, EMPTY, UNKNOWN_FLAG, NOT_UTF8 or
+ * OUT_OF_MEMORY. A pattern of at most 63 tokens never returns OUT_OF_MEMORY. */
 static inline uint32_t cadmiumdove_pattern_matches(const struct cadmiumdove_pattern *pattern, const char *text,
                                                    size_t length, uint32_t flags) {
     if (!pattern->full)
@@ -121,8 +121,8 @@ static inline uint32_t cadmiumdove_pattern_matches(const struct cadmiumdove_patt
                      : cadmiumdove_pattern_matches_at(pattern->at, text, length, flags);
 }
 
-/* The same, without a check of the text, which saves a third of the time of a short one.
- * The caller owes: the text is UTF-8. */
+/* The same without checking that the text is UTF-8, which saves a third of the time for a short text.
+ * The caller promises that the text is UTF-8. */
 static inline uint32_t cadmiumdove_pattern_matches_unchecked(const struct cadmiumdove_pattern *pattern,
                                                              const char *text, size_t length, uint32_t flags) {
     if (!pattern->full)
@@ -131,52 +131,52 @@ static inline uint32_t cadmiumdove_pattern_matches_unchecked(const struct cadmiu
                      : cadmiumdove_pattern_matches_at(pattern->at, text, length, flags | 8);
 }
 
-/* Writes the pattern that stands for the text alone to `out`, which has room for `room` bytes, and its length to
- * `needed`. No zero byte follows it. The answer is DONE, OUT_OF_MEMORY, NOT_UTF8, or TOO_SHORT, and then `needed` is
- * the room that suffices. But for DONE `out` is as it was. Three times `length` is enough, since a character becomes
- * three at most.
- * The caller owes: `out`, `needed` and the text do not overlap. */
+/* Writes the pattern that matches the text literally to `out`, which has room for `room` bytes, and its length to
+ * `needed`. It is not zero-terminated. Returns DONE; OUT_OF_MEMORY; NOT_UTF8; or TOO_SHORT, and then `needed` is the
+ * room required. `out` changes only if DONE is returned. Three times `length` is always enough, since a character
+ * becomes at most three.
+ * The caller promises that `out`, `needed` and the text do not overlap. */
 uint32_t cadmiumdove_pattern_escape(const char *text, size_t length, char *out, size_t room, size_t *needed);
 
-/* Frees the pattern, if there is one, and leaves `pattern` empty. */
+/* Frees the handle's pattern, if there is one, and leaves the handle empty. */
 void cadmiumdove_pattern_free(struct cadmiumdove_pattern *pattern);
 
-/* Where a walk is kept. `{0}` is an empty one. */
+/* A handle of a walk. `{0}` is an empty one. */
 struct cadmiumdove_walk {
     void *at;
     bool full;
 };
 
-/* What a walk does next. */
+/* The steps of a walk. */
 enum cadmiumdove_step {
-    CADMIUMDOVE_LOOK = 0,       /* it asks what the path leads to: cadmiumdove_walk_looked answers */
+    CADMIUMDOVE_LOOK = 0,       /* it asks what the path refers to: answer with cadmiumdove_walk_looked */
     CADMIUMDOVE_LIST = 1,       /* it asks for the entries of the directory at the path */
-    CADMIUMDOVE_LIST_NAMES = 2, /* the same, where `is_dir` may be false at each entry */
-    CADMIUMDOVE_PATH = 3,       /* the path is found */
+    CADMIUMDOVE_LIST_NAMES = 2, /* the same, but `is_dir` may be false for every entry */
+    CADMIUMDOVE_PATH = 3,       /* it found the path */
     CADMIUMDOVE_UNREAD = 4,     /* the directory at the path could not be listed; the walk goes on */
     CADMIUMDOVE_LIMIT = 5,      /* the limit is reached; only CADMIUMDOVE_END follows */
     CADMIUMDOVE_MEMORY = 6,     /* an allocation failed; only CADMIUMDOVE_END follows */
-    CADMIUMDOVE_END = 8         /* nothing is left */
+    CADMIUMDOVE_END = 8         /* the walk is over */
 };
 
-/* What cadmiumdove_walk_looked says of a path. A symbolic link is what it leads to, and OTHER if it leads nowhere. */
+/* What cadmiumdove_walk_looked says about a path. A symbolic link counts as its target, or as OTHER if it has none. */
 enum cadmiumdove_look {
     CADMIUMDOVE_DIRECTORY = 0,
     CADMIUMDOVE_OTHER = 1,
     CADMIUMDOVE_MISSING = 2
 };
 
-/* What the answers of a walk return, besides DONE, OUT_OF_MEMORY, NOT_UTF8 and EMPTY. */
+/* What calls that answer a walk return, besides DONE, OUT_OF_MEMORY, NOT_UTF8 and EMPTY. */
 enum cadmiumdove_refusal {
     CADMIUMDOVE_NOT_ASKED = 9, /* the walk did not ask that; nothing has changed */
     CADMIUMDOVE_NO_NAME = 10   /* empty, `.`, `..`, or with `/` or NUL; nothing has changed */
 };
 
-/* Begins a walk after a pattern, from the root if it begins with `/`, and else from the current directory, with at most
- * `limit` units of work: one for each question and for each entry. A listing's entries are all kept before they count.
- * The answer is that of cadmiumdove_pattern_new, or UNKNOWN_FLAG. Each component is also a pattern of its own, and a
- * fault of one alone has its place in it. It reads no file: the caller answers its questions, as from a file system or
- * an archive.
+/* Begins a walk for a pattern, and puts it into the handle. The walk starts at the root if the pattern begins with `/`,
+ * and otherwise at the current directory. It does at most `limit` units of work, one for each question and each entry,
+ * but keeps all entries of a listing before it counts them. Returns what cadmiumdove_pattern_new does, or UNKNOWN_FLAG.
+ * Each component must also be a pattern by itself; if only that fails, the place of the fault counts from the start of
+ * the component. A walk reads no files: the caller answers its questions, from a file system or an archive for example.
  *
  *     while ((step = cadmiumdove_walk_next(&walk)) != CADMIUMDOVE_END) {
  *         if (cadmiumdove_walk_path(&walk, path, sizeof path - 1, &length) != CADMIUMDOVE_DONE)
@@ -190,38 +190,39 @@ enum cadmiumdove_refusal {
  *             puts(path);
  *     }
  *
- * Its items are those that are written down for its pattern as long as each answer is that of one tree. Whatever is
- * answered, it keeps its limit, and so it ends once each question is answered; one that never is, is asked for ever.
+ * If all answers agree with one tree, the items are those of the written listing for the pattern. Whatever the answers,
+ * the walk keeps to its limit, so it ends if every question is answered; an unanswered question is asked again forever.
  * examples/find.c has `look` and `list`. */
 uint32_t cadmiumdove_walk_new(struct cadmiumdove_walk *walk, const char *pattern, size_t length, uint32_t flags,
                               uint64_t limit, struct cadmiumdove_fault *fault);
 
-/* Goes on to the next step, with what was answered since the last. A question that was not answered in full is asked
- * again, and what was answered of it is forgotten. Of several answers the last counts: a second `looked`, or `unread`
- * after entries or `listed`. The answer is a step, or EMPTY. */
+/* Takes the next step with what was answered since the last. A question without a complete answer is repeated, and any
+ * part of its answer is dropped. Of several answers the last one counts: a second `looked`, or `unread` after entries
+ * or `listed`. Returns a step, or EMPTY. */
 uint32_t cadmiumdove_walk_next(struct cadmiumdove_walk *walk);
 
-/* Writes the path of the last step to `out`, which has room for `room` bytes, and its length to `needed`. No zero byte
- * follows it. It is empty before the first step and at END, and at MEMORY nothing is promised of it. The answer is
- * DONE, EMPTY, or TOO_SHORT, and then `needed` is the room that suffices.
- * The caller owes: `out` and `needed` do not overlap. */
+/* Writes the path of the last step to `out`, which has room for `room` bytes, and its length to `needed`. It is not
+ * zero-terminated. Before the first step and at END the path is empty; at MEMORY nothing is promised about it. Returns
+ * DONE; EMPTY; or TOO_SHORT, and then `needed` is the room required.
+ * The caller promises that `out` and `needed` do not overlap. */
 uint32_t cadmiumdove_walk_path(struct cadmiumdove_walk *walk, char *out, size_t room, size_t *needed);
 
-/* Answers CADMIUMDOVE_LOOK: DONE, EMPTY or NOT_ASKED. A number that is no cadmiumdove_look is MISSING. */
+/* Answers CADMIUMDOVE_LOOK. Returns DONE, EMPTY or NOT_ASKED. A number not in cadmiumdove_look counts as MISSING. */
 uint32_t cadmiumdove_walk_looked(struct cadmiumdove_walk *walk, uint32_t look);
 
-/* Answers CADMIUMDOVE_LIST or CADMIUMDOVE_LIST_NAMES by one entry more, in any order: DONE, OUT_OF_MEMORY, NOT_UTF8,
- * EMPTY, NOT_ASKED or NO_NAME. `is_dir` is also true of a symbolic link to a directory. */
+/* Adds one entry to the answer to CADMIUMDOVE_LIST or CADMIUMDOVE_LIST_NAMES. Entries may come in any order. Returns
+ * DONE, OUT_OF_MEMORY, NOT_UTF8, EMPTY, NOT_ASKED or NO_NAME. Unless DONE is returned, the entries are unchanged.
+ * `is_dir` is also true for a symbolic link to a directory. */
 uint32_t cadmiumdove_walk_entry(struct cadmiumdove_walk *walk, const char *name, size_t length, bool is_dir);
 
-/* Says that the entries were all: DONE, EMPTY or NOT_ASKED. */
+/* Ends the entries of the directory: all were added. Returns DONE, EMPTY or NOT_ASKED. */
 uint32_t cadmiumdove_walk_listed(struct cadmiumdove_walk *walk);
 
-/* Says that the directory could not be listed, for the reason of `code`, as errno has it: DONE, EMPTY or NOT_ASKED. The
- * next step is then CADMIUMDOVE_UNREAD. */
+/* Answers that the directory could not be listed. `code` is the system's error number, as in errno. Returns DONE, EMPTY
+ * or NOT_ASKED. The next step is then CADMIUMDOVE_UNREAD. */
 uint32_t cadmiumdove_walk_unread(struct cadmiumdove_walk *walk, int32_t code);
 
-/* Ends the walk, if there is one, and leaves `walk` empty. It may be in the middle. */
+/* Frees the handle's walk, if there is one, and leaves the handle empty. The walk need not be over. */
 void cadmiumdove_walk_free(struct cadmiumdove_walk *walk);
 
 #ifdef __cplusplus

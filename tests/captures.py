@@ -1,7 +1,8 @@
 #!/usr/bin/env python3
-"""Compares the tokens of patterns, the pieces of texts and how far a text is taken with rows by hand, and with a search
-through all splits by tests/lib/reference.py: for all small patterns and texts, and for longer ones from a seed, under
-each of the options. `glob_vectors answer` answers. The last line counts cases: 'N passed, M failed'."""
+"""Checks the tokens of patterns, the pieces of texts and how far a match gets. `glob_vectors answer` gives the answers.
+They are compared with rows written by hand, and with a search through all splits by tests/lib/reference.py: for all
+small patterns and texts, and for longer ones from a seed, under each option. The last line counts cases: 'N passed, M
+failed'."""
 
 import itertools
 import random
@@ -17,14 +18,14 @@ SMALL, SMALL_TEXT = ["a", "/", ".", "?", "*", "**/", "**", "[!a]", "[A.]"], "a/.
 # Characters of one to four bytes.
 MIXED = ["é", "€", "/", "B", "?", "*", "*", "*", "**/", "**", "[!é]", "[\U0010fffeb]"]
 MIXED_TEXT = "b/.é€\U0010fffe"
-# The longest text, of 16,777,216 bytes, that four tokens are compared with.
+# The longest text that four tokens are matched with, of 16,777,216 bytes.
 LONGEST = "\U0010fffe" * 4_194_304
 FIELDS = ["written", "pieces", "reached"]
 
 
 def small_cases():
-    """Each pattern of up to three tokens with each text of up to three characters; of up to two also with longer
-    ones."""
+    """Each pattern of up to three tokens with each text of up to three characters. Patterns of up to two tokens also
+    get longer texts."""
     for many in range(4):
         for pattern in map("".join, itertools.product(SMALL, repeat=many)):
             for length in range(4 if many == 3 else 5):
@@ -38,8 +39,8 @@ def random_cases(source):
 
 
 def expected(pattern, text, letters):
-    """The fields of an answer: each token's kind and where it is written up to; where each piece ends, or `no`; and the
-    place that is reached, with the tokens that wait there."""
+    """The fields of an answer: the kind of each token and where it ends in the pattern; where each piece ends, or `no`;
+    and the place reached, with the tokens that wait there."""
     tokens = reference.tokens_of(pattern)
     in_bytes = list(itertools.accumulate((len(c.encode()) for c in text), initial=0))
     written = itertools.accumulate(len(token.written.encode()) for token in tokens)

@@ -1,6 +1,6 @@
 #!/usr/bin/env python3
-"""Checks what the pages say of the sources: links, names of files, definitions, clauses and tests, every other name in
-the sources, and code that a page quotes. Prints what is wrong, and last how many checks passed and failed."""
+"""Checks what the pages say about the sources: links, names of files, definitions, clauses, tests and other names, and
+quoted code. Prints what is wrong, and last how many checks passed and failed."""
 
 import functools
 import re
@@ -13,13 +13,13 @@ PATHS = (path.relative_to(ROOT) for path in ROOT.rglob("*.*") if path.is_file())
 FILES = [str(path) for path in PATHS if not {"out", ".git"} & set(path.parts)]
 PAGES = [name for name in FILES if name.endswith(".md")]
 
-# Names on the pages that no source has: those of the original crate, of std and of the toolchain.
+# Names on the pages that are in no source: names of the original crate, of std and of the toolchain.
 OUTSIDE = {"PathWrapper", "once_cell", "read_to_end"}
 
-# What the contracts of std's traits say of their answers.
+# What the contracts of std's traits say about their results.
 ANSWERS_OF_STD = ["eq", "cmp", "hash_input", "output", "is_default"]
 
-# The pages whose blocks of Rust and of proofs are in some source, line after line.
+# The pages whose blocks of Rust and of proofs must be in some source, line by line.
 EXAMPLES = ["README.md", "crates/glob/CALLING.md"]
 
 
@@ -30,7 +30,7 @@ def read(name):
 
 
 def lines_of(text):
-    """The lines without blanks around them, and without those that are empty, documentation or comments of proofs."""
+    """The stripped lines, without empty lines, documentation and comments of proofs."""
     lines = (line.strip() for line in text.split("\n"))
     return "".join(f"{line}\n" for line in lines if line and not line.startswith(("//!", "///", "--")))
 
@@ -42,8 +42,8 @@ def code():
 
 
 def wrong_examples(page):
-    """The blocks of a page that are in no source, or that nothing checks. tests/manual.py runs those of a shell and the
-    calls of the README's block of text; nothing checks other blocks of text. A line of Cargo.toml is tests/rust.sh's."""
+    """The blocks of a page that are in no source, or that nothing checks. tests/manual.py runs shell blocks and the
+    calls in the README's text block; nothing checks other text blocks. tests/rust.sh checks the line for Cargo.toml."""
     blocks = re.findall(r"^```(\w*)\n(.*?)^```$", read(page), re.S | re.M)
     known = ("rust", "antt", "sh", "text", "toml")
     found = [f"nothing checks a block of {kind}" for kind, _ in blocks if kind not in known]
@@ -54,7 +54,7 @@ def wrong_examples(page):
 
 
 def broken_links(page):
-    """The links of a page to files, or to headings of pages, that are not there."""
+    """The links of a page to files or headings that do not exist."""
     found = []
     for link, file, heading in re.findall(r"\]\((([^):#]*)(?:#([^)]*))?)\)", read(page)):
         path = (ROOT / page).parent / file if file else ROOT / page
@@ -64,20 +64,20 @@ def broken_links(page):
 
 
 def headings(path):
-    """The headings of a page as links name them."""
+    """The headings of a page, as anchors of links."""
     lines = re.findall(r"^#+ (.*)$", path.read_text(encoding="utf-8"), re.M)
     return {re.sub(r"[^\w -]", "", line.lower()).replace(" ", "-") for line in lines}
 
 
 def unknown_files(page):
-    """The names of sources on a page that end no path of the repository. One with NAME in it is not looked for."""
+    """The file names on a page with which no path of the repository ends. Names that contain NAME are skipped."""
     text = re.sub(r"```.*?```", "", read(page), flags=re.S)
     names = re.findall(r"`([\w/.]+\.(?:rt|antt|md|py|sh|tsv|txt))`", text)
     return [name for name in names if "NAME" not in name and not any(f"/{file}".endswith(f"/{name}") for file in FILES)]
 
 
 def unknown_definitions(page):
-    """What a page says that a file of definitions has, as `File.antt`: `Name`, and that the file has not."""
+    """The definitions that a page says are in a file, as `File.antt`: `Name`, but are not."""
     found = []
     for file, names in re.findall(r"`([\w/]+\.antt)`: ((?:`\w+`(?:, )?)+)", read(page)):
         texts = [read(name) for name in FILES if f"/{name}".endswith(f"/{file}")]
@@ -88,7 +88,7 @@ def unknown_definitions(page):
 
 
 def clauses_of_calls():
-    """Each function of the sources, with the names of its clauses, and each ghost member of a trait, with none."""
+    """Each function of the sources, with the names of its clauses, and each ghost member of a trait, without names."""
     found = {name: set() for name in ANSWERS_OF_STD}
     for name in FILES:
         if name.endswith(".rt"):
@@ -102,8 +102,8 @@ def clauses_of_calls():
 
 
 def unknown_clauses():
-    """What the tables of docs/DEFINITIONS.md say has a promise, as `Type::call`, `call`: `clause`, `clause`, and that
-    no source has. Before the colon may also be words, and a module with functions after it."""
+    """The clauses in the tables of docs/DEFINITIONS.md, as `Type::call`, `call`: `clause`, `clause`, that are in no
+    source. Before the colon there may also be words, and a module with its functions after the colon."""
     known = clauses_of_calls()
     text = read("docs/DEFINITIONS.md").split("\n## What each premise")[0]
     found = []
@@ -128,13 +128,13 @@ def unnamed_premises():
 
 
 def other_messages():
-    """The messages of faults that the header or the page has not."""
+    """The messages of faults that are missing in the header or the page."""
     messages = re.findall(r'^const \w+: &.* = (".*");$', read("crates/glob_pattern/src/grammar.rt"), re.M)
     return [f"{name}: {it}" for name in ("include/cadmiumdove.h", "page/page.js") for it in messages if it not in read(name)]
 
 
 def unknown_names(page):
-    """The names in the text of a page, such as `some_name` or `SomeName`, that no source has."""
+    """The names in the text of a page, such as `some_name` or `SomeName`, that are in no source."""
     text = re.sub(r"```.*?```", "", read(page), flags=re.S)
     named = {it for it in re.findall(r"`([A-Za-z_][\w-]*)`", text) if re.search(r"[a-z][_A-Z]|_", it)}
     return sorted(named - source_names())
@@ -142,7 +142,7 @@ def unknown_names(page):
 
 @functools.cache
 def source_names():
-    """Each name in a source, and that of each file."""
+    """All names in the sources, and the names of the files."""
     found = set(OUTSIDE)
     for name in FILES:
         if not name.endswith((".md", ".json", ".tsv")):
@@ -152,8 +152,8 @@ def source_names():
 
 
 def unknown_tests():
-    """The tests that the tables of docs/FAULTS.md name and that are not there, or are not one, and the rows of programs
-    that are not there."""
+    """The tests in the tables of docs/FAULTS.md that do not exist or are not unique, and the rows of programs that do
+    not exist."""
     sources = {f"/{name}": read(name) for name in FILES if name.endswith(".rt")}
     tests = [(file, name) for file in sources for name in re.findall(r"#\[test\]\n\s*fn (\w+)\(", sources[file])]
     rows = re.findall(r"^# (.*?)(?: \(\w+\))?$", read("tests/rows/system.txt"), re.M)
@@ -167,8 +167,7 @@ def unknown_tests():
 
 
 def stale():
-    """Whether pages do not say what the reports of the benchmark say, and whether README, or `rt` itself, has another
-    toolchain."""
+    """The pages that differ from the reports of the benchmark, and a README or an `rt` with another toolchain."""
     status, _, errors = run([ROOT / "bench/report.py", "--check"])
     version, toolchain = run(["rt", "version"])[1].strip(), read("TOOLCHAIN").strip()
     found = [errors.strip()] if status else []
@@ -177,7 +176,7 @@ def stale():
 
 
 def other_versions():
-    """The files that do not have the version of the changelog."""
+    """The files whose version is not the changelog's."""
     version = re.search(r"^## (.*)$", read("CHANGELOG.md"), re.M)[1]
     numbers = zip(["_MAJOR", "_MINOR", "_PATCH", ""], [*version.split("."), f'"{version}"'])
     said = {f"man/{name}.1": f' "{name} {version}" ' for name in ("glob_run", "globs")}
@@ -187,7 +186,7 @@ def other_versions():
 
 
 def marks_of_merges():
-    """The files in which a merge left its marks."""
+    """The files with conflict markers of a merge."""
     return [name for name in FILES if re.search(r"^(<{7}|>{7}) ", (ROOT / name).read_text("utf-8", "ignore"), re.M)]
 
 
@@ -203,7 +202,7 @@ def main():
         check(f"{page}: no file", broken_links(page))
         check(f"{page}: no source", unknown_files(page))
         check(f"{page}: no definition", unknown_definitions(page))
-        # A changelog speaks of what was.
+        # A changelog is about the past.
         if page != "CHANGELOG.md":
             check(f"{page}: no source has", unknown_names(page))
     check("docs/DEFINITIONS.md: no clause", unknown_clauses())

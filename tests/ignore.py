@@ -1,11 +1,11 @@
 #!/usr/bin/env python3
-"""Compares ignore lists with git: questions whose answers tests/rows/git.answers keeps, as `glob_vectors rules` reads
-and writes them (of git 2.39, and at the end, each with an R, lists that docs/IGNORE.md says are refused); then random
-lists and trees, and which line decides about each path.
+"""Compares ignore lists with git. First, questions with recorded answers in tests/rows/git.answers, in the format of
+`glob_vectors rules`: answers of git 2.39 and, at the end and marked R, lists that are refused according to
+docs/IGNORE.md. Then random lists and trees, and which line decides for each path.
 
     tests/ignore.py [--seed N] [--lists N]
 
-Prints each difference; docs/IGNORE.md has those that are let pass. The last line counts kept answers and lists: 'N
+Prints each difference, except for those that docs/IGNORE.md lists. The last line counts recorded answers and lists: 'N
 passed, M failed'."""
 
 import argparse
@@ -20,7 +20,7 @@ import tempfile
 from lib.count import ROOT, Count, built, has, run
 from lib.make import grown, place, some
 
-# How many lists one process of git is asked about.
+# The number of lists for one git process.
 BATCH = 400
 
 NAMES = ["a", "b", "c", "ab", "abc", "ba", ".a", ".b", "a.o", "b.o", "A", "1", "x.c", "F", "_", "~", "\n", "\x0b", "a b", "a ", " a",
@@ -90,7 +90,7 @@ def answers(asked):
 
 
 def ours(cases):
-    """The answers of the program: of each list a refusal or the deciding line of each question."""
+    """The answers of the program: for each list a refusal, or the deciding line for each question."""
     asked = [word for text, paths in cases for word in ["L" + text, *("fd"[is_dir] + path for path, is_dir in paths)]]
     lines = iter(answers("\0".join(asked).encode()))
     for _, paths in cases:
@@ -98,21 +98,22 @@ def ours(cases):
         yield first if first.startswith("R ") else [int(first)] + [int(next(lines)) for _ in paths[1:]]
 
 
-# what docs/IGNORE.md says that is refused: an unknown class, a bracket beyond ASCII, stars beside other text, a NUL
+# refused according to docs/IGNORE.md: an unknown class, a bracket beyond ASCII, stars beside other text, a NUL
 REFUSED = re.compile(rf"\[:(?!({'|'.join(CLASSES)}):\])[^\]]*:|\[.*[^\x00-\x7f]|[^/]\*\*|\0")
 
 
-# what docs/IGNORE.md says that git takes for the name of a directory: a**//
+# taken by git for the name of a directory, according to docs/IGNORE.md: a**//
 STARS_AT_END = re.compile(r"[^/]\*\*//\s*$", re.MULTILINE)
 
 
 def is_named(text, path):
-    """The differences that are let pass: git takes a byte where the list takes a character, and `a**//` for `a/`."""
+    """Whether a difference is a known one: git matches a byte where the list matches a character, and takes `a**//` for
+    `a/`."""
     return STARS_AT_END.search(text) or not path.isascii() and any(unit in text for unit in ["?", "[!", "[^"])
 
 
 def compare_refusal(count, text, refusal):
-    """A list that is refused has a line of which docs/IGNORE.md says so."""
+    """A refused list must have a line that is refused according to docs/IGNORE.md."""
     number, reason = refusal.removeprefix("R line ").split(": ", 1)
     count.check(REFUSED.search(text.split("\n")[int(number) - 1]), f"list {text!r}: refused, {reason}")
 

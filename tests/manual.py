@@ -1,7 +1,7 @@
 #!/usr/bin/env python3
-"""Runs each example of the man pages and of the tutorial, and each call of the programs that the README shows. Checks
-the man pages where `mandoc` or `groff` is installed, asks bash, fish and zsh what the completions offer, and installs
-all of it. Prints what is wrong, and last how many checks passed and failed."""
+"""Installs everything; runs each example of the man pages and of the tutorial, and each call of the programs in the
+README; checks the man pages with `mandoc` or `groff`, if installed, and the completions in bash, fish and zsh. Prints
+what is wrong, and last how many checks passed and failed."""
 
 import os
 import re
@@ -15,28 +15,31 @@ README, TUTORIAL = ((ROOT / name).read_text(encoding="utf-8") for name in ("READ
 PROGRAMS = sorted(page.stem for page in ROOT.glob("man/*.1"))
 ROFF = {r"\(aq": "'", r"\(ga": "`", r"\e": "\\", r"\-": "-", r"\&": ""}
 
-# The words of a command line, of which the last is being written, and what is offered for it: by bash, and by fish and
-# zsh where that differs. Neither of them offers `--`, and fish offers options only after a hyphen.
+# Command lines whose last word is incomplete, and the completions that are offered for it: by bash, and by fish and zsh
+# where they differ. Neither of these offers `--`, and fish offers options only after a hyphen.
 COMPLETIONS = [
     ("globs ", "--help --version escape explain find help ignore match"),
     ("globs m", "match"),
     ("globs match -", "-- -0 -d -i -s -v"),
     ("globs match a", ""),
     ("globs explain -", "-- -d -i -s"),
-    ("globs find -", "-- --ignore --max-depth -0 -L -d -i -n -t -x"),
+    ("globs find -", "-- --directory --git --ignore --ignore-files --max-depth -0 -C -L -d -i -n -t -x"),
     ("globs find --m", "--max-depth"),
     ("globs find -t ", "d f"),
     ("globs find -n 5 fo", "folder"),
     ("globs find --ignore fo", "folder"),
+    ("globs find --ignore-files .i", ".ignore"),
+    ("globs find -C fo", "folder"),
     ("globs ignore -0 fo", "folder"),
     ("globs help f", "find"),
 ]
 NO_DASHES = {line: found.removeprefix("-- ") for line, found in COMPLETIONS}
 OTHERS = {"bash": {}, "zsh": NO_DASHES, "fish": NO_DASHES | {"globs ": "escape explain find help ignore match",
-    "globs find -n 5 fo": "folder/", "globs find --ignore fo": "folder/", "globs ignore -0 fo": "folder/"}}
+    "globs find -n 5 fo": "folder/", "globs find --ignore fo": "folder/", "globs find -C fo": "folder/",
+    "globs ignore -0 fo": "folder/"}}
 
-# What a shell does: it reads the file MADE, completes each line of the file ASKED, and writes a line with all that it
-# offers to the file OFFERED.
+# What each shell runs: it reads the file MADE, completes each line of the file ASKED, and writes a line with all
+# completions to the file OFFERED.
 BASH = """
 . "$MADE"
 while IFS= read -r line; do
@@ -93,12 +96,12 @@ def blocks_of(page, kind):
 
 
 def shown(blocks):
-    """The commands after a `$`, each with what it writes."""
+    """The commands after a `$`, each with its output."""
     return [it for block in blocks for it in re.findall(r"^\$ (.*)\n((?:(?!\$ ).*\n)*)", block, re.M)]
 
 
 def examples():
-    """The commands of the man pages, and those of the README's blocks of text."""
+    """The commands of the man pages and of the README's text blocks."""
     text = "".join((ROOT / f"man/{name}.1").read_text(encoding="utf-8") for name in PROGRAMS)
     blocks = re.findall(r"^\.EX\n(.*?)^\.EE$", text, re.M | re.S)
     blocks = [re.sub(r"\\\(..|\\.", lambda it: ROFF[it[0]], block) for block in blocks]
@@ -106,7 +109,7 @@ def examples():
 
 
 def shown_calls():
-    """The calls of the program in the README, each with what it writes, which is listed at the end of its comment."""
+    """The calls of the program in the README, each with its output, which is listed at the end of its comment."""
     calls = [it for block in blocks_of(README, "sh")
         for it in re.findall(r"^(.*bin/glob(?:_run|s) .*?) +# (.*)$", block, re.M)]
     return [(command, comment.split(": ")[-1].replace(", ", "\n") + "\n") for command, comment in calls]
@@ -120,20 +123,20 @@ class Manual:
         (self.folder / "folder").mkdir(parents=True)
 
     def install(self):
-        """All is installed."""
+        """Checks that everything is installed."""
         _ = built("glob_run"), built("globs")
         status, _, errors = run([ROOT / "bin/install", self.prefix])
         files = sorted(str(it.relative_to(self.prefix)) for it in self.prefix.rglob("*") if it.is_file())
         self.count.same(f"bin/install {errors}", (status, files), (0, INSTALLED))
 
     def pages(self):
-        """What checkers say of the man pages."""
+        """Checks the man pages with the tools for it."""
         for words in (["mandoc", "-Tlint", "-Wwarning"], ["groff", "-man", "-ww", "-z"]):
             if has(words[0], "a check of the man pages"):
                 self.count.same(words[0], run([*words, *(self.prefix / page for page in PAGES)]), (0, "", ""))
 
     def completions(self):
-        """What the shells offer, and whether they can read their files."""
+        """Checks the completions that the shells offer, and that they can read their files."""
         for shell, file in MADE.items():
             if has(shell, f"completions of {shell}"):
                 made = self.prefix / file

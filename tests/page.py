@@ -1,8 +1,8 @@
 #!/usr/bin/env python3
-"""Checks the page of docs/page: that it is made of the present sources, and, where Chromium is installed, that it
-answers as `globs explain` does on 200 patterns and lines from a seeded generator, piece by piece, and that it walks a
-tree as `find` does, by the questions, answers and units of work of tests/lib/reference.py, also within limits. It drives
-the page's own fields in a headless browser, without a network. Its last line is 'N passed, M failed'."""
+"""Checks the page in docs/page. It must be made from the current sources. If Chromium is installed, the page is also
+driven by its own fields in a headless browser, without a network: for 200 patterns and lines from a seeded generator it
+must show what `globs explain` does, piece by piece; and it must walk a tree with the questions, answers and units of
+work of tests/lib/reference.py, also within limits. The last line is 'N passed, M failed'."""
 
 import itertools
 import json
@@ -21,13 +21,14 @@ PAGE = ROOT / "docs/page/index.html"
 CASES = 200
 TREE = ["src/main.rs", "src/walk/lines.rs", "src/walk/_x.rs", "src/walk/.hidden.rs", "src/empty/", "docs/A.md", "README.md"]
 WALKS = ["*", "**", "src/**/[!_]*.rs", "**/*.rs", "*/", "src/*/*", "docs/A*.md", "missing/*", "**/empty", "[R-S]*"]
-# In units. No walk takes as many as the first; the others cut walks at questions and in listings.
+# Limits in units. No walk needs as many as the first; the others cut walks off at questions and in listings.
 NO_LIMIT, *LIMITS = 1000, 0, 1, 2, 4, 7, 12
 DONE = "done"
-# A walk that is refused, since a component has a fault and the whole has none; and a tree with a path that is none.
+# A walk that is refused because a component has a fault, though the whole pattern has none; and a tree with an invalid
+# path.
 REFUSED_WALK, NO_TREE, NO_PATH = "a[/]b", ["a/b", "../c"], "/../"
 
-# What is added to a copy of the page: it fills the fields, and writes down what the page then shows.
+# A driver, added to a copy of the page: it fills the fields, and records what the page then shows.
 DRIVER = """<script>
 async function drive(cases, walks, tree, refusedWalk, noTree) {
   await ready;
@@ -76,8 +77,8 @@ def cases():
 
 
 def expected(pattern, flags, line):
-    """What the page has to show: a fault; or that the line matches, and the pieces, those of neighbouring characters as
-    one; or that it does not, and after how many characters it stops."""
+    """What the page must show: a fault; or that the line matches, with the pieces, those of adjacent characters joined;
+    or that it does not, and after how many characters it stops."""
     options = [word for i, word in enumerate(("-i", "-s", "-d")) if flags & (1 << i)]
     status, out, error = run([built("globs"), "explain", *options, "--", pattern, line])
     if status == 2:
@@ -94,8 +95,8 @@ def expected(pattern, flags, line):
 
 
 def charged(marks, limit):
-    """What a walk does within a limit, each with the units that were charged by then: units of work, items, the refusal of
-    a unit, and the end."""
+    """The events of a walk within a limit, each with the units charged by then: units of work, items, a refused unit,
+    and the end."""
     spent = 0
     for mark in marks:
         if mark[0] == WORK and spent == limit:
@@ -112,15 +113,16 @@ def question_of(said):
 
 
 def entries_of(asked, reply):
-    """The entries of a directory that are answered, in order: names, or with a / after those of directories."""
+    """The entries in the answer for a directory, in order: names, with a / after those of directories if they are asked
+    for."""
     if asked == "What is at" or reply == "no entries":
         return []
     return sorted(it.removesuffix("/") if asked == "Which names are in" else it for it in reply.split("  "))
 
 
 def charged_by(steps, limit):
-    """What `charged` gives, by the steps that the page shows. A question is charged before its answer, and each entry of
-    that after it, as far as the limit goes."""
+    """The events of `charged`, from the steps that the page shows. A question is charged before its answer, and each
+    entry of the answer after it, up to the limit."""
     for sort, said, units, *reply in steps:
         spent = int(units.split()[0])
         if sort == "question":
@@ -136,7 +138,7 @@ def charged_by(steps, limit):
 
 
 def reply_of(folder, asked, path):
-    """What the page has to answer to a question, by the disk."""
+    """What the page must answer to a question, according to the disk."""
     at = Path(folder, path)
     if asked == "What is at":
         return "a directory" if at.is_dir() else "no directory" if at.exists() else "nothing"
@@ -162,7 +164,7 @@ def check_walk(count, folder, walk, steps):
 
 
 def shown(browser, made, walks):
-    """What the page shows of cases, of walks and of what it refuses to walk, by a copy of it with the driver."""
+    """What a copy of the page with the driver shows for cases, walks and refused walks."""
     flagged = [(pattern, sum(1 << "isd".index(letter) for letter in letters), limit) for pattern, letters, limit in walks]
     asked = json.dumps([made, flagged, TREE, REFUSED_WALK, NO_TREE])[1:-1].replace("<", "\\u003c")
     with tempfile.TemporaryDirectory() as folder:

@@ -1,6 +1,6 @@
 #!/usr/bin/env python3
-"""Runs `glob_run` and `globs` as they were built: replays the tables of tests/rows and the rows of glob_run's own test,
-and has each request for memory refused in turn. Prints each row that fails, and last 'N passed, M failed'."""
+"""Runs the built `glob_run` and `globs`: replays the tables of tests/rows and the rows of glob_run's own test, and
+makes each allocation fail in turn. Prints each row that fails, and last 'N passed, M failed'."""
 
 import codecs
 import os
@@ -24,7 +24,7 @@ def decoded(text):
 
 
 class Programs:
-    """The folder of both programs and of all that is made for them."""
+    """Both programs, and the folder for what is made for them."""
 
     def __init__(self, folder):
         self.work, self.count = folder, Count()
@@ -45,8 +45,8 @@ class Programs:
     # Tables
 
     def tables(self):
-        """A row is WORDS|INPUT|STATUS|OUTPUT|ERRORS, with a blank between each two words; words alone are a usage
-        fault. A line that begins with + has the paths that are made; alone it stands for an empty folder. # begins a
+        """A row is WORDS|INPUT|STATUS|OUTPUT|ERRORS, with a blank between words; a row with only words is a usage
+        fault. A line that begins with + has the paths to make; a + alone stands for an empty folder. # begins a
         comment."""
         self.replay("glob_run", self.rows_of_test(), self.row)
         for program, table, row in (
@@ -61,8 +61,8 @@ class Programs:
             self.replay(program, (ROWS / f"{table}.txt").read_text(encoding="utf-8").splitlines(), row)
 
     def rows_of_test(self):
-        """The rows of glob_run's test, but for failing streams, directories that cannot be listed, and absolute
-        paths."""
+        """The rows of glob_run's test, except for those with failing streams, directories that cannot be listed, or
+        absolute paths."""
         text = (ROOT / "crates/glob_run/src/tests/rows.rt").read_text(encoding="utf-8")
         is_left_out = False
         for line in re.search(r'ROWS: &str = "\n(.*?)^";', text, re.S | re.M)[1].splitlines():
@@ -90,7 +90,7 @@ class Programs:
         self.count.same(f"{program} {words}", found, (int(status), decoded(output), decoded(errors)))
 
     def finds(self, program, folder, fields):
-        """PATTERNS|PATHS: what find writes for each pattern, as it is and below the absolute path of the folder."""
+        """PATTERNS|PATHS: what find writes for each pattern, relative and below the absolute path of the folder."""
         for pattern in fields[0].split():
             for front in ("", f"{folder}/"):
                 lines = "".join(f"{front}{path}\n" for path in fields[1].split())
@@ -98,8 +98,8 @@ class Programs:
                 self.count.same(f"find {front}{pattern}", found, (int(not lines), lines.encode(), b""))
 
     def advises(self, program, _folder, fields):
-        """PATTERN|LINE: the last line that explain writes for a text that does not match. Without LINE it says nothing
-        of what to write."""
+        """PATTERN|LINE: the last line that explain writes for a text that does not match. Without LINE it gives no
+        advice."""
         status, output, errors = self.run(program, ["explain", "--", decoded(fields[0]), b"\1\1/\1"])
         last = output.splitlines()[-1] if output else b""
         is_right = last == decoded(fields[1]) if len(fields) > 1 else output and not last.startswith(b"write")
@@ -130,7 +130,7 @@ class Programs:
     # Help
 
     def pages(self):
-        """The pages of help have lines of at most 100 bytes."""
+        """Checks that lines of help pages have at most 100 bytes."""
         for name in ("", "find", "match", "ignore", "explain", "escape"):
             status, page, _ = self.run("globs", ["help", *name.split()])
             is_short = all(len(line) <= 100 for line in page.splitlines())
@@ -139,9 +139,9 @@ class Programs:
     # Memory
 
     def refused(self):
-        """With ample memory a program ends with a status. Then each of its requests for memory is refused in turn: it
-        ends in the same way, or with status 2, a line that ends in `out of memory`, and the first lines of the output,
-        each whole. No block is left."""
+        """Runs a program with ample memory, and then again with each of its allocations failing in turn: it must end
+        the same way, or with status 2, a line that ends in `out of memory`, and the first lines of the output, each
+        whole. No block may leak."""
         if not has("gcc", "each request for memory"):
             return
         library, folder = self.work / "refusing.so", self.folder()
@@ -161,7 +161,8 @@ class Programs:
             self.count.check(not wrong, f"each request is refused: {program} {words}: {wrong[:3]}")
 
     def scarce(self, library, request, program, words, text, folder):
-        """The program, whose request of a number is refused; how many there were, and how many blocks are left."""
+        """Runs the program with one allocation failing. Returns also how many allocations there were and how many
+        blocks leaked."""
         counted = self.work / "counted"
         env = {"REFUSED": str(request), "COUNTED": str(counted), "LD_PRELOAD": str(library)}
         found = self.run(program, words, text, folder, **env)
@@ -180,6 +181,8 @@ REFUSED = [
     (2, "glob_run", "find", "a**b"),
     (0, "globs", "find", "-x", "target", "-x", ".git", "**/*.rs"),
     (0, "globs", "find", "--ignore", "rules", "*"),
+    (0, "globs", "find", "--git", "--ignore-files", "rules", "**"),
+    (0, "globs", "find", "-C", "src", "-x", "a", "**/*.rs"),
     (0, "globs", "ignore", "rules"),
     (2, "globs", "ignore", "beyond"),
     (0, "globs", "match", "*.{o,c}"),
@@ -202,7 +205,7 @@ def main():
         programs.pages()
         programs.refused()
     finally:
-        # Some of it is shut, or deeper than Python's own way to remove a folder can go.
+        # Parts are unreadable, or too deep for Python's own removal of folders.
         subprocess.run(f"chmod -R u+rwx {work}; rm -r {work}", shell=True, check=True)
     programs.count.end()
 

@@ -1,8 +1,7 @@
 #!/usr/bin/env python3
-"""Compares answers on random input: those of `glob_vectors answer`, of the Rust crate, of the original crate, where its
-Debian package librust-glob-dev is installed, and of tests/lib/reference.py: matches under each setting of the options,
-sets of patterns, and walks of trees with links and directories that cannot be listed, with their units of work and
-within limits.
+"""Compares the answers on random input of `glob_vectors answer`, the Rust crate, the original crate, if its Debian
+package librust-glob-dev is installed, and tests/lib/reference.py: matches under all options, sets of patterns, and
+walks over trees with links and directories that cannot be listed, with their units of work and within limits.
 
     tests/random_input.py [--rounds N] [--seed N]
 
@@ -24,18 +23,18 @@ from lib.reference import FOUND, REFUSED, UNREAD
 from lib.sides import MAY_SHUT, as_user, ask, built_over, original
 
 PATTERNS, TEXTS, SETS, TREES = 1000, 4, 20, 30
-# One of so many patterns is also compared with the reference, which is slower.
+# One in this many patterns is also compared with the reference, which is slower.
 RULES_IN = 4
 # Of a set at most, of a set that looks patterns up, how many sets do, texts for a set, and how many of them make one.
 SET_PATTERNS, KEYED_PATTERNS, SHARE_WITH_KEYS, SET_TEXTS, DEEP = 70, (64, 400), 0.2, 100, 40
 SHARE_WITH_LIMIT, HIGHEST_LIMIT, NO_LIMIT = 0.3, 30, 2**64 - 1
-# One walk in so many is repeated within each limit, if it charges at most so many units.
+# One walk in this many is repeated within each limit, if it charges at most this many units.
 EACH_LIMIT_IN, MOST_UNITS = 16, 120
-# How many cases of each kind there are at least in 20 rounds.
+# The least number of cases of each kind in 20 rounds.
 LEAST = {"matches": 150_000, "no matches": 200_000, "refused patterns": 2000, "sets": 200, "sets with keys": 40}
 LEAST |= {"refused walks": 100}
 LEAST |= {"empty": 400, "limited": 400, "unread": 100, "found": 1500, "each limit": 150}
-# So far below a folder of our own that no pattern leads out of it by `..`.
+# Deep enough in a folder of our own that no pattern leaves it by `..`.
 BELOW = "1/2/3/4/5/6"
 
 
@@ -49,14 +48,14 @@ def matches_by_rules(pattern, texts):
 
 
 def set_field(numbers):
-    """What a set is to say of a text that the patterns of these numbers match."""
+    """What a set must answer for a text that the patterns with these indices match."""
     ends = f"true Some({numbers[0]}) Some({numbers[-1]})" if numbers else "false None None"
     return f"\t{ends} {numbers}"
 
 
 def items_of(answer):
-    """The units and items of a walk, or no units and the fault. What cannot be listed is shut: that kind is left
-    out."""
+    """The units and items of a walk, or no units and the fault. A directory that cannot be listed is always shut, so
+    that kind is left out."""
     word, *rest = answer.split("\t")
     return (int(rest[0]), [it.removesuffix(":PermissionDenied") for it in rest[1:]]) if word == "ok" else (None, rest)
 
@@ -85,7 +84,7 @@ class Comparer:
             self.kinds["no matches"] += letters.count("n")
 
     def sets(self, source):
-        """Sets are to match what their patterns match."""
+        """Checks that sets match what their patterns match."""
         ours, _ = self.sides["ours"]
         for _ in range(SETS):
             keyed = source.random() < SHARE_WITH_KEYS
@@ -112,8 +111,8 @@ class Comparer:
     # Walks
 
     def walks(self, source):
-        """Some walks of a random tree, from its top or a directory of it, by all sides, of which ours alone counts units
-        and knows limits."""
+        """Compares some walks of a random tree by all programs, from its top or a directory in it. Only ours counts
+        units and has limits."""
         tree = make.tree(source, MAY_SHUT, source.choice([make.few_name, make.few_name, make.name]))
         top = self.above / "tree"
         tree.build(top)
@@ -132,7 +131,7 @@ class Comparer:
         tree.remove(top)
 
     def marks(self, pattern, letters, folder, rules):
-        """What a walk does by the rules, or None where its pattern is refused."""
+        """The marks of a walk by the rules, or None if its pattern is refused."""
         return None if reference.walk_fault(pattern) else list(reference.Walk(pattern, letters, folder, rules).marks())
 
     def limits(self, source, name, marks):
@@ -162,7 +161,7 @@ class Comparer:
 
 
 def sides_in(folder):
-    """The programs that are asked, each with the rules by which it walks."""
+    """The programs to compare, each with the rules by which it walks."""
     sides = {"ours": ([shutil.copy(built("glob_vectors"), folder), "answer"], reference.OURS)}
     if not has("cargo", "random input to the Rust crate"):
         return sides
@@ -186,7 +185,7 @@ def main():
     os.umask(0o022)
     print(f"--seed {options.seed}", flush=True)
     with tempfile.TemporaryDirectory() as work, tempfile.TemporaryDirectory(dir="/dev/shm") as base:
-        # The user by whom programs are run may not reach the repository.
+        # The user who runs the programs may have no access to the repository.
         os.chmod(work, 0o755), os.chmod(base, 0o755)
         comparer = Comparer(Path(base), sides_in(Path(work)))
         for seed in range(options.seed, options.seed + options.rounds):

@@ -1,4 +1,4 @@
-"""How each part runs programs, and what it counts and says."""
+"""How tests run programs, count checks and report failures."""
 
 import shutil
 import subprocess
@@ -17,29 +17,29 @@ class Count:
         self.passed = self.failed = 0
 
     def check(self, is_right, what):
-        """One more check. Of those that fail the first are printed, each with what is wrong."""
+        """Counts a check. The first failures are printed, each with what is wrong."""
         self.passed += bool(is_right)
         self.failed += not is_right
         if not is_right and self.failed <= MOST_SHOWN:
             print(f"failed: {what}", flush=True)
 
     def same(self, name, found, wanted):
-        """One more check, which passes if what was found is what is wanted."""
+        """Counts a check, which passes if `found` equals `wanted`."""
         self.check(found == wanted, f"{name}: {found} in place of {wanted}")
 
     def end(self):
-        """Prints the sum, and ends the program."""
+        """Prints the totals, and ends the program."""
         print(f"{self.passed} passed, {self.failed} failed")
         sys.exit(self.failed > 0)
 
 
 def left_out(what):
-    """Says what is not run."""
+    """Reports what is skipped."""
     print(f"left out: {what}", flush=True)
 
 
 def has(tool, what):
-    """Where a tool is. If it is nowhere, says that what needs it is not run."""
+    """The path of a tool. If it is not installed, reports that what needs it is skipped."""
     return shutil.which(tool) or left_out(f"{what}, since there is no {tool}")
 
 
@@ -51,7 +51,7 @@ def is_built(name):
 
 @cache
 def built(name):
-    """A program that `rt ci` built. Where it is not newer than its sources, all ends with a line that says so."""
+    """A program that `rt ci` built. If it is older than its sources, everything ends with a line that says so."""
     if not is_built(name):
         sys.exit(f"{name} is not built from these sources: `rt ci` builds it")
     return ROOT / f"crates/{name}/out/{name}"

@@ -9,30 +9,31 @@ from pathlib import Path
 
 from lib.reference import LEXEME, escaped, join
 
-# Of what patterns and texts are made. Few characters, so that they meet. Some lie where case or a range may err: beside
-# the letters of ASCII, and beyond ASCII where another case has more or fewer bytes, or is a letter of ASCII.
+# The characters of patterns and texts. They are few, so that matches are common. Some test the edges of case and
+# ranges: the neighbours of the ASCII letters, and characters beyond ASCII whose other case has more or fewer bytes, or
+# is an ASCII letter.
 ALPHABETS = ["ab", "aAbB", "ab/.", "aB/.-", "aéÉ𝒳/", "@AZ[`az{", "kK\u212asS\u017f", "09-!]^", "ab*?[]!-"]
 ALPHABETS += ["\u0301e\x01\x7f{,}\\"]
 SPECIAL = "[]!*?-/."
-# Stars for which the crate, which tries one way after another, still ends soon.
+# The most stars with which the crate, which backtracks, still ends soon.
 STARS, STARS_OF_LONG_PATTERN = 4, 2
 LONGEST_SHORT = 12
-# Around the numbers of units that fill a word of the matcher.
+# Near the numbers of lexemes that fill a machine word of the matcher.
 LONG = (60, 130)
 
 NAME_PIECES = [*"aaabbABB...-![]*?éÉ𝒳", "ab", "a.b", "..", "[a]", "[!a]", "**"]
 NODES = 24
 DEEPEST = 5
 
-# A few names, and components for them: those that come more often are here more often. Some have a fault, and no plain one
-# has.
+# A few names, and components for them. Frequent ones are listed repeatedly. Some have a fault, but none of the plain
+# ones has.
 FEW_NAMES = ["a", "b", "ab", "A", ".a", ".b", "a.b", "é", "-"]
 FEW_COMPONENTS = ["**"] * 4 + ["*"] * 3 + ["?", "a", "a*", "*b", ".*", ".?", "[ab]", "[!a]*", ".", "..", "", "A", ".a"]
 FEW_COMPONENTS += ["é", "a[b]", "[b", "]*", "é**", "***", "??", "*.*", "[!.]*", "[.]*", "*[ab]", ".[.]", "*a*b*"]
 PLAIN_COMPONENTS = ["**"] * 4 + ["*"] * 4 + ["?"] * 2 + ["a", "b", "a*", "*b", "[ab]", "[!a]*", "*.*", ".a", ".*"]
 PLAIN_COMPONENTS += [".[a-z]", "é"]
 
-# Components and extensions begin with these where a set looks its patterns up.
+# The beginnings of components and extensions by which a set looks up its patterns.
 WORDS = ["src", "Lib", "main", "node_", "a", "é", "отчёт", "文書"]
 KEYED = ["{0}/**", "**/{0}", "**/{0}/**", "{0}", "b/{0}*", "**/{0}?", "*.{0}", "**/*.{0}", "b/*.{0}", "{0}.[ab]", "*{0}"]
 KEYED += ["*-{0}.js", "**/{0}-*", "*{0}/x"]
@@ -41,18 +42,18 @@ KEYED_TEXTS += ["a-{0}.js", "b/{0}-a", "{0}/x"]
 
 # In a pattern, the path of the folder that the tree's folder, `tree`, is in.
 ABOVE = "\0"
-# The modes of directories that cannot be listed, with what is left to do there: nothing, or to look names up.
+# The modes of directories that cannot be listed: in one nothing is possible, in the other names can be looked up.
 MODES = [0, 0o111]
 SETTINGS = ["", "d", "s", "sd", "i", "id", "is", "isd"]
 
 
 def some(source, least, most, pieces):
-    """A text of so many pieces."""
+    """A text of `least` to `most` pieces."""
     return "".join(source.choices(pieces, k=source.randint(least, most)))
 
 
 def bracket(source, alphabet):
-    """A bracket with characters and ranges; now and then one that is not closed."""
+    """A bracket with characters and ranges, now and then unclosed."""
     entries = []
     for _ in range(source.choice([1, 1, 1, 2, 2, 3, 4])):
         first, last = source.choice(alphabet), source.choice(alphabet)
@@ -68,13 +69,13 @@ def lexeme(source, alphabet):
 
 
 def with_few_stars(pattern, most):
-    """The pattern, with an `a` in the place of each further run of stars."""
+    """The pattern with every run of stars after the first `most` replaced by an `a`."""
     runs = itertools.count(1)
     return re.sub(r"\*+", lambda found: found[0] if next(runs) <= most else "a", pattern)
 
 
 def pattern(source, alphabet):
-    """A pattern. Many are no patterns, since they have a fault."""
+    """The text of a pattern. Many have a syntax error."""
     if source.random() < 0.02:
         length, stars = source.randint(*LONG), STARS_OF_LONG_PATTERN
     else:
@@ -83,7 +84,7 @@ def pattern(source, alphabet):
 
 
 def piece(source, alphabet, found):
-    """What a unit of a pattern may be."""
+    """A text that a lexeme of a pattern may match."""
     if found == "**/":
         return source.choice(["", "", "a/", "a/b/", ".a/", "/"])
     if found[0] == "*":
@@ -96,8 +97,8 @@ def piece(source, alphabet, found):
 
 
 def text(source, alphabet, lexemes):
-    """A text. Half of them are such that a pattern of these lexemes may match, and some of those but for a character
-    that is taken out, put in or replaced."""
+    """A text. Half of the texts may match a pattern of these lexemes; some of those then have a character removed,
+    inserted or replaced."""
     if source.random() < 0.4:
         return some(source, 0, 6, alphabet + "/.")
     found = "".join(piece(source, alphabet, it) for it in lexemes)
@@ -108,7 +109,7 @@ def text(source, alphabet, lexemes):
 
 
 def keyed_case(source, texts):
-    """A pattern that many sets find by a component, its beginning or an extension, and texts that may have it."""
+    """A pattern that many sets look up by a component, its beginning or an extension, and texts that may have that."""
     word = source.choice(WORDS) + str(source.randint(0, 99))
     said = [word.swapcase() if source.random() < 0.1 else word for _ in range(texts)]
     return source.choice(KEYED).format(word), [source.choice(KEYED_TEXTS).format(it) for it in said]
@@ -123,7 +124,7 @@ def match_case(source, texts):
 
 
 def name(source):
-    """A name of any pieces."""
+    """A name of arbitrary pieces."""
     found = "".join(source.choices(NAME_PIECES, k=source.choice([1, 1, 2, 2, 3])))
     return found if found not in (".", "..") else "a"
 
@@ -146,7 +147,7 @@ def place(folder, paths):
 
 
 def grown(source, nodes, name, share=0.5):
-    """The paths of a tree, each after the directory that it is in, with whether it is a directory itself."""
+    """The paths of a tree, each after its directory, and whether each is a directory."""
     found = {}
     for _ in range(nodes):
         above = [path for path, is_dir in found.items() if is_dir and path.count("/") + 1 < DEEPEST]
@@ -156,14 +157,13 @@ def grown(source, nodes, name, share=0.5):
 
 @dataclass(frozen=True)
 class Tree:
-    """What is below a folder: paths, each with what `place` wants behind it, and the modes of directories that cannot be
-    listed."""
+    """A tree below a folder: paths as `place` takes them, and the modes of directories that cannot be listed."""
 
     ends: dict
     modes: dict
 
     def build(self, folder):
-        """Makes all in a folder."""
+        """Makes the tree in a folder."""
         place(folder, [path + end for path, end in self.ends.items()])
         for path, mode in self.modes.items():
             os.chmod(os.path.join(folder, path), mode)
@@ -181,7 +181,8 @@ class Tree:
 
 
 def links(source, directories, files, name):
-    """Links: to a file or a directory without links, to nothing, and to themselves. So none leads around in a cycle."""
+    """Links to a file, to a directory without links, to nothing, and to themselves. So no walk through them goes in a
+    cycle."""
     targets = [path for path in directories if source.random() < 0.5]
     inner = tuple(f"{target}/" for target in targets)
     places = [path for path in ["", *directories] if not f"{path}/".startswith(inner)]
@@ -193,7 +194,7 @@ def links(source, directories, files, name):
 
 
 def tree(source, may_shut, name=name):
-    """A tree of directories, files, links and, where it can be made, a directory that cannot be listed."""
+    """A tree of directories, files, links and, if `may_shut`, a directory that cannot be listed."""
     found = grown(source, source.randint(1, NODES), name)
     directories = [path for path, is_dir in found.items() if is_dir]
     files = [path for path, is_dir in found.items() if not is_dir]
@@ -223,7 +224,7 @@ def component(source, own):
 
 
 def walk_pattern(source, paths):
-    """A pattern by the path of something that is there, with its components widened."""
+    """A pattern made from an existing path, with its components widened."""
     parts = [component(source, own) for own in source.choice(paths or ["a"]).split("/")]
     if source.random() < 0.4:
         parts.insert(source.randint(0, len(parts)), source.choice(["**", "**", "*", ".", "..", ".*"]))

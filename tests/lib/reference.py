@@ -1,6 +1,6 @@
-"""The rules of docs/DEFINITIONS.md once more, in the plainest form: which texts are patterns, which characters a token
-takes, how it splits a text, and what a walk of a disk gives and charges. Options are letters: i for
-case-insensitive, s for the separator rule, d for the dot rule."""
+"""The rules of docs/DEFINITIONS.md, implemented once more as simply as possible: which texts are valid patterns, which
+characters a token matches, how tokens split a text, and what a walk over a disk gives and charges. Options are letters:
+i for case-insensitive, s for the separator rule, d for the dot rule."""
 
 import functools
 import itertools
@@ -10,7 +10,8 @@ from dataclasses import dataclass
 
 LEXEME = re.compile(r"\*+|\?|\[!.[^]]*\]|\[[^!][^]]*\]|.", re.S)
 TOKEN = re.compile(r"(?:\*\*/)*\*\*\Z|(?:\*\*/)+|" + LEXEME.pattern, re.S)
-# A unit of work, a path, a directory that cannot be listed, and a limit's refusal: each is written before its path.
+# The marks of a walk: a unit of work, a path, a directory that cannot be listed, and a reached limit. Each is written
+# before its path.
 WORK, FOUND, UNREAD, REFUSED = ".", "=", "!", "^"
 
 
@@ -18,7 +19,7 @@ WORK, FOUND, UNREAD, REFUSED = ".", "=", "!", "^"
 
 
 def stars_fault(text, at, stars):
-    """The place and the message of what is wrong with so many stars there, or None."""
+    """The place and the message of the fault of `stars` stars at a place, or None."""
     after = at + stars
     recursive = "recursive wildcards must form a single path component"
     if stars > 2:
@@ -29,7 +30,7 @@ def stars_fault(text, at, stars):
 
 
 def fault_of(text):
-    """The place and the message of the first fault of a text, or None where the grammar accepts it."""
+    """The place and the message of the first fault of a text, or None if it is a valid pattern."""
     for found in LEXEME.finditer(text):
         fault = stars_fault(text, found.start(), len(found[0])) if found[0][0] == "*" else None
         if fault or found[0] == "[":
@@ -38,7 +39,7 @@ def fault_of(text):
 
 
 def escaped(text):
-    """The pattern of a text alone."""
+    """The pattern that matches a text literally."""
     return re.sub(r"[][?*]", r"[\g<0>]", text)
 
 
@@ -48,13 +49,14 @@ def components_of(pattern):
 
 
 def walk_fault(pattern):
-    """The fault for which a walk refuses a pattern: that of the whole, or of its first component with one. Or None."""
+    """The fault for which a walk refuses a pattern: that of the whole pattern or else of the first component with one;
+    or None."""
     return next(filter(None, map(fault_of, [pattern, *components_of(pattern)])), None)
 
 
 @dataclass(frozen=True)
 class Token:
-    """A token as it is written, its kind, and the ranges that a bracket lists."""
+    """A token: its text, its kind, and the ranges of a bracket."""
 
     written: str
     kind: str
@@ -63,14 +65,14 @@ class Token:
 
 
 def ranges_of(content):
-    """The ranges of a bracket. A single character is one from itself to itself."""
+    """The ranges of a bracket. A single character is a range from itself to itself."""
     found = re.findall(r"(.)-(.)|(.)", content, re.S)
     return tuple((first, last) if first else (single, single) for first, last, single in found)
 
 
 @functools.cache
 def tokens_of(pattern):
-    """The tokens of a pattern without a fault. Neighbouring `**` are one."""
+    """The tokens of a valid pattern. Adjacent `**` are one token."""
     found = TOKEN.findall(pattern)
     made = []
     for number, it in enumerate(found):
@@ -99,7 +101,7 @@ def holds(first, last, c, letters):
 
 
 def takes(token, text, place, letters):
-    """Whether a token takes the character at the place."""
+    """Whether a token matches the character at the place."""
     c = text[place]
     is_listed = any(holds(*it, c, letters) for it in token.ranges)
     if token.kind == "literal":
@@ -113,7 +115,7 @@ def takes(token, text, place, letters):
 
 @functools.lru_cache(100_000)
 def taken(token, text, letters):
-    """For each place, up to where the token takes all characters from there on."""
+    """For each place, the end of the characters from there on that the token matches."""
     found = [len(text)] * (len(text) + 1)
     for place in reversed(range(len(text))):
         found[place] = found[place + 1] if takes(token, text, place, letters) else place
@@ -122,7 +124,7 @@ def taken(token, text, letters):
 
 @functools.lru_cache(100_000)
 def ends(token, text, letters):
-    """For each place, where a piece of the token that starts there may end, in order."""
+    """For each place, where a piece of the token that starts there may end, in ascending order."""
     found = []
     for start, most in enumerate(taken(token, text, letters)):
         if token.kind in ("*", "**"):
@@ -134,7 +136,7 @@ def ends(token, text, letters):
 
 
 def fronts(tokens, text, letters):
-    """For each number of first tokens, up to which places they take the text."""
+    """For each number of tokens from the start, the places up to which they match the text."""
     found = [{0}]
     for token in tokens:
         found.append({end for start in found[-1] for end in ends(token, text, letters)[start]})
@@ -147,8 +149,8 @@ def matches(pattern, text, letters):
 
 
 def shortest(tokens, text, letters, start=0):
-    """Where the pieces of the tokens end in the first split, where splits with a shorter first piece are before others,
-    then those with a shorter second one, and so on; or None."""
+    """Where the pieces of the tokens end in the first split, or None. Splits are ordered by the length of the first
+    piece, then of the second, and so on, shorter before longer."""
     if not tokens:
         return [] if start == len(text) else None
     for end in ends(tokens[0], text, letters)[start]:
@@ -159,9 +161,9 @@ def shortest(tokens, text, letters, start=0):
 
 
 def reached(tokens, text, letters):
-    """The last place up to which some first tokens take the text, and the numbers of the tokens that wait there: those
-    before it take the text up to there, or up to where it takes all characters from, if its piece may have any
-    number."""
+    """The last place up to which some tokens from the start match the text, and the indices of the tokens that wait
+    there. A token waits if those before it match the text up to there; one that matches any number of characters also
+    waits if it matches all characters from where those end up to there."""
     found = fronts(tokens, text, letters)
     place = max(itertools.chain(*found))
     waiting = []
@@ -178,7 +180,7 @@ def reached(tokens, text, letters):
 
 @dataclass(frozen=True)
 class Rules:
-    """What releases of the crate have otherwise in a walk."""
+    """How the walks of some releases of the crate differ."""
 
     drops_dotted: bool = False  # under the dot rule no wildcard finds a dotted name, not even `.*`
     enters_dotted: bool = False  # under the dot rule `**` finds and enters dotted directories
@@ -197,8 +199,8 @@ def child(path, name):
 
 
 class Walk:
-    """A walk by the components of a pattern, from a folder. It yields marks: items, and units of work, each before what
-    is done for it."""
+    """A walk by the components of a pattern, from a folder. It yields marks: items, and units of work, each before its
+    work is done."""
 
     def __init__(self, pattern, letters, folder, rules=OURS):
         self.folder, self.letters, self.rules = folder, letters, rules
@@ -265,8 +267,8 @@ class Walk:
 
 
 def within(marks, limit):
-    """The items of a walk within a limit, and how many units of work it charges. The refusal comes at the path of the
-    first unit that does not fit."""
+    """The items of a walk within a limit, and the units of work charged. The limit is reported at the path of the first
+    unit beyond it."""
     items, spent = [], 0
     for mark in marks:
         if mark[0] != WORK:

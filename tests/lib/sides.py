@@ -1,4 +1,4 @@
-"""The programs that answer the same cases, line by line, and the user by whom they are run."""
+"""The programs that answer the same cases, line by line, and the user who runs them."""
 
 import os
 import re
@@ -14,7 +14,7 @@ SECONDS = 600
 
 
 def unprivileged_user():
-    """The user by whom programs are run, which is nobody in the place of root, and whether a directory can be shut."""
+    """The user who runs the programs, nobody instead of root, and whether a directory can be made unreadable for it."""
     if os.geteuid() != 0:
         return None, True
     try:
@@ -40,7 +40,7 @@ def as_user():
 
 
 def ask(words, lines, folder=None):
-    """An answer for each line. Where a folder is given, its user asks from there."""
+    """An answer for each line. If a folder is given, the program runs there as that user."""
     how = {"cwd": folder, **AS_USER} if folder else {}
     asked = "".join(f"{line}\n" for line in lines).encode()
     status, output, errors = run(words, input=asked, timeout=SECONDS, text=False, **how)
@@ -57,8 +57,8 @@ def original():
 
 
 def built_over(crate, sources, folder):
-    """Builds the programs of a package in a folder, over the crate in another one, and gives the folder of the programs.
-    Cargo asks no registry."""
+    """Builds the programs of a package in a folder, with the crate from another folder, and returns the folder of the
+    programs. Cargo runs offline."""
     shutil.copytree(sources, folder)
     manifest = folder / "Cargo.toml"
     package = 'package = "cadmiumdove", ' if crate == ROOT / "rust" else ""

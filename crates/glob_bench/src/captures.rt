@@ -1,4 +1,4 @@
-//! Times captures beside matches, in turn.
+//! Times captures and matches, in turn.
 
 use crate::timing::count_matches;
 use crate::words::{lines_of, number_of, options_of, read_pattern, unusable};
@@ -8,7 +8,7 @@ use std::alloc::{AllocError, Global};
 use std::time::Instant;
 use std::{fs, io};
 
-/// The least times of all rounds, in nanoseconds, and how many of the lines the pattern matches.
+/// The shortest times of all rounds, in nanoseconds, and how many of the lines the pattern matches.
 #[derive(Clone, Copy)]
 struct Times {
     count: u64,
@@ -16,7 +16,7 @@ struct Times {
     capturing: u128,
 }
 
-/// Asks a pattern about the lines of a file, and writes the count and the times.
+/// Matches the lines of a file, and writes the count and the times.
 pub fn compare_captures(rt: &HostRuntime, words: &[&str]) -> io::Result<()> {
     let [letters, pattern, file, rounds] = words else {
         return Err(unusable());
@@ -27,7 +27,7 @@ pub fn compare_captures(rt: &HostRuntime, words: &[&str]) -> io::Result<()> {
     compare_lines(rt, &pattern, options_of(letters)?, text.as_str(), rounds)
 }
 
-/// Asks a pattern about the lines of a text, and about those that it matches, and writes the count and the times.
+/// Matches all lines of a text, then only those that match, and writes the count and the times.
 fn compare_lines(
     rt: &HostRuntime,
     pattern: &Pattern,
@@ -47,7 +47,7 @@ fn compare_lines(
     )
 }
 
-/// Writes the count and the times for all lines, and the times for those that were found.
+/// Writes the count and the times for all lines, and the times for the lines that match.
 fn write_times(
     rt: &HostRuntime,
     pattern: &Pattern,
@@ -64,7 +64,7 @@ fn write_times(
     )
 }
 
-/// Asks the pattern about the lines by one call after the other, in rounds. Both have to find as many.
+/// Times both calls on the lines in turn, in rounds. It is an error if they find different numbers of matches.
 fn time_captures(
     rt: &HostRuntime,
     pattern: &Pattern,
@@ -109,7 +109,7 @@ fn count_captures(
     Ok(count)
 }
 
-/// Those of the lines that the pattern matches.
+/// The lines that the pattern matches.
 fn lines_that_match<'a>(
     alloc: Global,
     pattern: &Pattern,

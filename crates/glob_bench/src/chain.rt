@@ -1,11 +1,11 @@
-//! A tree of directories, one in another.
+//! A tree of nested directories.
 ghost use Rattle.std.specs.Prelude.{None};
 
 use glob::{Asks, Entry, ListError, Look, Name, Tree};
 use std::alloc::{AllocError, Global};
 
-/// Each directory down to a level holds one directory `d`, and the last one holds nothing. Paths can be as long as they
-/// need to be, as they cannot on a disk.
+/// Each directory holds one directory `d`, down to the last, which is empty. Unlike on a disk, paths may have any
+/// length.
 #[derive(Drop)]
 pub struct Chain {
     alloc: Global,
@@ -14,7 +14,7 @@ pub struct Chain {
 }
 
 impl Chain {
-    /// So many directories below the first one.
+    /// A chain of `levels` directories below the first one.
     pub fn new(alloc: Global, levels: usize) -> Self {
         Chain {
             alloc,
@@ -23,7 +23,7 @@ impl Chain {
         }
     }
 
-    /// Where there is a level below the path: the directory there.
+    /// The directory below the path, if there is one.
     fn entries(&self, path: &str) -> Result<Vec<Entry>, AllocError> {
         let mut entries = Vec::new(self.alloc);
         let level = if path == "." {

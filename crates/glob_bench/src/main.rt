@@ -1,23 +1,24 @@
-//! Times the crate `glob` and what stands on it.
+//! Times the crate `glob` and the crates above it.
 //!
-//! These print a count, and on standard error the time in nanoseconds. Reading files is not timed.
+//! These commands print a count, and on standard error the time in nanoseconds. Reading files is not timed.
 //!
-//! - `match OPTIONS PATTERN FILE TIMES` counts the lines of a file that the pattern matches, over and over.
-//! - `compile PATTERN TIMES` reads the pattern over and over, and counts the bytes of all that it read.
-//! - `walk PATTERN LEVELS TIMES` counts the items of a walk over so many directories, one in another, over and over.
-//! - `set OPTIONS PATTERNS QUESTION FILE TIMES` asks a set of the patterns that are the lines of a file about each line
-//!   of another, over and over: `any` counts the lines that a pattern matches, and `first`, `last` or `all` add up the
-//!   numbers of those patterns, counted from 1. Making the set is not timed.
-//! - `make OPTIONS PATTERNS TIMES` makes such a set over and over, and counts its patterns.
+//! - `match OPTIONS PATTERN FILE TIMES` counts the lines of a file that the pattern matches, TIMES times.
+//! - `compile PATTERN TIMES` parses the pattern TIMES times, and counts all bytes parsed.
+//! - `walk PATTERN LEVELS TIMES` counts the items of TIMES walks over LEVELS nested directories.
+//! - `set OPTIONS PATTERNS QUESTION FILE TIMES` makes a set of the patterns that are the lines of the file PATTERNS,
+//!   and matches each line of FILE, TIMES times: `any` counts the lines that a pattern matches; `first`, `last` and
+//!   `all` add up the numbers of the matching patterns, counted from 1. Making the set is not timed.
+//! - `make OPTIONS PATTERNS TIMES` makes such a set TIMES times, and counts its patterns.
 //!
-//! This writes nothing on standard error:
+//! This command writes nothing on standard error:
 //!
-//! - `captures OPTIONS PATTERN FILE ROUNDS` prints how many lines of a file the pattern matches, and the least times of
-//!   all rounds, of a match and of captures in turn: of both for all lines, and of both for those that match.
+//! - `captures OPTIONS PATTERN FILE ROUNDS` times matches and captures in turn. It prints how many lines of a file the
+//!   pattern matches, and the shortest times of all rounds: of matches and captures for all lines, and of both for the
+//!   lines that match.
 //!
-//! OPTIONS is a word that has `i` for no case, `s` for the separator rule and `d` for the dot rule, as `sd` or `-`. A
-//! PATTERN `@FILE` is the text of a file, since a word of a command line cannot be long. `@FILE` alone stands for the
-//! words that are the lines of a file.
+//! OPTIONS is a word of the letters `i` for case-insensitive, `s` for the separator rule and `d` for the dot rule, such
+//! as `sd`, or `-` for none. A PATTERN `@FILE` is the text of a file, because arguments cannot be long. If `@FILE` is
+//! the only argument, the lines of the file are the arguments.
 #![tactic(auto)]
 
 mod captures;
@@ -33,7 +34,7 @@ use std::io;
 use timing::{compile_pattern, match_file, walk_levels};
 use words::{lines_of, pattern_text, unusable};
 
-/// Does what the command says with the words after it.
+/// Runs the command that the first word names.
 fn run(rt: &HostRuntime, words: &[&str]) -> io::Result<()> {
     match words {
         ["match", words @ ..] => match_file(rt, words),

@@ -11,15 +11,15 @@ use std::{fs, io};
 enum Question {
     /// Whether any pattern matches.
     Any,
-    /// The first that does.
+    /// The first pattern that matches.
     First,
-    /// The last that does.
+    /// The last pattern that matches.
     Last,
-    /// All that do.
+    /// All patterns that match.
     All,
 }
 
-/// The question of this name.
+/// The question with this name.
 fn question_of(word: &str) -> io::Result<Question> {
     match word {
         "any" => Ok(Question::Any),
@@ -42,7 +42,7 @@ fn read_set(rt: &HostRuntime, file: &str, letters: &str) -> io::Result<PatternSe
     set_of(rt.alloc(), text.as_str(), letters)
 }
 
-/// Makes sets of the lines of a file over and over.
+/// Makes a set of the lines of a file `times` times.
 pub fn make_sets(rt: &HostRuntime, words: &[&str]) -> io::Result<()> {
     let [letters, file, times] = words else {
         return Err(unusable());
@@ -54,7 +54,7 @@ pub fn make_sets(rt: &HostRuntime, words: &[&str]) -> io::Result<()> {
     write_count(rt, count, start)
 }
 
-/// How many patterns the sets have that are made `times` times over.
+/// How many patterns the sets of `times` rounds have in all.
 fn count_patterns(alloc: Global, text: &str, letters: &str, times: u64) -> io::Result<u64> {
     let mut count = 0u64;
     for _ in 0..times {
@@ -64,7 +64,7 @@ fn count_patterns(alloc: Global, text: &str, letters: &str, times: u64) -> io::R
     Ok(count)
 }
 
-/// Asks a set about the lines of a file over and over.
+/// Asks a set about the lines of a file `times` times.
 pub fn ask_set(rt: &HostRuntime, words: &[&str]) -> io::Result<()> {
     let [letters, patterns, question, file, times] = words else {
         return Err(unusable());
@@ -76,7 +76,7 @@ pub fn ask_set(rt: &HostRuntime, words: &[&str]) -> io::Result<()> {
     ask_lines(rt, &set, question, text.as_str(), times)
 }
 
-/// Asks a set about the lines of a text over and over.
+/// Asks a set about the lines of a text `times` times.
 fn ask_lines(
     rt: &HostRuntime,
     set: &PatternSet,
@@ -90,7 +90,7 @@ fn ask_lines(
     write_count(rt, sum, start)
 }
 
-/// The sum of what the question answers about the lines, `times` times over.
+/// The sum of the answers for the lines, over `times` rounds.
 fn sum_answers(
     alloc: Global,
     set: &PatternSet,
@@ -105,7 +105,7 @@ fn sum_answers(
     Ok(sum)
 }
 
-/// The sum of what the question answers about the lines.
+/// The sum of the answers for the lines.
 fn sum_once(
     alloc: Global,
     set: &PatternSet,
@@ -120,12 +120,12 @@ fn sum_once(
     }
 }
 
-/// A sum to which the number of a pattern is added, counted from 1.
+/// The sum plus the number of a pattern, counted from 1.
 fn with_number(sum: u64, number: usize) -> u64 {
     sum.wrapping_add(number as u64).wrapping_add(1)
 }
 
-/// How many lines some pattern matches.
+/// How many lines any pattern matches.
 fn sum_any(set: &PatternSet, lines: &[&str]) -> Result<u64, AllocError> {
     let mut sum = 0u64;
     for line in lines {

@@ -1,4 +1,4 @@
-//! Times matching, reading patterns, and walks.
+//! Times matching, parsing and walks.
 
 use crate::chain::Chain;
 use crate::words::{
@@ -9,7 +9,7 @@ use std::alloc::{AllocError, Global};
 use std::time::Instant;
 use std::{fs, io};
 
-/// Matches the lines of a file over and over.
+/// Matches the lines of a file `times` times.
 pub fn match_file(rt: &HostRuntime, words: &[&str]) -> io::Result<()> {
     let [letters, pattern, file, times] = words else {
         return Err(unusable());
@@ -20,7 +20,7 @@ pub fn match_file(rt: &HostRuntime, words: &[&str]) -> io::Result<()> {
     match_lines(rt, &pattern, options_of(letters)?, text.as_str(), times)
 }
 
-/// Matches the lines of a text over and over.
+/// Matches the lines of a text `times` times.
 fn match_lines(
     rt: &HostRuntime,
     pattern: &Pattern,
@@ -34,7 +34,7 @@ fn match_lines(
     write_count(rt, count, start)
 }
 
-/// How many of the lines the pattern matches, `times` times over.
+/// How many lines the pattern matches, summed over `times` rounds.
 #[inline(never)]
 pub fn count_matches(
     pattern: &Pattern,
@@ -53,7 +53,7 @@ pub fn count_matches(
     Ok(count)
 }
 
-/// Reads a pattern over and over.
+/// Parses a pattern `times` times.
 pub fn compile_pattern(rt: &HostRuntime, words: &[&str]) -> io::Result<()> {
     let [pattern, times] = words else {
         return Err(unusable());
@@ -65,7 +65,7 @@ pub fn compile_pattern(rt: &HostRuntime, words: &[&str]) -> io::Result<()> {
     write_count(rt, count, start)
 }
 
-/// How many bytes of patterns are read, `times` times over.
+/// How many bytes of patterns are parsed in `times` rounds.
 fn count_bytes(alloc: Global, text: &str, times: u64) -> io::Result<u64> {
     let mut count = 0u64;
     for _ in 0..times {
@@ -75,7 +75,7 @@ fn count_bytes(alloc: Global, text: &str, times: u64) -> io::Result<u64> {
     Ok(count)
 }
 
-/// Walks over so many levels over and over.
+/// Walks over `levels` nested directories `times` times.
 pub fn walk_levels(rt: &HostRuntime, words: &[&str]) -> io::Result<()> {
     let [pattern, levels, times] = words else {
         return Err(unusable());
@@ -88,7 +88,7 @@ pub fn walk_levels(rt: &HostRuntime, words: &[&str]) -> io::Result<()> {
     write_count(rt, count, start)
 }
 
-/// How many items walks over so many levels give, `times` times over.
+/// How many items `times` walks over `levels` nested directories give.
 fn count_items(alloc: Global, pattern: &str, levels: u64, times: u64) -> io::Result<u64> {
     let mut count = 0u64;
     for _ in 0..times {
@@ -98,7 +98,7 @@ fn count_items(alloc: Global, pattern: &str, levels: u64, times: u64) -> io::Res
     Ok(count)
 }
 
-/// How many items a walk over so many levels gives.
+/// How many items a walk over `levels` nested directories gives.
 fn count_walk(alloc: Global, pattern: &str, levels: u64) -> io::Result<u64> {
     let tree = Chain::new(alloc, levels as usize);
     let paths = glob_in(alloc, tree, pattern, MatchOptions::new(), u64::MAX).map_err(

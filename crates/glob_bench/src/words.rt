@@ -1,11 +1,11 @@
-//! What the words of a command line stand for.
+//! Parses the words of the command line.
 
 use glob::{MatchOptions, Pattern};
 use std::alloc::Global;
 use std::time::Instant;
 use std::{fs, io};
 
-/// The error of words, lines or files that are not what a command takes.
+/// The error for words, lines or files that a command does not accept.
 pub fn unusable() -> io::Error {
     io::Error::other("not what a command takes: see the head of src/main.rt")
 }
@@ -20,7 +20,7 @@ pub fn number_of(word: &str) -> io::Result<u64> {
     word.parse::<u64>().map_err(|_| unusable())
 }
 
-/// The text of a pattern that a word stands for: its own, or that of a file.
+/// The text of a pattern that a word stands for: the word itself, or the text of a file.
 pub fn pattern_text(rt: &HostRuntime, word: &str) -> io::Result<String> {
     match word.strip_prefix('@') {
         Some(file) => fs::read_to_string(rt, file),
@@ -39,7 +39,7 @@ pub fn lines_of(alloc: Global, text: &str) -> io::Result<Vec<&str>> {
     Ok(text.lines().collect::<Vec<&str>>(alloc)?)
 }
 
-/// Writes a count, and how long ago the work on it began.
+/// Writes a count, and the time since `start` in nanoseconds.
 pub fn write_count(rt: &HostRuntime, count: u64, start: Instant) -> io::Result<()> {
     let elapsed = start.elapsed(rt)?;
     rt.println(count)?;

@@ -3,18 +3,17 @@ use Rattle.std.proofs.Common.{◌≡◌, ℕ, List, Option, Some, None, Ok}
 use Rattle.std.specs.declared.alloc.Global.{Global}
 use Rattle.glob_tree.specs.Content.{Content, look_result}
 use Rattle.glob_tree.specs.declared.tree.Look.{Look}
-use Rattle.glob_walk.specs.Driven.{HasGiven, GivesNext}
-use Rattle.glob_walk.specs.Machines.{MachineState, Saying, AsksLook, AsksList, Says, Ends, StepGoes}
+use Rattle.glob_walk.specs.Machines.{MachineState, Saying, AsksLook, AsksList, Says, Ends, StepGoes, HasGiven, GivesNext}
 use Rattle.glob_walk.specs.Marks.{Item, Mark}
 use Rattle.glob_walk.specs.Private.Walkers.{Walk}
 use Rattle.glob_walk.specs.Questions.{Question, LookAt, ListAt, IsLook, IsSomeContent, IsSeenIn, IsListedIn, question_path}
-use Rattle.glob_walk.proofs.WalkLemmas.Giving.{gives_next}
 use Rattle.glob_c.specs.Sessions.{RepliesTo}
 use Rattle.glob_c.specs.declared.session.Reply.{Reply}
 use Rattle.glob_c.specs.declared.session.Reply.TheVariants as reply
 
 -- what a content has at the path of a look is its answer
-pub seen_in : (E : Type 0) (q : Option Question) (seen : Look) (c : Content) → IsLook q → IsSomeContent c × (seen ≡ look_result c (question_path q)) → IsSeenIn {E = E} q (Ok seen) c
+pub seen_in : (E : Type 0) (q : Option Question) (seen : Look) (c : Content) → IsLook q → IsSomeContent c ×
+    (seen ≡ look_result c (question_path q)) → IsSeenIn {E = E} q (Ok seen) c
 seen_in E None seen c asks fits = absurd asks
 seen_in E (Some (LookAt path)) seen c asks fits = fits
 seen_in E (Some (ListAt kinds path)) seen c asks fits = absurd asks
@@ -39,4 +38,4 @@ replies_some Ends r walk c fits = fits
 
 pub step_gives : {Fits : Content → Type 0} {n : ℕ} {old new : MachineState (Walk Global)} {s : Saying} → StepGoes Fits n old s new
     → (c : Content) (all : List Mark) (given : List Item) → Fits c → HasGiven all c given old → GivesNext all c given s new
-step_gives {Fits} {n} {old} {new} {s} goes c all given fits h = gives_next n all c given old s new goes.counts (goes.takes c fits) h
+step_gives goes c all given fits h = goes.gives c fits all given h

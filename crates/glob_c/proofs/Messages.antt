@@ -21,7 +21,8 @@ numbered Recursive = refl
 numbered Range = refl
 
 -- Bytes are refused as their text is.
-pub RefusesBytes-of : (bytes : List ℕ) → IsUtf8 bytes → (refused : PatternRefusal) → Refuses (chars bytes) refused → RefusesBytes bytes (refusal_of refused)
+pub RefusesBytes-of : (bytes : List ℕ) → IsUtf8 bytes → (refused : PatternRefusal) → Refuses (chars bytes) refused
+    → RefusesBytes bytes (refusal_of refused)
 RefusesBytes-of bytes utf8 (pattern.Syntax e) fault = (
   utf8,
   subst (λ m. IsFault (chars bytes) (record { place = e.pos; message = m }))

@@ -54,9 +54,11 @@ module _ {M : Type 1} {𝓤 : Ura M} {𝓛 : Logic 𝓤} {K : Type 0} {Γ : List
       k (subst (λ (ps : List Val). vs ≡ vstruct (of_list (ps ++ [])) ∷ []) ep ev))))
 
   both_in : K → (s : Slot.Denot)
-      → Step K 𝓛 (‵ (Slot.own_val s (slot_val s.at ∷ [])) ∷ Γ) G (‵ (box_or_nothing PatternRow s.at s.text) ∷ ‵ (box_or_nothing SessionRow s.at s.walk) ∷ Γ) G
+      → Step K 𝓛 (‵ (Slot.own_val s (slot_val s.at ∷ [])) ∷ Γ) G (‵ (box_or_nothing PatternRow s.at s.text) ∷ ‵
+      (box_or_nothing SessionRow s.at s.walk) ∷ Γ) G
   both_in t s = step (λ rest. let v : Val = slot_val s.at in
-      fjoin t $ nothing t $ feq_i t (List Val) (ptr_val s.at ∷ []) (ptr_val s.at ∷ []) refl $ fjoin t $ feq_i t (List Val) (v ∷ []) (v ∷ []) refl $ fjoin t $
+      fjoin t $ nothing t $ feq_i t (List Val) (ptr_val s.at ∷ []) (ptr_val s.at ∷ []) refl $ fjoin t $ feq_i t
+      (List Val) (v ∷ []) (v ∷ []) refl $ fjoin t $
       fpack t (Valss (RawPtr ∷ [])) (within (shape slot.the_type) (s.at, tt) (v ∷ [])) (ptr_val s.at ∷ [], tt) $ fjoin t $ rest)
 
 module _ {M : Type 1} {𝓤 : Ura M} {𝓛 : Logic 𝓤} {K : Type 0} {Γ : List (Item 𝓤)} {G : Goal 𝓤 𝓛.H} where

@@ -7,13 +7,13 @@ use Rattle.glob_c.specs.Answers.{fault_of}
 use Rattle.glob_c.specs.declared.fault.Refusal.{Refusal}
 use Rattle.glob_c.specs.declared.fault.Refusal.TheVariants.{Syntax, Memory, NotUtf8}
 
--- their fault, a failed allocation, or that they are no UTF-8
+-- the refusal has the fault of the bytes, or is a failed allocation, or says rightly that they are not UTF-8
 abbrev pub RefusesBytes : List ℕ → Refusal → Type 0
 RefusesBytes bytes (Syntax f) = IsUtf8 bytes × IsFault (chars bytes) (fault_of f.place f.message) × (f.message ≤ 2)
 RefusesBytes bytes Memory = ⊤
 RefusesBytes bytes NotUtf8 = ¬ (IsUtf8 bytes)
 
--- the refusal of a text as a pattern, with the number of its fault's kind
+-- a pattern's refusal, with the number of its fault's kind
 abbrev pub refusal_of : PatternRefusal → Refusal
 refusal_of (pattern.Syntax e) = Syntax (record { place = e.pos; message = number_of (kind_of e.msg.now) })
 refusal_of pattern.Memory = Memory

@@ -1,4 +1,4 @@
--- A walk that is driven through C.
+-- A walk driven through C.
 use Rattle.std.specs.Prelude.{◌≡◌, ℕ, true, false, nat_eq, if◌then◌else◌, Ok, Err, List, [], Option, Some, None, ⊤}
 use Rattle.std.specs.IoError.{error_kind}
 use Rattle.std.specs.declared.alloc.Global.{Global}
@@ -17,7 +17,7 @@ use Rattle.glob_walk.specs.Walks.{Gives, LimitAt, NoMemory}
 use Rattle.glob_c.specs.declared.session.Reply.{Reply}
 use Rattle.glob_c.specs.declared.session.Reply.TheVariants as reply
 
--- what contracts see of it: the walk, its last step, and what was answered since
+-- what contracts see of a session: the walk, its last step, and what the caller has answered since
 pub record Sitting : Type 0 where
   pub machine : MachineState (Walk Global)
   pub said : Saying
@@ -34,13 +34,13 @@ kind_of (Says (LimitAt path)) = 5
 kind_of (Says NoMemory) = 6
 kind_of Ends = 8
 
--- the path of an error, or the one at which the limit was reached
+-- the path of an error, or the path at which the limit was reached
 abbrev pub error_path : Saying → Option Text
 error_path (Says (Gives (Unread path kind))) = Some path
 error_path (Says (LimitAt path)) = Some path
 error_path _ = None
 
--- what was answered is what the content has, where a question is open
+-- if a question is open, the reply is the content's answer to it
 abbrev pub RepliesTo : Saying → Reply → MachineState (Walk Global) → Content → Type 0
 RepliesTo AsksLook (reply.Look seen) walk c = IsSomeContent c × (seen ≡ look_result c (question_path walk.asked))
 RepliesTo (AsksList kinds) (reply.Listed r) walk c = IsListedIn walk.asked r c
@@ -67,17 +67,17 @@ pub record Counts (said : Saying) (r : Reply) (old : MachineState (Walk Global))
   pub answered : IsAnswered said r → StepCounts (entries_said said r) old s new
   pub waits : ¬ (IsAnswered said r) → (s ≡ said) × (new ≡ old)
 
--- where the answer is that the directory could not be listed, the next step says so, with a reason of the same kind
+-- if the reply is that the directory could not be listed, the next step reports it, with an error of the same kind
 abbrev pub SaysUnread : Saying → Reply → MachineState (Walk Global) → Saying → Type 0
 SaysUnread (AsksList kinds) (reply.Listed (Err (Read e))) old s = s ≡ Says (Gives (Unread (question_path old.asked) (error_kind e)))
 SaysUnread _ _ old s = ⊤
 
--- the entries that were answered so far
+-- the entries answered so far
 abbrev pub entries_so_far : Reply → Option (List DirEntry)
 entries_so_far (reply.Entries v) = Some (entries_of v.items)
 entries_so_far _ = None
 
--- nothing was answered since the step: no entry, where entries are asked for
+-- nothing was answered since the step; if entries are asked for, there are none yet
 abbrev pub IsUnanswered : Saying → Reply → Type 0
 IsUnanswered (AsksList kinds) r = entries_so_far r ≡ Some []
 IsUnanswered _ r = r ≡ reply.Nothing
@@ -87,15 +87,15 @@ abbrev pub AreListed : List DirEntry → Reply → Type 0
 AreListed es (reply.Listed (Ok v)) = entries_of v.items ≡ es
 AreListed es _ = ⊥
 
--- the answer is that the directory cannot be listed, for a reason of this kind
+-- the reply is that the directory could not be listed, with an error of this kind
 abbrev pub IsUnread : ErrorKind → Reply → Type 0
 IsUnread kind (reply.Listed (Err (Read e))) = error_kind e ≡ kind
 IsUnread kind _ = ⊥
 
--- what a path leads to, by its number
+-- the look with this number
 abbrev pub look_of : ℕ → Look
 look_of n = if nat_eq n 0 then look.Dir else if nat_eq n 1 then look.Other else look.Missing
 
--- a look was answered by this number
+-- the session after a look was answered with this number
 abbrev pub looked_at : ℕ → Sitting → Sitting
 looked_at n s = record s { reply = reply.Look (look_of n) }

@@ -9,10 +9,10 @@ use std::alloc::Global;
 
 pub(crate) const TOO_SHORT: u32 = 4;
 
-/// Writes the pattern that stands for the text alone to the start of `out`, and its length in bytes to `needed`.
+/// Writes the pattern that matches the text literally to the start of `out`, and its length in bytes to `needed`.
 ///
-/// The answer is 0; or 2 if an allocation fails; or 3 for bytes that are no UTF-8; or 4 if `out` is too short, and then
-/// `needed` is the length that would do. Nothing is written to `out` but after 0.
+/// Returns 0; 2 if an allocation fails; 3 if the bytes are not UTF-8; or 4 if `out` is too short, and then `needed` is
+/// the length that it must have. `out` changes only if 0 is returned.
 #[unsafe(no_mangle)]
 pub extern "C" fn cadmiumdove_pattern_escape(
     alloc: Global,

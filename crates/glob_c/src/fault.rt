@@ -5,7 +5,7 @@ ghost use Rattle.glob_c.specs.Refusals.{RefusesBytes};
 use glob_pattern::{Pattern, PatternRefusal};
 use std::alloc::{AllocFailed, Global};
 
-/// Where a text is no pattern, and why.
+/// Where a text is not a valid pattern, and why.
 #[repr(C)]
 #[derive(Clone, Copy)]
 pub struct Fault {
@@ -23,7 +23,7 @@ pub(crate) enum Refusal {
     NotUtf8,
 }
 
-/// A text that is no pattern, or a failed allocation.
+/// An invalid pattern, or a failed allocation.
 impl From<PatternRefusal> for Refusal {
     ghost use Rattle.std.specs.Prelude.{◌≡◌};
     ghost use Rattle.glob_c.specs.Refusals.{refusal_of};
@@ -53,7 +53,7 @@ impl<T: Drop> From<AllocFailed<T>> for Refusal {
     }
 }
 
-/// The pattern of the bytes, in a box.
+/// Parses the bytes as a pattern, in a box.
 pub(crate) fn parse(alloc: Global, bytes: &[u8]) -> Result<Box<Pattern<Global>, Global>, Refusal>
     ensures utf8 { IfOk result (λ _. IsUtf8 bytes.now) }
     ensures accepted { IfOk result (λ _. IsAccepted (chars bytes.now)) }

@@ -7,7 +7,7 @@ use glob_pattern::Pattern;
 use std::alloc::Global;
 use std::mem;
 
-/// Where a C program keeps a pattern, or none.
+/// A C program's handle of a pattern, or an empty one.
 #[repr(C)]
 pub struct Handle {
     pub(crate) slot: Slot,
@@ -18,14 +18,14 @@ pub struct Handle {
 }
 
 impl Handle {
-    /// Whether there is a pattern.
+    /// Whether the handle has a pattern.
     pub(crate) fn is_full(&self) -> bool
         ensures { result ≡ is_some self.now.slot.text }
     {
         self.full
     }
 
-    /// Puts a pattern where none is.
+    /// Puts a pattern into an empty handle.
     pub(crate) fn fill(&mut self, pattern: Box<Pattern<Global>, Global>)
         requires { self.old.slot.text ≡ None }
         ensures { self.new.slot.text ≡ Some pattern.value }

@@ -1,4 +1,4 @@
-//! Patterns for C, and for Rust over C: `include/cadmiumdove.h` says what a caller owes.
+//! Patterns and walks for C, and for Rust through C. `include/cadmiumdove.h` says what a caller must do.
 #![tactic(auto)]
 
 mod escape;

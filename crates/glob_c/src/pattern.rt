@@ -30,10 +30,10 @@ const NO: u32 = 0;
 
 const YES: u32 = 1;
 
-/// Parses the bytes as a pattern, and puts it into the handle.
+/// Parses the bytes as a pattern and puts it into the handle.
 ///
-/// The answer is 0; or 1 for bytes that are no pattern, with their first fault in `fault`; or 2 if an allocation fails;
-/// or 3 for bytes that are no UTF-8; or 6 if the handle has a pattern. After a refusal the handle is as it was.
+/// Returns 0; 1 if the pattern is not valid, with its first fault in `fault`; 2 if an allocation fails; 3 if the bytes
+/// are not UTF-8; or 6 if the handle already has a pattern. Unless 0 is returned, the handle is unchanged.
 #[unsafe(no_mangle)]
 pub extern "C" fn cadmiumdove_pattern_new(
     alloc: Global,
@@ -74,11 +74,10 @@ pub extern "C" fn cadmiumdove_pattern_new(
     }
 }
 
-/// Whether the pattern at `at`, which is the `at` of a handle that has one, matches the text, under the options that
-/// the flags say. With the flag 8 the caller promises that the text is UTF-8, and nothing checks it.
+/// Whether a pattern matches the text, under the options of the flags. `at` is the field `at` of a handle that has a
+/// pattern. With the flag 8 the caller promises that the text is UTF-8, and it is not checked.
 ///
-/// The answer is 0 for no, 1 for yes, 2 if an allocation fails, 3 for bytes that are no UTF-8, and 5 for an unknown
-/// flag.
+/// Returns 0 for no, 1 for yes, 2 if an allocation fails, 3 if the bytes are not UTF-8, and 5 for an unknown flag.
 #[unsafe(no_mangle)]
 pub extern "C" fn cadmiumdove_pattern_matches_at(at: *const u8, text: &[u8], flags: u32) -> u32
     ghost lent: { List ℕ × Lft × Share }

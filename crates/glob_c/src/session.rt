@@ -1,14 +1,13 @@
-//! A walk that is driven through C: its last step, and what was answered since.
+//! A walk driven through C: its last step, and what the caller has answered since.
 ghost use Rattle.std.specs.Prelude.{◌≡◌, ◌++◌, [], ◌∷◌, Bool, true, false, List, None, Some, IsSome, IsTrue, IsUtf8};
 ghost use Rattle.std.specs.IoError.{os_error_kind};
 ghost use Rattle.glob_tree.specs.Content.{Content, DirEntry};
 ghost use Rattle.glob_tree.specs.Paths.{is_proper};
-ghost use Rattle.glob_walk.specs.Machines.{AsksList, AsksLook, Ends, IsAskedAfter, Says, saying};
+ghost use Rattle.glob_walk.specs.Machines.{AsksList, AsksLook, Ends, GivesNext, HasGiven, IsAskedAfter, Says, saying};
 ghost use Rattle.glob_text.specs.Text.{Text};
 ghost use Rattle.glob_walk.specs.Questions.{question_path};
 ghost use Rattle.glob_walk.specs.Walks.{Gives, outcome};
 ghost use Rattle.glob_walk.specs.Marks.{Found, Item, Mark};
-ghost use Rattle.glob_walk.specs.Driven.{HasGiven, GivesNext};
 ghost use Rattle.glob_c.specs.Answers.{done, is_entry_answer, no_name, not_asked, not_utf8, out_of_memory};
 ghost use Rattle.glob_c.specs.Sessions.{AreListed, Counts, IsUnanswered, IsUnread, Replies, RepliesTo, SaysUnread, entries_so_far, error_path, kind_of};
 
@@ -23,16 +22,16 @@ const NOT_ASKED: u32 = 9;
 
 const NO_NAME: u32 = 10;
 
-/// What was answered since the last step.
+/// What the caller has answered since the last step.
 #[derive(Drop)]
 pub enum Reply {
     /// Nothing.
     Nothing,
-    /// What the path leads to.
+    /// What the path refers to.
     Look(Look),
-    /// Some of the entries.
+    /// The entries so far.
     Entries(Vec<Entry<Global>, Global>),
-    /// All entries, or why there are none.
+    /// All entries, or why the directory could not be listed.
     Listed(Result<Vec<Entry<Global>, Global>, ListError>),
 }
 
@@ -60,7 +59,7 @@ impl Model for Session {
 }
 
 impl Session {
-    /// A session of a walk that has done nothing yet.
+    /// A session of a walk that has not started.
     pub(crate) fn new(machine: WalkMachine<Global>) -> Session
         requires { machine.asked ≡ None }
         ensures machine { result.machine ≡ machine }
@@ -74,7 +73,8 @@ impl Session {
         }
     }
 
-    /// Goes on to the next step, with what was answered. A question that was not answered in full is asked again.
+    /// Takes the next step with what was answered, and returns its number. A question without a complete answer is
+    /// repeated.
     pub(crate) fn advance(&mut self, alloc: Global) -> u32
         ensures kind { result ≡ kind_of self.new.said }
         ensures unanswered { IsUnanswered self.new.said self.new.reply }
@@ -92,7 +92,7 @@ impl Session {
         kind_of(&self.step)
     }
 
-    /// Answers what the path leads to: 0, or 9 where that was not asked.
+    /// Answers what the path refers to. Returns 0, or 9 if that was not asked.
     pub(crate) fn looked(&mut self, seen: Look) -> u32
         ensures answered { result ≡ done
             → self.new ≡ record self.old { reply = Reply.Look seen } }
@@ -109,8 +109,8 @@ impl Session {
         }
     }
 
-    /// Answers one entry more: 0, or 2 if an allocation fails, 3 for bytes that are no UTF-8, 9 where no entries are
-    /// asked for, and 10 for what is no name. After all but 0 the entries are those of before.
+    /// Answers one more entry. Returns 0; 2 if an allocation fails; 3 if the bytes are not UTF-8; 9 if no entries are
+    /// asked for; or 10 if the bytes are not a name. Unless 0 is returned, the entries are unchanged.
     pub(crate) fn entry(&mut self, alloc: Global, name: &[u8], is_dir: bool) -> u32
         ensures machine { self.new.machine ≡ self.old.machine }
         ensures said { self.new.said ≡ self.old.said }
@@ -147,7 +147,7 @@ impl Session {
         }
     }
 
-    /// All entries were answered: 0, or 9 where none were asked for.
+    /// Ends the entries of a directory. Returns 0, or 9 if none are asked for.
     pub(crate) fn listed(&mut self) -> u32
         ensures machine { self.new.machine ≡ self.old.machine }
         ensures said { self.new.said ≡ self.old.said }
@@ -170,7 +170,8 @@ impl Session {
         }
     }
 
-    /// The directory could not be listed, for the system's reason of this number: 0, or 9 where none was to be listed.
+    /// Answers that the directory could not be listed, with the system's error number. Returns 0, or 9 if no listing is
+    /// asked for.
     pub(crate) fn unread(&mut self, code: i32) -> u32
         ensures machine { self.new.machine ≡ self.old.machine }
         ensures said { self.new.said ≡ self.old.said }
@@ -208,7 +209,7 @@ impl Session {
     }
 }
 
-/// What is answered before anything is: no entries where they are asked for.
+/// The reply before any answer: no entries yet if entries are asked for, otherwise nothing.
 fn first_reply(alloc: Global, step: &Step<Global>) -> Reply
     ensures { IsUnanswered (saying step.now) result }
 {
@@ -218,7 +219,7 @@ fn first_reply(alloc: Global, step: &Step<Global>) -> Reply
     }
 }
 
-/// The step after another one and a reply.
+/// The step that follows another one and its reply.
 #[tactic(auto, using(crate::proofs::UnreadSteps::unread_said))]
 fn step_after(machine: &mut WalkMachine<Global>, said: Step<Global>, reply: Reply) -> Step<Global>
     requires { IsAskedAfter (saying said) machine.old.asked }
@@ -259,7 +260,7 @@ fn kind_of(step: &Step<Global>) -> u32
     }
 }
 
-/// The number of an item's step.
+/// The number of a step that is an item.
 fn kind_of_item(item: &GlobResult<Global>) -> u32
     ensures { result ≡ kind_of (Says (outcome item.now)) }
 {

@@ -11,7 +11,7 @@ use std::alloc::Global;
 use std::marker::Model;
 use std::ptr;
 
-/// A pointer to nothing, to the pattern of a text, or to a walk, whose memory it owns.
+/// A pointer that owns a pattern or a walk, or points to nothing.
 #[repr(C)]
 pub struct Slot {
     at: *mut u8,
@@ -23,11 +23,11 @@ impl Model for Slot {
     ghost also_owns = { λ s. slot_owns s.at s.text s.walk };
 }
 
-/// A slot may go to another thread, since a pattern and a walk may.
+/// A slot may go to another thread because patterns and walks may.
 unsafe impl Send for Slot {}
 
 impl Slot {
-    /// A slot with nothing.
+    /// An empty slot.
     pub(crate) fn empty() -> Slot
         ensures { (result.text ≡ None) × (result.walk ≡ None) }
     {
@@ -76,7 +76,7 @@ impl Slot {
         }
     }
 
-    /// Lets an empty slot go, so that nothing is lost.
+    /// Drops an empty slot, so that nothing leaks.
     pub(crate) fn close(self)
         requires { (self.text ≡ None) × (self.walk ≡ None) }
     {

@@ -1,4 +1,4 @@
-//! Walks for C: the caller answers what a walk asks for.
+//! Walks for C: the caller answers the questions of a walk.
 ghost use Rattle.std.specs.Prelude.{◌≡◌, ◌≤◌, ◌<◌, ◌++◌, ◌∷◌, Bool, true, false, IsSome, IsTrue, IsUtf8, [], List, length, take, drop};
 ghost use Rattle.std.specs.IoError.{os_error_kind};
 ghost use Rattle.std.specs.declared.option.Option.TheVariants.{None, Some};
@@ -7,13 +7,12 @@ ghost use Rattle.glob_pattern.specs.Matching.Options.{options_of_bits};
 ghost use Rattle.glob_tree.specs.Content.{Content, DirEntry};
 ghost use Rattle.glob_tree.specs.Paths.{is_proper};
 ghost use Rattle.glob_text.specs.Text.{Text};
-ghost use Rattle.glob_walk.specs.Machines.{AsksList, AsksLook, Ends, Says};
+ghost use Rattle.glob_walk.specs.Machines.{AsksList, AsksLook, Ends, HasGiven, Says};
 ghost use Rattle.glob_walk.specs.Questions.{question_path};
 ghost use Rattle.glob_walk.specs.Walks.{Gives};
 ghost use Rattle.glob_walk.specs.Components.{walk_fault};
 ghost use Rattle.glob_walk.specs.Listing.{listing};
 ghost use Rattle.glob_walk.specs.Marks.{Found, Item, Mark};
-ghost use Rattle.glob_walk.specs.Driven.{HasGiven};
 ghost use Rattle.glob_c.specs.Answers.{done, empty, in_use, is_entry_answer, no_name, not_asked, not_utf8, out_of_memory, syntax_fault, too_short, unknown_flag};
 ghost use Rattle.glob_c.specs.Sessions.{Replies, Sitting, entries_so_far, error_path, look_of, looked_at};
 ghost use Rattle.glob_c.specs.WalkSlots.{HasEntries, HasLimit, HasListed, HasNoAnswer, HasStep, HasUnread, IsAdvanced, IsBegun, IsCounted, IsToldUnread};
@@ -30,11 +29,11 @@ use std::alloc::Global;
 
 const EMPTY: u32 = 7;
 
-/// Begins a walk after the bytes as a pattern, with at most `limit` units of work, and puts it into the handle.
+/// Begins a walk for a pattern, with at most `limit` units of work, and puts it into the handle.
 ///
-/// The answer is 0; or 1 for bytes that are no pattern, with their first fault in `fault`; or 2 if an allocation fails;
-/// or 3 for bytes that are no UTF-8; or 5 for an unknown flag; or 6 if the handle has a walk. After a refusal the
-/// handle is as it was.
+/// Returns 0; 1 if the pattern is not valid, with its first fault in `fault`; 2 if an allocation fails; 3 if the bytes
+/// are not UTF-8; 5 for an unknown flag; or 6 if the handle already has a walk. Unless 0 is returned, the handle is
+/// unchanged.
 #[unsafe(no_mangle)]
 pub extern "C" fn cadmiumdove_walk_new(
     alloc: Global,
@@ -92,10 +91,10 @@ pub extern "C" fn cadmiumdove_walk_new(
     }
 }
 
-/// Goes on to the next step, with what was answered since the last: 0 where it is asked what the path leads to, 1 for a
-/// listing, 2 for names alone, 3 for a path, 4 for a directory that could not be listed, 5 at the limit, 6 if an
-/// allocation failed, 8 where nothing is left; and 7 if the handle is empty. A question that was not answered in full
-/// is asked again.
+/// Takes the next step with what was answered since the last, and returns its number: 0 asks what the path refers to, 1
+/// asks for a listing, 2 for a listing of names only; 3 is a path, 4 a directory that could not be listed, 5 the limit,
+/// 6 a failed allocation, and 8 the end. It returns 7 if the handle is empty. A question without a complete answer is
+/// repeated.
 #[unsafe(no_mangle)]
 pub extern "C" fn cadmiumdove_walk_next(alloc: Global, handle: &mut WalkHandle) -> u32
     ensures empty { handle.old.slot.walk ≡ None → result ≡ empty }
@@ -119,10 +118,9 @@ pub extern "C" fn cadmiumdove_walk_next(alloc: Global, handle: &mut WalkHandle) 
     step
 }
 
-/// Writes the path of the last step to the start of `out`, and its length to `needed`.
+/// Writes the path of the last step to the start of `out`, and its length in bytes to `needed`.
 ///
-/// The answer is 0; or 4 if `out` is too short, and then `needed` is the length that would do; or 7 if the handle is
-/// empty.
+/// Returns 0; 4 if `out` is too short, and then `needed` is the length that it must have; or 7 if the handle is empty.
 #[unsafe(no_mangle)]
 pub extern "C" fn cadmiumdove_walk_path(
     alloc: Global,
@@ -179,9 +177,10 @@ fn write(bytes: &[u8], out: &mut [u8], needed: &mut usize) -> u32
     DONE
 }
 
-/// Answers what the path leads to: `kind` is 0 for a directory, 1 for something else, and any other number for nothing.
+/// Answers what the path refers to: `kind` is 0 for a directory, 1 for something else, and any other number for
+/// nothing.
 ///
-/// The answer is 0; or 7 if the handle is empty; or 9 where that was not asked.
+/// Returns 0; 7 if the handle is empty; or 9 if that was not asked.
 #[unsafe(no_mangle)]
 pub extern "C" fn cadmiumdove_walk_looked(alloc: Global, handle: &mut WalkHandle, kind: u32) -> u32
     ensures empty { handle.old.slot.walk ≡ None → result ≡ empty }
@@ -201,7 +200,7 @@ pub extern "C" fn cadmiumdove_walk_looked(alloc: Global, handle: &mut WalkHandle
     answer
 }
 
-/// What the number says.
+/// The look with this number.
 fn look_of(kind: u32) -> Look
     ensures { result ≡ look_of kind }
 {
@@ -214,10 +213,10 @@ fn look_of(kind: u32) -> Look
     }
 }
 
-/// Answers one entry of the directory, with its name.
+/// Answers one entry of the directory.
 ///
-/// The answer is 0; or 2 if an allocation fails; or 3 for bytes that are no UTF-8; or 7 if the handle is empty; or 9
-/// where no entries are asked for; or 10 for what is no name. After all but 0 the entries are those of before.
+/// Returns 0; 2 if an allocation fails; 3 if the bytes are not UTF-8; 7 if the handle is empty; 9 if no entries are
+/// asked for; or 10 if the bytes are not a name. Unless 0 is returned, the entries are unchanged.
 #[unsafe(no_mangle)]
 pub extern "C" fn cadmiumdove_walk_entry(
     alloc: Global,
@@ -252,9 +251,9 @@ pub extern "C" fn cadmiumdove_walk_entry(
     answer
 }
 
-/// All entries were answered.
+/// Ends the entries of the directory: all were answered.
 ///
-/// The answer is 0; or 7 if the handle is empty; or 9 where no entries are asked for.
+/// Returns 0; 7 if the handle is empty; or 9 if no entries are asked for.
 #[unsafe(no_mangle)]
 pub extern "C" fn cadmiumdove_walk_listed(alloc: Global, handle: &mut WalkHandle) -> u32
     ensures empty { handle.old.slot.walk ≡ None → result ≡ empty }
@@ -275,9 +274,9 @@ pub extern "C" fn cadmiumdove_walk_listed(alloc: Global, handle: &mut WalkHandle
     answer
 }
 
-/// The directory could not be listed, for the system's reason of this number, as `errno` has it.
+/// Answers that the directory could not be listed. `code` is the system's error number, as in `errno`.
 ///
-/// The answer is 0; or 7 if the handle is empty; or 9 where no directory was to be listed.
+/// Returns 0; 7 if the handle is empty; or 9 if no listing is asked for.
 #[unsafe(no_mangle)]
 pub extern "C" fn cadmiumdove_walk_unread(alloc: Global, handle: &mut WalkHandle, code: i32) -> u32
     ensures empty { handle.old.slot.walk ≡ None → result ≡ empty }
@@ -297,7 +296,7 @@ pub extern "C" fn cadmiumdove_walk_unread(alloc: Global, handle: &mut WalkHandle
     answer
 }
 
-/// Ends a walk, if there is one, and leaves the handle empty.
+/// Frees the handle's walk, if there is one, and leaves the handle empty.
 #[unsafe(no_mangle)]
 pub extern "C" fn cadmiumdove_walk_free(alloc: Global, handle: &mut WalkHandle)
     ensures empty { handle.new.slot.walk ≡ None }

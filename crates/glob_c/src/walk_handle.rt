@@ -7,7 +7,7 @@ use crate::slot::Slot;
 use std::alloc::Global;
 use std::mem;
 
-/// Where a C program keeps a walk, or none.
+/// A C program's handle of a walk, or an empty one.
 #[repr(C)]
 pub struct WalkHandle {
     pub(crate) slot: Slot,
@@ -18,14 +18,14 @@ pub struct WalkHandle {
 }
 
 impl WalkHandle {
-    /// Whether there is a walk.
+    /// Whether the handle has a walk.
     pub(crate) fn is_full(&self) -> bool
         ensures { result ≡ is_some self.now.slot.walk }
     {
         self.full
     }
 
-    /// Puts a walk where none is.
+    /// Puts a walk into an empty handle.
     pub(crate) fn fill(&mut self, walk: Box<Session, Global>)
         requires { self.old.slot.walk ≡ None }
         ensures { self.new.slot.walk ≡ Some walk.value }

@@ -15,7 +15,8 @@ abbrev borrowed_bytes : {W : Type 0} → (W → Option (List ℕ)) → Borrowed 
 borrowed_bytes held borrowed = option_map (λ bytes. borrowed.writer.ghost_name ∷ bytes) (held borrowed.writer.now)
 
 -- the same reference came back, where the bytes are known
-Appends-named : (old new given : Option (List ℕ)) (n m : ℕ) (bytes : List ℕ) → Appends (option_map (λ l. n ∷ l) old) (option_map (λ l. m ∷ l) new) bytes → (n ≡ m → given ≡ new) → Appends old given bytes
+Appends-named : (old new given : Option (List ℕ)) (n m : ℕ) (bytes : List ℕ) → Appends (option_map (λ l. n ∷ l) old)
+    (option_map (λ l. m ∷ l) new) bytes → (n ≡ m → given ≡ new) → Appends old given bytes
 Appends-named None new given n m bytes wrote same = tt
 Appends-named (Some xs) None given n m bytes wrote same = absurd wrote
 Appends-named (Some xs) (Some ys) given n m bytes wrote same =
@@ -26,8 +27,10 @@ Appends-named (Some xs) (Some ys) given n m bytes wrote same =
 module _ {W : Type 0} (held : W → Option (List ℕ)) (borrowed first last back : Borrowed W) (given : W) where
   -- What the call appended was appended behind the reference.
   pub Appends-borrowed : first ≡ borrowed → back ≡ last → (borrowed.writer.ghost_name ≡ back.writer.ghost_name → given ≡ back.writer.now)
-      → (bytes : List ℕ) → Appends (borrowed_bytes held first) (borrowed_bytes held last) bytes → Appends (held borrowed.writer.now) (held given) bytes
+      → (bytes : List ℕ) → Appends (borrowed_bytes held first) (borrowed_bytes held last) bytes → Appends
+      (held borrowed.writer.now) (held given) bytes
   Appends-borrowed start end same bytes wrote =
       let from_borrowed = subst (λ x. Appends (borrowed_bytes held x) (borrowed_bytes held last) bytes) start wrote in
       let to_back = subst (λ x. Appends (borrowed_bytes held borrowed) (borrowed_bytes held x) bytes) (sym end) from_borrowed in
-      Appends-named (held borrowed.writer.now) (held back.writer.now) (held given) borrowed.writer.ghost_name back.writer.ghost_name bytes to_back (λ e. ap held (same e))
+      Appends-named (held borrowed.writer.now) (held back.writer.now) (held given) borrowed.writer.ghost_name
+      back.writer.ghost_name bytes to_back (λ e. ap held (same e))

@@ -29,11 +29,13 @@ has_unread-push (Found q ∷ is) p k = has_unread-push is p k
 has_unread-push (Unread q l ∷ is) p k = refl
 
 -- what is wanted of some items and of those after them
-pub wanted-append : (wanted : Text → Bool) (is js : List Item) → wanted_paths wanted (is ++ js) ≡ wanted_paths wanted is ++ wanted_paths wanted js
+pub wanted-append : (wanted : Text → Bool) (is js : List Item) → wanted_paths wanted (is ++ js) ≡ wanted_paths wanted
+    is ++ wanted_paths wanted js
 wanted-append wanted is js = ap (filter wanted) (paths-append is js) ∙ filter-append wanted (paths is) (paths js)
 
 -- the records of these paths are a beginning of those of all
-pub records_begin : (end : ℕ) (wanted : Text → Bool) (texts : List Text) (given more all : List Item) → texts ≡ wanted_paths wanted given → all ≡ given ++ more
+pub records_begin : (end : ℕ) (wanted : Text → Bool) (texts : List Text) (given more all : List Item)
+    → texts ≡ wanted_paths wanted given → all ≡ given ++ more
     → with_ends end (wanted_paths wanted all) ≡ with_ends end texts ++ with_ends end (wanted_paths wanted more)
 records_begin end wanted texts given more all kept split =
     ap (λ is. with_ends end (wanted_paths wanted is)) split
@@ -41,8 +43,10 @@ records_begin end wanted texts given more all kept split =
     ∙ flat_map-append (ended_record end) texts (wanted_paths wanted more)
 
 -- the records of some paths and one more
-pub records_push : (end : ℕ) (texts : List Text) (text : Text) → with_ends end (texts ++ text ∷ []) ≡ with_ends end texts ++ ended_record end text
-records_push end texts text = flat_map-append (ended_record end) texts (text ∷ []) ∙ ap (λ l. with_ends end texts ++ l) (append-nil (ended_record end text))
+pub records_push : (end : ℕ) (texts : List Text) (text : Text) → with_ends end (texts ++ text ∷ []) ≡ with_ends end
+    texts ++ ended_record end text
+records_push end texts text = flat_map-append (ended_record end) texts (text ∷ []) ∙ ap (λ l. with_ends end texts ++ l)
+    (append-nil (ended_record end text))
 
 pub wanted_one : (wanted : Text → Bool) (text : Text) → true ≡ wanted text → text ∷ [] ≡ wanted_paths wanted (Found text ∷ [])
 wanted_one wanted text sure = rw (sym sure) refl
@@ -51,6 +55,8 @@ pub unwanted_one : (wanted : Text → Bool) (text : Text) → false ≡ wanted t
 unwanted_one wanted text never = rw (sym never) refl
 
 -- one more item
-pub wanted_push : (wanted : Text → Bool) (texts more : List Text) (given : List Item) (item : Item) → texts ≡ wanted_paths wanted given → more ≡ wanted_paths wanted (item ∷ [])
+pub wanted_push : (wanted : Text → Bool) (texts more : List Text) (given : List Item) (item : Item)
+    → texts ≡ wanted_paths wanted given → more ≡ wanted_paths wanted (item ∷ [])
     → texts ++ more ≡ wanted_paths wanted (given ++ item ∷ [])
-wanted_push wanted texts more given item kept last = ap (λ ts. ts ++ more) kept ∙ ap (λ ts. wanted_paths wanted given ++ ts) last ∙ sym (wanted-append wanted given (item ∷ []))
+wanted_push wanted texts more given item kept last = ap (λ ts. ts ++ more) kept ∙ ap (λ ts. wanted_paths wanted given
+    ++ ts) last ∙ sym (wanted-append wanted given (item ∷ []))

@@ -20,16 +20,19 @@ noting_end f (LimitAt path) e is = ap (λ x. record f { end = x }) (same_Some en
 noting_end f NoMemory e is = ap (λ x. record f { end = x }) (same_Some end.Memory e is)
 
 -- a path is a path
-pub noting_path : {A : Type 0} (f : Findings) (item : Result (PathBuf A) (GlobError A)) → is_ok item ≡ true → noting f (outcome item) ≡ record f { has_path = true }
+pub noting_path : {A : Type 0} (f : Findings) (item : Result (PathBuf A) (GlobError A)) → is_ok item ≡ true → noting f
+    (outcome item) ≡ record f { has_path = true }
 noting_path f (Ok path) is = refl
 noting_path f (Err error) is = absurd (cc)
 
 -- an error that is no refusal is a directory that could not be listed
-pub noting_error : {A : Type 0} (f : Findings) (item : Result (PathBuf A) (GlobError A)) → is_ok item ≡ false → refusal_end (outcome item) ≡ None → noting f (outcome item) ≡ record f { has_error = true }
+pub noting_error : {A : Type 0} (f : Findings) (item : Result (PathBuf A) (GlobError A)) → is_ok item ≡ false
+    → refusal_end (outcome item) ≡ None → noting f (outcome item) ≡ record f { has_error = true }
 noting_error f (Ok path) is none = absurd (cc)
 noting_error {A} f (Err error) is none = of_cause (cause_of error) none
   where
-    of_cause : (k : GlobCause) → refusal_end (error_outcome k error) ≡ None → noting f (error_outcome k error) ≡ record f { has_error = true }
+    of_cause : (k : GlobCause) → refusal_end (error_outcome k error) ≡ None → noting f (error_outcome k error) ≡ record
+        f { has_error = true }
     of_cause cause.Read none = refl
     of_cause cause.Memory none = absurd (cc)
     of_cause cause.Limit none = absurd (cc)

@@ -1,5 +1,6 @@
 -- The number that a text of digits writes, as `parse` reads it.
-use Rattle.std.proofs.Common.{◌≡◌, ℕ, ◌^◌, ◌<◌, ◌≤◌, ◌&&◌, Bool, true, false, List, [], ◌∷◌, Some, Result, Ok, Err, length, refl, sym, ap, subst, ◌∙◌, arith}
+use Rattle.std.proofs.Common.{◌≡◌, ℕ, ◌^◌, ◌<◌, ◌≤◌, ◌&&◌, Bool, true, false, List, [], ◌∷◌, Some, Result, Ok, Err}
+use Rattle.std.proofs.Common.{length, refl, sym, ap, subst, ◌∙◌, arith}
 use Rattle.std.specs.Prelude.{◌==◌}
 use Rattle.std.specs.Char.{is_ascii_digit}
 use Rattle.std.specs.List.{list_all}
@@ -32,7 +33,8 @@ no_plus (c ∷ cs) e =
     let other : (c == 43) ≡ false = ne_eqb c 43 (λ same. omega (arith, same, low)) in
     rw other refl
 
-is_limit-from : (word : List ℕ) → 0 < length word → length word ≤ 20 → list_all is_ascii_digit word ≡ true → digits_value 10 word < 2 ^ 64 → is_limit word ≡ true
+is_limit-from : (word : List ℕ) → 0 < length word → length word ≤ 20 → list_all is_ascii_digit word ≡ true
+    → digits_value 10 word < 2 ^ 64 → is_limit word ≡ true
 is_limit-from word some short digits fits =
     rw (lt-ltb 0 (length word) some) (rw (le-leb (length word) 20 short) (rw digits (lt-ltb (digits_value 10 word) (2 ^ 64) fits)))
 
@@ -42,7 +44,8 @@ is_limit-numeral word e =
     (ltb-true 0 (length word) some, ltb-true (digits_value 10 word) (2 ^ 64) (both _ _ (both _ _ others).1).1)
 
 -- of at most twenty digits, `parse` gives the limit
-pub result_ok-limit : {E : Type 0} (r : Result ℕ E) (word : List ℕ) → length word ≤ 20 → list_all is_ascii_digit word ≡ true → ParsesUnsigned 64 10 word r
+pub result_ok-limit : {E : Type 0} (r : Result ℕ E) (word : List ℕ) → length word ≤ 20 → list_all is_ascii_digit word ≡
+    true → ParsesUnsigned 64 10 word r
     → result_ok r ≡ limit_of word
 result_ok-limit (Ok n) word short digits ((numeral, fits), is) =
     let plain = no_plus word digits in

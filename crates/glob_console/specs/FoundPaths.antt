@@ -1,4 +1,4 @@
--- What is written of a walk: the paths that are wanted.
+-- Which paths of a walk are written, and with which status.
 use Rattle.std.specs.Prelude.{◌≡◌, ℕ, ◌<◌, ◌≤◌, ◌⊎◌, if◌then◌else◌, Bool, true, false, List, [], ◌∷◌, Option, ⊤, codes}
 use Rattle.std.specs.List.{filter}
 use Rattle.std.specs.Io.KnownBytes.{Appends}
@@ -19,33 +19,32 @@ abbrev pub has_any : List Text → Bool
 has_any [] = false
 has_any (path ∷ paths) = true
 
--- whether an item is an error
+-- whether one of the items is an error
 abbrev pub has_unread : List Item → Bool
 has_unread [] = false
 has_unread (Found path ∷ is) = has_unread is
 has_unread (Unread path kind ∷ is) = true
 
--- each path is wanted
+-- every path is wanted
 abbrev pub every : Text → Bool
 every path = true
 
--- the paths among the items that are wanted
+-- the wanted paths among the items
 abbrev pub wanted_paths : (wanted : Text → Bool) → List Item → List Text
 wanted_paths wanted is = filter wanted (paths is)
 
--- the status of a whole walk: 2 with an error among its items, and else 0 with a wanted path, and 1 without
+-- the exit status of a complete walk: 2 if an item is an error, else 0 if there is a wanted path, else 1
 abbrev pub found_status : (wanted : Text → Bool) → List Item → ℕ
 found_status wanted is = if has_unread is then 2 else (if has_any (wanted_paths wanted is) then 0 else 1)
 
--- What a walk gave that came to this end within the limit: all items of the listing; those before the first unit of
--- work that does not fit; or, without memory, those of what was charged, but for at most the last.
+-- The items that a walk with this limit gave if it ended so: all items of the listing; those before the first unit of
+-- work that does not fit; or, if an allocation failed, those of the units charged, perhaps without the last.
 abbrev pub GaveItems : (listing : List Mark) → (limit : ℕ) → End → List Item → Type 0
 GaveItems ms limit end.Done given = (cost ms ≤ limit) × (given ≡ items ms)
 GaveItems ms limit end.Limit given = (limit < cost ms) × (given ≡ items (front limit ms))
 GaveItems ms limit end.Memory given = (spent : ℕ) × (spent ≤ limit) × IsCutShort ms spent given
 
--- The wanted paths of what the walk gave were written, a record each, in order, also those between errors and after
--- them.
+-- The wanted paths among the items of the walk were written, a record each, in order, whether or not there were errors.
 abbrev pub FindsPaths : (end : ℕ) → (wanted : Text → Bool) → (listing : List Mark) → (limit : ℕ)
     → (old new : Option (List ℕ)) → Findings → Type 0
 FindsPaths end wanted ms limit old new findings =
@@ -55,12 +54,12 @@ FindsPaths end wanted ms limit old new findings =
     × (findings.has_path ≡ has_any (wanted_paths wanted given))
     × (findings.has_error ≡ has_unread given)
 
--- of the records of all wanted paths of the listing, the first n bytes were added, for some n
+-- the first n bytes of the records of all wanted paths of the listing were written, for some n
 abbrev pub FindsSomeBytes : (end : ℕ) → (wanted : Text → Bool) → (listing : List Mark)
     → (old new : Option (List ℕ)) → Type 0
 FindsSomeBytes end wanted ms old new = AppendsFront old new (with_ends end (wanted_paths wanted (items ms)))
 
--- the status says of the whole walk what it says; or it is 2
+-- the status is 2, or it is the status of the complete walk, for which the limit is enough
 unfoldable pub IsFindStatus : (wanted : Text → Bool) → (listing : List Mark) → (limit : ℕ) → (status : ℕ) → Type 0
 IsFindStatus wanted ms limit status =
     (status ≡ 2) ⊎ ((cost ms ≤ limit) × (status ≡ found_status wanted (items ms)))
@@ -73,8 +72,8 @@ status_of findings = elim findings.end [
   | end.Memory ↦ 2
 ]
 
--- What is written, with its status: all that was found and is wanted, with the status of that; or, with the status 2, a
--- beginning of the records of the listing, where a pattern was refused or a line could not be written.
+-- What was written, and the status: all wanted paths that were found, with the status of the findings; or, with the
+-- status 2, only the first bytes of the records of all wanted paths of the listing.
 unfoldable pub WritesFound : (end : ℕ) → (wanted : Text → Bool) → (listing : List Mark) → (limit : ℕ)
     → (old new : Option (List ℕ)) → (status : ℕ) → Type 0
 WritesFound end wanted ms limit old new status =
@@ -87,19 +86,20 @@ IsRefusal (Pattern refusal) = ⊤
 IsRefusal Memory = ⊥
 IsRefusal (Write error) = ⊥
 
--- a line could not be written, or there was no memory
+-- a line could not be written, or an allocation failed
 abbrev pub IsWriting : FindFault → Type 0
 IsWriting (Pattern refusal) = ⊥
 IsWriting Memory = ⊤
 IsWriting (Write error) = ⊤
 
--- the fault is a line that could not be written, or one of the pattern, which is refused with it
+-- the fault is the one that the pattern is refused with, or a failed allocation or write
 abbrev pub IsFindFault : (pattern : Text) → FindFault → Type 0
 IsFindFault pattern (Pattern refusal) = RefusesWith (walk_fault pattern) refusal
 IsFindFault pattern Memory = ⊤
 IsFindFault pattern (Write error) = ⊤
 
--- what the line of a fault says where there is memory for it and, after a write, if it has one
+-- The message of a fault. Its line says `out of memory` instead if there is no memory for it, and a failed write may
+-- have no line.
 abbrev pub find_fault_words : FindFault → Text
 find_fault_words (Pattern refusal) = refusal_words refusal
 find_fault_words Memory = codes "out of memory"

@@ -3,6 +3,6 @@ use Rattle.std.specs.Prelude.{◌≡◌, List}
 use Rattle.glob_walk.specs.Marks.{Item, paths}
 use Rattle.glob_console.specs.FoundPaths.{every, wanted_paths}
 
--- where each path is wanted, those that are wanted are all paths
+-- if every path is wanted, the wanted paths are all paths
 abbrev pub EveryPathIsWanted : Type 0
 EveryPathIsWanted = (items : List Item) → wanted_paths every items ≡ paths items

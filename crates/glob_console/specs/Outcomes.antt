@@ -1,9 +1,9 @@
--- What a run comes to: its status, and what its output gained.
+-- How a run ends: its status, and what was added to its output.
 use Rattle.std.specs.Prelude.{◌≡◌, ℕ, ◌⊎◌, List, Option}
 use Rattle.std.specs.Io.KnownBytes.{Appends}
 use Rattle.glob_lines.specs.Lines.{AppendsFront}
 
--- a fault before anything was done with the output
+-- a fault before anything was written to the output
 abbrev pub IsRefused : {W : Type 0} → (old new : W) → (status : ℕ) → Type 0
 IsRefused old new status = (status ≡ 2) × (new ≡ old)
 

@@ -1,4 +1,4 @@
-//! Which paths of a walk are written, and how its errors are.
+//! Which paths of a walk are written, and how its errors are reported.
 ghost use Rattle.std.specs.Prelude.{◌≡◌, Bool, IfOk};
 ghost use Rattle.glob_console.specs.FoundPaths.{every};
 ghost use Rattle.glob_text.specs.Text.{Text};
@@ -11,8 +11,8 @@ use glob_walk::GlobError;
 use std::alloc::{AllocError, Allocator};
 use std::io::Write;
 
-/// What says which paths of a walk are written, and may look them up in the tree that is walked, and how errors of the
-/// walk are. The same choice gives the same answer for the same path and content.
+/// Decides which paths of a walk are written, perhaps by looking them up in the tree, and how errors of the walk are
+/// reported. The same choice gives the same answer for the same path and content.
 ///
 /// ```text
 /// struct Directories;
@@ -36,14 +36,14 @@ use std::io::Write;
 pub trait Choice {
     ghost wanted: { Self → Content → Text → Bool };
 
-    /// Whether a path is written. The error is an allocation failure.
+    /// Whether a path is written. The error is a failed allocation.
     fn wants<T: Tree>(&self, tree: &mut T, path: &str) -> Result<bool, AllocError>
         ensures content { T.tells tree.new ≡ T.tells tree.old }
         ensures wanted { (c : Content) → IsTold (T.tells tree.old) c
             → IfOk result (λ yes. yes ≡ wanted self.now c path.now) };
 
-    /// Writes what is said of an error of the walk: of a directory that cannot be listed, or, as the last item, of the
-    /// limit or an allocation failure.
+    /// Reports an error of the walk: a directory that could not be listed, or, as the last item, a limit that was
+    /// reached or a failed allocation.
     fn report<A: Allocator + Copy, E: Write>(
         &self,
         error: &GlobError<A>,
@@ -51,7 +51,7 @@ pub trait Choice {
     );
 }
 
-/// Each path is written, and each error is the line that it prints.
+/// Writes every path, and a line for every error.
 pub struct Every;
 
 impl Choice for Every {

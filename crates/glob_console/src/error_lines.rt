@@ -11,10 +11,10 @@ use std::alloc::Allocator;
 use std::fmt::Display;
 use std::io::{self, Write};
 
-/// The lines that a program writes to standard error, each behind the same words: the program's name, or none. A fault
-/// of the writer itself is dropped.
+/// The lines that a program writes to standard error, each after the same prefix: the program's name, or nothing.
+/// Errors of the writer are ignored.
 ///
-/// By `ErrorLines::new(alloc, "globs: ", &mut stderr)` the fault `out of memory` is the line `globs: out of memory`.
+/// With `ErrorLines::new(alloc, "globs: ", &mut stderr)` the message `out of memory` becomes `globs: out of memory`.
 #[derive(Drop)]
 pub struct ErrorLines<'e, A: Allocator, E> {
     alloc: A,
@@ -24,7 +24,7 @@ pub struct ErrorLines<'e, A: Allocator, E> {
 }
 
 impl<'e, A: Allocator + Copy, E: Write> ErrorLines<'e, A, E> {
-    /// Lines of the writer that begin with `prefix`.
+    /// Lines for the writer that begin with `prefix`.
     pub fn new(alloc: A, prefix: &'e str, writer: &'e mut E) -> Self
         ensures prefix { result.prefix.now ≡ prefix.entry.now }
         ensures quiet { result.is_quiet ≡ false }
@@ -37,7 +37,7 @@ impl<'e, A: Allocator + Copy, E: Write> ErrorLines<'e, A, E> {
         }
     }
 
-    /// The same lines, but none for a write whose reader went away.
+    /// The same, but silent about a failed write whose reader is gone (a broken pipe).
     pub fn quiet(alloc: A, prefix: &'e str, writer: &'e mut E) -> Self
         ensures prefix { result.prefix.now ≡ prefix.entry.now }
         ensures quiet { result.is_quiet ≡ true }
@@ -48,7 +48,7 @@ impl<'e, A: Allocator + Copy, E: Write> ErrorLines<'e, A, E> {
         }
     }
 
-    /// As [`write_line`], behind the words that the lines begin with.
+    /// Writes a line as [`write_line`] does, with the prefix of these lines.
     pub fn write<D: Display>(&mut self, message: &D)
         ensures line { IfSome (D.output message.now) (λ text. WritesLine self.old.prefix.now text
             (E.contents self.old.writer.now) (E.contents self.new.writer.now)) }
@@ -58,7 +58,7 @@ impl<'e, A: Allocator + Copy, E: Write> ErrorLines<'e, A, E> {
         write_line(self.alloc, self.prefix, message, self.writer);
     }
 
-    /// Writes the line of a fault, and returns its status.
+    /// Writes the line of a fault, and returns its exit status.
     pub fn fault<D: Display + Drop>(&mut self, message: D) -> u8
         ensures status { result ≡ 2 }
         ensures line { IfSome (D.output message) (λ text. WritesLine self.old.prefix.now text
@@ -70,8 +70,8 @@ impl<'e, A: Allocator + Copy, E: Write> ErrorLines<'e, A, E> {
         FAULT
     }
 
-    /// Writes the line of a write to the output that failed, which is `writing failed`, and returns the status of a
-    /// fault. Quiet lines have none where the reader of the output went away.
+    /// Writes the line of a failed write to the output, `writing failed`, and returns the exit status of a fault. Quiet
+    /// lines say nothing if the reader of the output is gone.
     pub fn write_fault(&mut self, error: &io::Error) -> u8
         ensures status { result ≡ 2 }
         ensures line { WritesLine self.old.prefix.now (codes "writing failed")
@@ -87,8 +87,8 @@ impl<'e, A: Allocator + Copy, E: Write> ErrorLines<'e, A, E> {
         self.fault("writing failed")
     }
 
-    /// Writes the line of arguments that could not be read: `out of memory`, or `message` where one is not UTF-8. It
-    /// returns the status of a fault.
+    /// Writes the line for arguments that could not be read: `out of memory`, or `message` if one is not UTF-8. Returns
+    /// the exit status of a fault.
     pub fn arguments_fault(&mut self, error: &io::Error, message: &str) -> u8
         ensures status { result ≡ 2 }
         ensures line { WritesLine self.old.prefix.now message.now
@@ -106,8 +106,8 @@ impl<'e, A: Allocator + Copy, E: Write> ErrorLines<'e, A, E> {
     }
 }
 
-/// Writes a line that begins with `prefix`, at once, so that no other process writes into it. Where there is no memory
-/// for the line, it says `out of memory`. A fault of the writer is dropped.
+/// Writes a line that begins with `prefix`, in one write if the writer accepts all of it, so that no other process
+/// writes into it. If there is no memory for the line, it says `out of memory`. Errors of the writer are ignored.
 pub fn write_line<A: Allocator + Copy, D: Display, E: Write>(
     alloc: A,
     prefix: &str,
@@ -123,7 +123,7 @@ pub fn write_line<A: Allocator + Copy, D: Display, E: Write>(
     };
 }
 
-/// Writes, without memory, the line that stands for one that there was no memory for.
+/// Writes the line `out of memory` without allocating.
 fn write_scarce<E: Write>(prefix: &str, writer: &mut E) -> io::Result<()>
     ensures { AppendsFront (E.contents writer.old) (E.contents writer.new)
         (prefix.now ++ codes "out of memory\n") }
@@ -132,7 +132,7 @@ fn write_scarce<E: Write>(prefix: &str, writer: &mut E) -> io::Result<()>
     write_whole(writer, b"out of memory\n")
 }
 
-/// Whether a write that failed has a line: not if the lines are quiet and its reader went away.
+/// Whether a failed write is reported: it is not if the lines are quiet and the reader is gone.
 fn is_reported(is_quiet: bool, error: &io::Error) -> bool
     ensures { IsFalse result ↔ (IsTrue is_quiet × (error_kind error.now ≡ BrokenPipe)) }
 {

@@ -1,4 +1,4 @@
-//! What a walk of a tree finds and a choice wants, a record for each path.
+//! Writes the paths that a walk finds and a choice wants, a record for each.
 ghost use Rattle.std.specs.Prelude.{◌≡◌, ◌≢◌, ◌++◌, [], List, IfOk, IfErr, IsErrAnd, OnErr, OnOk};
 ghost use Rattle.glob_tree.specs.Answers.{IsTold};
 ghost use Rattle.glob_tree.specs.Content.{Content};
@@ -6,7 +6,7 @@ ghost use Rattle.glob_lines.specs.Lines.{AppendsFront};
 ghost use Rattle.glob_walk.specs.Components.{walk_fault};
 ghost use Rattle.glob_walk.specs.Listing.{listing};
 ghost use Rattle.glob_walk.specs.Marks.{Mark};
-ghost use Rattle.glob_walk.specs.Driven.{HasGiven};
+ghost use Rattle.glob_walk.specs.Machines.{HasGiven};
 ghost use Rattle.glob_console.specs.FoundPaths.{FindsPaths, FindsSomeBytes, IsFindFault, IsRefusal, IsWriting};
 ghost use Rattle.glob_console.specs.Private.Writing.{Queues, StepWrites, is_item_wanted, step_record};
 
@@ -24,7 +24,7 @@ use glob_walk::{Step, WalkMachine};
 use lines::Lines;
 use std::io::Write;
 
-/// What is walked, how far, and what ends each record that is written.
+/// What to walk for, how far, and what ends each record.
 #[derive(Clone, Copy)]
 pub struct WalkSettings<'a> {
     /// The pattern, as a text.
@@ -37,13 +37,13 @@ pub struct WalkSettings<'a> {
     pub end: u8,
 }
 
-/// Walks the tree: each path that the choice wants is a record of `output`, and each error is what the choice says of
-/// it in `errors`, after the paths before it. The first path is written at once. Later ones wait for others: until
-/// there are 8 KiB of them, or the walk asks after a hundred units more.
+/// Walks the tree. Each path that the choice wants becomes a record of `output`, and the choice reports each error to
+/// `errors`, after the paths before it. The first path is written immediately. Later paths are gathered until there are
+/// 8 KiB of them, until an error or the end, or until the walk asks a question after a hundred units more.
 ///
-/// Over files `x` and `y`, `*` writes the lines `x` and `y`, where every path is wanted. With the limit 3 it writes
-/// none, and the walk's end is `Limit`. If the pattern is refused, `output` stays as it was. If a line cannot be
-/// written, `output` gained the first bytes of these lines.
+/// With files `x` and `y`, `*` writes the lines `x` and `y` if every path is wanted. With the limit 3 it writes none,
+/// and the walk ends with `Limit`. If the pattern is refused, `output` is unchanged. If a line cannot be written, the
+/// first bytes of these lines were added to `output`.
 pub fn find_in<T: Tree, C: Choice, W: Write, E: Write>(
     alloc: T::Alloc,
     tree: T,
@@ -77,7 +77,7 @@ pub fn find_in<T: Tree, C: Choice, W: Write, E: Write>(
     )
 }
 
-/// Writes the wanted items of a walk up to its end, whose questions the tree answers.
+/// Runs a walk to its end with the tree's answers, and writes its wanted items.
 fn write_items<T: Tree, C: Choice, W: Write, E: Write>(
     alloc: T::Alloc,
     tree: &mut T,
@@ -118,8 +118,8 @@ fn write_items<T: Tree, C: Choice, W: Write, E: Write>(
     }
 }
 
-/// Writes and notes the item of a step, if it is wanted: a path, or an error. After the last step it writes all lines
-/// that wait, and before a question those that have waited long.
+/// Writes and notes the item of a step, a path or an error, if it is wanted. After the last step it writes all waiting
+/// lines, and before a question those that have waited long.
 fn write_step<T: Tree, C: Choice, W: Write, E: Write>(
     step: &Step<T::Alloc>,
     spent: u64,

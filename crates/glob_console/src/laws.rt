@@ -1,7 +1,7 @@
 //! Laws of what is written: each is the contract of a function that does nothing.
 ghost use Rattle.glob_console.specs.Laws.{EveryPathIsWanted};
 
-/// Where each path is wanted, those that are wanted are all paths of the walk.
+/// If every path is wanted, the wanted paths are all paths of the walk.
 pub fn every_path_is_wanted()
     ensures { EveryPathIsWanted }
 {}

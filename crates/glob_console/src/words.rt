@@ -8,7 +8,7 @@ use glob_pattern::MatchOptions;
 use std::alloc::{AllocError, Allocator};
 use std::{env, io};
 
-/// The arguments after the program's name. The error is too little memory for them, or one that is not UTF-8.
+/// The arguments after the program's name. The error is a failed allocation, or an argument that is not UTF-8.
 pub fn arguments(rt: &HostRuntime) -> io::Result<Vec<String>> {
     Ok(env::args(rt)?.skip(1).collect(rt.alloc())?)
 }
@@ -28,7 +28,7 @@ pub fn words_of<A: Allocator + Copy>(
     Ok(words)
 }
 
-/// Sets the match option that the word names: `-i`, `-s` or `-d`. False where it names none.
+/// Sets the match option that the word names: `-i`, `-s` or `-d`. Returns false if it names none.
 pub fn set_match_option(options: &mut MatchOptions, word: &str) -> bool
     ensures named { result ≡ is_match_option options.old word.now }
     ensures set { options.new ≡ with_option word.now options.old }
@@ -42,7 +42,7 @@ pub fn set_match_option(options: &mut MatchOptions, word: &str) -> bool
     }
 }
 
-/// The options with the one that the word sets: a hyphen, and the letter of a match option.
+/// The options with the one that the word sets: a hyphen and the letter of a match option.
 fn option_set(options: MatchOptions, word: &str) -> Option<MatchOptions>
     ensures { result ≡ option_set word.now options }
 {
@@ -52,7 +52,8 @@ fn option_set(options: MatchOptions, word: &str) -> Option<MatchOptions>
     }
 }
 
-/// A limit: one to twenty decimal digits, whose number is at most `u64::MAX`. So `007` is 7, and `+7` none.
+/// Parses a limit: one to twenty decimal digits, for a number of at most `u64::MAX`. `007` is 7, and `+7` is not a
+/// limit.
 pub fn parse_limit(digits: &str) -> Option<u64>
     ensures { result ≡ limit_of digits.now }
 {
@@ -62,7 +63,7 @@ pub fn parse_limit(digits: &str) -> Option<u64>
     digits.parse().ok()
 }
 
-/// Whether each character is a decimal digit. So `parse` meets no sign.
+/// Whether every character is a decimal digit, so that `parse` never sees a sign.
 fn are_digits(text: &str) -> bool
     ensures { result ≡ list_all is_ascii_digit text.now }
 {

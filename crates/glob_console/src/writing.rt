@@ -1,4 +1,4 @@
-//! Writes of whole texts.
+//! Writes whole texts.
 ghost use Rattle.std.specs.Prelude.{◌≡◌, ◌≤◌, codes};
 ghost use Rattle.glob_console.specs.Lines.{WritesLine};
 ghost use Rattle.glob_console.specs.Outcomes.{WritesText};
@@ -9,7 +9,7 @@ use glob_lines::write_whole;
 use std::alloc::Allocator;
 use std::io::Write;
 
-/// Writes the whole text, and returns the status: 0, or 2 after the line of a write that failed.
+/// Writes the whole text, and returns the exit status: 0, or 2 after a line that says that the write failed.
 #[tactic(auto, unfolding(crate::specs::Outcomes::WritesText))]
 pub fn write_text<A: Allocator + Copy, W: Write, E: Write>(
     text: &str,

@@ -1,4 +1,4 @@
--- What the calls answer, as numbers.
+-- The numbers that calls return.
 use Rattle.std.specs.Prelude.{◌≡◌, ℕ, ◌<◌, ◌≤◌, List, [], ◌∷◌, length, map, AllPairs, IsUtf8, chars}
 use Rattle.glob_pattern.specs.Computing.Tokens.{tokens_of, kind_of}
 use Rattle.glob_pattern.specs.Grammar.Units.{IsAccepted}
@@ -17,7 +17,7 @@ use Rattle.glob_pattern.specs.declared.pattern.tokens.TokenKind.TheVariants as k
 abbrev pub no : ℕ
 no = 0
 
--- the text matches, or the call did what it is for
+-- the text matches, or the call succeeded
 abbrev pub yes : ℕ
 yes = 1
 
@@ -25,7 +25,7 @@ yes = 1
 abbrev pub fault : ℕ
 fault = 2
 
--- bytes are no UTF-8
+-- some bytes are not UTF-8
 abbrev pub not_utf8 : ℕ
 not_utf8 = 4
 
@@ -37,7 +37,8 @@ too_large = 5
 abbrev pub no_path : ℕ
 no_path = 6
 
--- the answers yes and no are those of the definition of a match, of a pattern and a text that are UTF-8
+-- Yes and no are decided by the definition of a match, for a valid pattern. A fault is reported only for an invalid
+-- pattern, and `not_utf8` exactly if some bytes are not UTF-8.
 pub record Decides (pattern text : List ℕ) (flags answer : ℕ) : Type 0 where
   pub range : answer ≤ too_large
   pub accepted : answer ≤ yes → IsAccepted (chars pattern)
@@ -61,27 +62,27 @@ kind_number kind.Recursive = 3
 kind_number kind.OneOf = 4
 kind_number kind.NoneOf = 5
 
--- of each token its kind, and where it starts and ends
+-- for each token its kind, and where it starts and ends
 abbrev pub written_numbers : List Written → List ℕ
 written_numbers [] = []
 written_numbers (token ∷ tokens) =
     kind_number token.kind ∷ token.piece.start ∷ token.piece.end ∷ written_numbers tokens
 
--- the numbers are the kinds of the pattern's tokens, in order, and where each is written: one after another, from the
--- start of the pattern up to its end
+-- The numbers are the kinds of the pattern's tokens, in order, and where each is: one after another, from the start of
+-- the pattern to its end.
 unfoldable pub AreTokens : (pattern numbers : List ℕ) → Type 0
 AreTokens pattern numbers =
     (list : List Written) × (map (λ token. token.kind) list ≡ map kind_of (tokens_of (chars pattern)))
     × AreWritten (chars pattern) 0 (tokens_of (chars pattern)) list (length (chars pattern))
     × (numbers ≡ written_numbers list)
 
--- the numbers are where the shortest pieces of the text start and end, one piece a token of the pattern
+-- the numbers are where the shortest pieces of the text start and end, one piece per token of the pattern
 unfoldable pub ArePieces : MatchOptions → (pattern text numbers : List ℕ) → Type 0
 ArePieces o pattern text numbers =
     (pieces : List Piece) × AreCaptures o (tokens_of (chars pattern)) (chars text) pieces × (numbers ≡ numbers_of pieces)
 
--- the first of the numbers is how far the text can be taken, and the others are the tokens that wait there, each once and
--- in order
+-- The first number is how far the pattern gets in the text, and the others are the tokens that wait there, each once
+-- and in ascending order.
 unfoldable pub IsStop : MatchOptions → (pattern text numbers : List ℕ) → Type 0
 IsStop o pattern text numbers =
     (place : ℕ) × (waiting : List ℕ) × IsReached o (tokens_of (chars pattern)) (chars text) place waiting

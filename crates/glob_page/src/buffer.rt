@@ -1,4 +1,4 @@
-//! Answers are written to buffers of the page.
+//! Writes answers to the buffers of the page.
 ghost use Rattle.std.specs.Prelude.{◌≡◌, ◌<◌, ◌≤◌, true, false, length, take};
 
 pub(crate) const NO: u32 = 0;
@@ -15,7 +15,8 @@ pub(crate) const TOO_LARGE: u32 = 5;
 
 pub(crate) const NO_PATH: u32 = 6;
 
-/// Writes the bytes to the start of `out`, and their number to `count`: all, or none where they do not fit.
+/// Writes the bytes to the start of `out`, unless they do not fit, and their number to `count`. Returns whether they
+/// fit.
 pub(crate) fn write(bytes: &[u8], out: &mut [u8], count: &mut usize) -> bool
     ensures count { count.new ≡ length bytes.now }
     ensures written { result ≡ true → take count.new out.new ≡ bytes.now }
@@ -30,7 +31,7 @@ pub(crate) fn write(bytes: &[u8], out: &mut [u8], count: &mut usize) -> bool
     true
 }
 
-/// The same, of numbers.
+/// The same for numbers.
 pub(crate) fn write_numbers(numbers: &[usize], out: &mut [usize], count: &mut usize) -> bool
     ensures count { count.new ≡ length numbers.now }
     ensures written { result ≡ true → take count.new out.new ≡ numbers.now }

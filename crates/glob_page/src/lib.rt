@@ -1,5 +1,5 @@
-//! What the page of docs/page calls: why a text is no pattern, its tokens, the pieces of a match, and walks. `bin/page`
-//! builds it for WebAssembly.
+//! What the page of docs/page calls: why a pattern is not valid, its tokens, the pieces of a match, and walks.
+//! `bin/page` builds it for WebAssembly.
 #![tactic(auto)]
 
 mod buffer;

@@ -11,11 +11,12 @@ use glob_captures::{CapturesError, MOST_STEPS, Piece, Reached, captures, reach};
 use glob_pattern::{MatchOptions, Pattern, PatternRefusal};
 use std::alloc::{AllocError, Global};
 
-/// Whether the pattern matches the text, under the options that the flags say: 0 for no, and 1 for yes.
+/// Whether the pattern matches the text, under the options of the flags: 0 for no, and 1 for yes.
 ///
-/// After 1 `out` begins with where each token's piece starts and ends, in bytes; after 0 with where the text stops, and the
-/// numbers of the tokens that stopped there. `count` says how many numbers these are. The others: 2 for bytes that are no
-/// pattern, 3 if an allocation fails, 4 for bytes that are no UTF-8, and 5 where the text or the buffer is too large or small.
+/// After 1, `out` begins with where each token's piece starts and ends, in bytes; after 0, with how far the pattern
+/// gets in the text, in bytes, and the numbers of the tokens that wait there. `count` is how many numbers these are.
+/// Otherwise it returns 2 if the pattern is not valid, 3 if an allocation fails, 4 if some bytes are not UTF-8, and 5
+/// if the text is too large or the buffer too short.
 #[unsafe(no_mangle)]
 #[tactic(auto, using(glob_pattern::proofs::CallerLemmas::no_fault))]
 pub extern "C" fn page_match(
@@ -96,7 +97,7 @@ fn piece_numbers(alloc: Global, pieces: &[Piece]) -> Result<Vec<usize, Global>, 
     Ok(numbers)
 }
 
-/// Where the text stops, and the tokens that wait there.
+/// How far the pattern gets in the text, and the tokens that wait there.
 fn stop_numbers(alloc: Global, reached: &Reached<Global>) -> Result<Vec<usize, Global>, AllocError>
     ensures { IfOk result
         (λ numbers. numbers.items ≡ reached.now.place ∷ reached.now.waiting.items) }

@@ -7,8 +7,9 @@ use crate::buffer::{FAULT, NOT_UTF8, OUT_OF_MEMORY, TOO_LARGE, YES, write};
 use glob_pattern::{Pattern, PatternRefusal};
 use std::alloc::Global;
 
-/// Whether the bytes are a pattern: 1 if they are; 2 if not, with the place of the first fault, in characters from 0, its
-/// message, and the number of its kind; 3 if an allocation fails, 4 for bytes that are no UTF-8, and 5 if the message does not fit.
+/// Whether the bytes are a valid pattern: 1 if they are; 2 if not, with the place of the first fault, in characters
+/// from 0, its message, and the number of its kind; 3 if an allocation fails, 4 if the bytes are not UTF-8, and 5 if
+/// the message does not fit.
 #[unsafe(no_mangle)]
 pub extern "C" fn page_pattern(
     alloc: Global,

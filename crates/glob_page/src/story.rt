@@ -1,4 +1,4 @@
-//! What a walk did, as lines: a word, how many units were charged so far, and a text.
+//! What a walk did, as lines: each has a word, the number of units charged so far, and a text.
 use std::alloc::{AllocError, Global};
 
 /// The lines so far.

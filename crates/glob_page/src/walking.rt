@@ -9,13 +9,13 @@ use glob_tree::{Entry, Look, MemTree, TreeRefusal};
 use glob_walk::{Answer, Step, WalkMachine};
 use std::alloc::{AllocError, Global};
 
-/// Walks after the pattern over a tree of these paths, one a line, where that of a directory ends in `/` and each follows its
-/// own directory, with at most `limit` units. `out` then begins with what the walk did, as lines, and `count` says in how
-/// many bytes.
+/// Walks over a tree for a pattern, with at most `limit` units. `paths` has the tree's paths, one a line: the path of a
+/// directory ends in `/` and comes before the paths in it. `out` then begins with what the walk did, as lines, and
+/// `count` is their length in bytes.
 ///
-/// The answer is 1; or 2 for bytes that are no pattern of a walk, with the message in `out` and the fault's place, in
-/// characters, in `place`; or 3 if an allocation fails, 4 for bytes that are no UTF-8, 5 if `out` is too short, and 6 for a
-/// path that cannot be added, with its number, from 0, in `place`.
+/// Returns 1; 2 if the pattern is not valid for a walk, with the message in `out` and the fault's place, in characters,
+/// in `place`; 3 if an allocation fails; 4 if some bytes are not UTF-8; 5 if `out` is too short; or 6 if a path cannot
+/// be added, with its number, from 0, in `place`.
 #[unsafe(no_mangle)]
 pub extern "C" fn page_walk(
     alloc: Global,
@@ -77,7 +77,7 @@ pub extern "C" fn page_walk(
     }
 }
 
-/// Why there is no tree.
+/// Why there is no tree to walk.
 #[derive(Drop)]
 enum Refusal {
     Memory,
@@ -91,7 +91,7 @@ impl From<AllocError> for Refusal {
     }
 }
 
-/// The tree of the paths.
+/// Builds the tree of the paths.
 fn tree_of(alloc: Global, paths: &str) -> Result<MemTree<Global>, Refusal> {
     let mut tree = MemTree::new(alloc)?;
     for (number, path) in paths.split('\n').enumerate() {
@@ -108,7 +108,7 @@ fn tree_of(alloc: Global, paths: &str) -> Result<MemTree<Global>, Refusal> {
     Ok(tree)
 }
 
-/// Drives a walk that has asked nothing, with the answers of the tree, and writes each of them and each step.
+/// Drives a walk from its start with the tree's answers, and writes each answer and each step.
 fn write_walk(
     machine: &mut WalkMachine<Global>,
     tree: &mut MemTree<Global>,
@@ -126,7 +126,7 @@ fn write_walk(
     Ok(())
 }
 
-/// Writes what a path leads to, or the entries of a directory.
+/// Writes what a path refers to, or the entries of a directory.
 fn write_answer(answer: &Answer<Global>, spent: u64, story: &mut Story) -> Result<(), AllocError> {
     match answer {
         Answer::Nothing => Ok(()),

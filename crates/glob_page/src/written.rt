@@ -8,11 +8,11 @@ use glob_captures::{TokenKind, tokens};
 use glob_pattern::{Pattern, PatternRefusal};
 use std::alloc::{AllocError, Global};
 
-/// The tokens of a pattern: of each its kind, and where it is written from and to, in bytes. The kinds are 0 for a
-/// character, 1 `?`, 2 `*`, 3 `**`, 4 a bracket, and 5 one that begins with `!`.
+/// The tokens of a pattern, with three numbers each: its kind, and where it starts and ends, in bytes. The kinds are 0
+/// for a character, 1 for `?`, 2 for `*`, 3 for `**`, 4 for a bracket, and 5 for a bracket that begins with `!`.
 ///
-/// The answer is 1, after which `out` begins with these numbers and `count` says how many they are; or 2 for bytes that are
-/// no pattern, 3 if an allocation fails, 4 for bytes that are no UTF-8, and 5 if `out` is too short.
+/// Returns 1, and then `out` begins with these numbers and `count` is how many they are; 2 if the pattern is not valid;
+/// 3 if an allocation fails; 4 if the bytes are not UTF-8; or 5 if `out` is too short.
 #[unsafe(no_mangle)]
 #[tactic(auto, using(glob_pattern::proofs::CallerLemmas::no_fault))]
 pub extern "C" fn page_tokens(
@@ -52,7 +52,7 @@ pub extern "C" fn page_tokens(
     }
 }
 
-/// Of each token three numbers.
+/// Three numbers for each token.
 fn token_numbers(alloc: Global, pattern: &Pattern<Global>) -> Result<Vec<usize, Global>, AllocError>
     ensures count { IfOk result
         (λ numbers. length numbers.items ≡ 3 * length (tokens_of (chars pattern.now))) }

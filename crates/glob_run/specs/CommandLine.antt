@@ -1,4 +1,4 @@
--- What the words of a command line ask for. No request is a usage fault.
+-- What a command line asks for. `None` is a usage fault.
 use Rattle.std.specs.Prelude.{ℕ, ◌^◌, ◌-◌, List, [], ◌∷◌, Option, None, Some, if◌then◌else◌, codes, bytes_eq, option_map, option_and_then}
 use Rattle.glob.specs.Matching.Options.{new_options}
 use Rattle.glob.specs.Text.{Text}
@@ -6,7 +6,7 @@ use Rattle.glob.specs.Types.{MatchOptions}
 use Rattle.glob_console.specs.Words.{is_match_option, is_option, limit_of, with_option}
 use Rattle.glob_run.specs.Requests.{Request, Lines, Escaped, Paths}
 
--- the one word that is left after the options
+-- the one word after the options
 abbrev pub operand_of : List Text → Option Text
 operand_of [] = None
 operand_of (word ∷ []) = if is_option word then None else Some word

@@ -1,4 +1,4 @@
--- What a run comes to: its status, and what its output gained.
+-- The outcome of a run: its status, and what its output gained.
 use Rattle.std.specs.Prelude.{◌≡◌, ◌≢◌, ℕ, ◌<◌, ◌⊎◌, Option, Some, None, chars, List}
 use Rattle.std.specs.Io.KnownBytes.{Keeps}
 use Rattle.glob.specs.Answers.{IsTold}
@@ -14,27 +14,27 @@ use Rattle.glob_console.specs.FoundPaths.{IsFindStatus, WritesFound, every}
 use Rattle.glob_console.specs.Outcomes.{IsRefused, WritesText}
 use Rattle.glob_run.specs.Requests.{Request, Lines, Escaped, Paths}
 
--- Status 0: some lines match, and just those were written, in order. Status 1: none matches, and none was written.
--- Status 2: of the bytes of the lines that match, the first n were written, for some n.
+-- Status 0: some lines match, and exactly those were written, in order. Status 1: none match, and none were written.
+-- Status 2: the first n bytes of the matching lines were written, for some n.
 unfoldable pub CopiesLines : MatchOptions → (pattern : Text) → (input old new : Option (List ℕ)) → (status : ℕ) → Type 0
 CopiesLines options pattern input old new status =
     (status ≡ 0 → (n : ℕ) × (0 < n) × FiltersLines options pattern input old new n)
     × (status ≡ 1 → FiltersLines options pattern input old new 0)
     × (status ≡ 2 → FiltersSomeBytes options pattern input old new)
 
--- the pattern that stands for the text alone, and a line feed
+-- the pattern that matches the text literally, and a line feed
 abbrev pub IsEscapedLine : (text line : Text) → Type 0
 IsEscapedLine text line =
     (escaped : Text) × (chars escaped ≡ escaped_text (chars text)) × (line ≡ ended_record line_feed escaped)
 
--- That line was written, and the status is 0; or the status is 2, and nothing was written, or the line's first bytes.
+-- The line was written, and the status is 0; or the status is 2, and none or only the first of its bytes were written.
 unfoldable pub WritesEscaped : Text → (old new : Option (List ℕ)) → (status : ℕ) → Type 0
 WritesEscaped text old new status =
     ((status ≡ 2) × Keeps old new)
     ⊎ ((line : Text) × IsEscapedLine text line × WritesText line old new status)
 
--- What a run does for each request, with the tree's content and the input where they are known. `contents` are those of
--- the output, which was `old` and is `new`. Without a request there is a usage fault.
+-- What a run does for each request, with the tree's content and the input if they are known. `contents` are the
+-- output's; `old` is the output before the run, and `new` after it. `None` is a usage fault.
 unfoldable pub Fulfils : {W : Type 0} → (contents : W → Option (List ℕ)) → (tells : Option Content) → (input : Option (List ℕ))
     → Option Request → (old new : W) → (status : ℕ) → Type 0
 Fulfils contents tells input None old new status = IsRefused old new status

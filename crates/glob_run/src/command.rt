@@ -1,4 +1,4 @@
-//! What the words of a command line ask for.
+//! Parses the command line.
 ghost use Rattle.std.specs.Prelude.{◌≡◌, ◌-◌, ◌^◌, map, option_map};
 ghost use Rattle.glob.specs.Matching.Options.{new_options};
 ghost use Rattle.glob_run.specs.CommandLine.{lines_request, operand_of, paths_request, request_asked};
@@ -7,28 +7,28 @@ ghost use Rattle.glob_run.specs.Requests.{request_of};
 use glob::MatchOptions;
 use glob_console::{parse_limit, set_match_option};
 
-/// What a list of words asks of the program.
+/// A parsed command line.
 pub enum Command<'a> {
     /// Copy the lines that the pattern matches.
     Match {
         options: MatchOptions,
         pattern: &'a str,
     },
-    /// Write the pattern that stands for the text alone.
+    /// Write the pattern that matches the text literally.
     Escape {
         text: &'a str,
     },
     /// Write the paths that a walk of the disk finds.
     Find {
         options: MatchOptions,
-        /// How many units the walk may spend.
+        /// The most units that the walk may spend.
         limit: u64,
         pattern: &'a str,
     },
 }
 
 impl<'a> Command<'a> {
-    /// Reads the words after the program's name. `None` is a usage fault.
+    /// Parses the words after the program's name. `None` is a usage fault.
     #[tactic(auto, unfolding(crate::specs::CommandLine::request_asked))]
     pub fn parse(words: &[&'a str]) -> Option<Self>
         ensures { option_map request_of result ≡ request_asked (map (λ w. w.now) words.now) }
@@ -44,7 +44,7 @@ impl<'a> Command<'a> {
         }
     }
 
-    /// Reads the words after `match`.
+    /// Parses the words after `match`.
     fn parse_match(words: &[&'a str]) -> Option<Self>
         ensures { option_map request_of result
             ≡ lines_request new_options (map (λ w. w.now) words.now) }
@@ -62,7 +62,7 @@ impl<'a> Command<'a> {
         }
     }
 
-    /// Reads the words after `find`. Between the other options, `-n LIMIT` can stand, and the last one counts.
+    /// Parses the words after `find`. `-n LIMIT` may come anywhere among the options, and the last one counts.
     fn parse_find(words: &[&'a str]) -> Option<Self>
         ensures { option_map request_of result
             ≡ paths_request new_options (2 ^ 64 - 1) (map (λ w. w.now) words.now) }
@@ -92,7 +92,7 @@ impl<'a> Command<'a> {
     }
 }
 
-/// The one word that is left after the options. A word that begins with `-` can stand there only after `--`.
+/// The one word after the options. A word that begins with `-` needs `--` before it.
 fn only_operand<'a>(words: &[&'a str]) -> Option<&'a str>
     ensures { option_map (λ w. w.now) result ≡ operand_of (map (λ w. w.now) words.now) }
 {

@@ -1,4 +1,4 @@
-//! The command `find`: what a walk of a tree finds, a line for each path.
+//! The command `find`: writes a line for each path that a walk finds.
 ghost use Rattle.std.specs.Prelude.{◌≡◌, ◌≢◌, ◌≤◌, None};
 ghost use Rattle.glob.specs.Answers.{IsTold};
 ghost use Rattle.glob.specs.Components.{walk_fault};
@@ -12,8 +12,8 @@ use glob::{MatchOptions, Tree};
 use glob_console::{ErrorLines, Every, WalkSettings, find_in};
 use std::io::Write;
 
-/// Walks the tree, writes each path as a line of `output` and each error as a line of `errors`, and returns the exit
-/// status. The limit is in units of the walk.
+/// Walks the tree, writes each path as a line to `output` and each error as a line to `errors`, and returns the exit
+/// status. `limit` is in units of the walk.
 #[tactic(auto, unfolding(glob_console::specs::FoundPaths::IsFindStatus, glob_console::specs::FoundPaths::WritesFound))]
 pub fn run_find<T: Tree, W: Write, E: Write>(
     alloc: T::Alloc,

@@ -1,6 +1,6 @@
-//! Shell patterns at the command line. `glob_run match PATTERN` copies the matching lines of standard input,
-//! `glob_run escape TEXT` writes the pattern that stands for the text alone, and `glob_run find PATTERN` writes the
-//! paths of the disk that the pattern matches.
+//! Shell patterns at the command line. `glob_run match PATTERN` copies the matching lines of standard input, `glob_run
+//! escape TEXT` writes the pattern that matches the text literally, and `glob_run find PATTERN` writes the paths on the
+//! disk that the pattern matches.
 #![tactic(auto)]
 
 ghost use Rattle.std.specs.Prelude.{◌≤◌, IfOk, OnErr, chars, map, string_bytes};
@@ -23,17 +23,17 @@ use std::alloc::{AllocError, Allocator};
 use std::io::{Read, Write};
 use std::process::ExitCode;
 
-/// The line that a usage fault prints.
+/// The line for a usage fault.
 const USAGE: &str =
     "usage: glob_run match [-i] [-s] [-d] PATTERN | escape TEXT | find [-i] [-s] [-d] [-n LIMIT] PATTERN";
 
-/// Runs the program on the words after its name, and returns its exit status: 0 where something matched or a text was
-/// escaped, 1 where nothing matched, 2 at a fault or where a walk met an error. `find` walks the tree.
+/// Runs the program on `words`, the arguments after its name, and returns its exit status: 0 if something matched or a
+/// text was escaped, 1 if nothing matched, and 2 after a fault or an error of the walk. `find` walks the tree.
 ///
-/// A fault is one line on `errors`; a fault of `errors` itself is dropped. A usage fault, or a fault of the pattern,
-/// leaves the output as it was. Tests, not clauses, show that neither the input nor the tree is asked then.
+/// A fault is one line on `errors`; failed writes to `errors` are ignored. A usage fault or an invalid pattern leaves
+/// the output unchanged. Tests, not clauses, show that the program then reads neither the input nor the tree.
 ///
-/// Over the input `"a.rs\nb.c\n"` the words `match` and `*.rs` write `"a.rs\n"`, and the status is 0.
+/// With the input `"a.rs\nb.c\n"`, the words `match` and `*.rs` write `"a.rs\n"`, and the status is 0.
 pub fn run_words<T: Tree, R: Read + Drop, W: Write, E: Write>(
     alloc: T::Alloc,
     tree: T,
@@ -63,7 +63,7 @@ pub fn run_words<T: Tree, R: Read + Drop, W: Write, E: Write>(
     }
 }
 
-/// Copies the lines that the pattern of the text matches, and returns the status.
+/// Parses the pattern, copies the lines that it matches, and returns the status.
 fn run_match<A: Allocator + Copy, R: Read + Drop, W: Write, E: Write>(
     alloc: A,
     options: MatchOptions,
@@ -105,7 +105,7 @@ fn copy_lines<A: Allocator + Copy, R: Read + Drop, W: Write, E: Write>(
     }
 }
 
-/// Copies the matching lines, and returns how many there are. Where it fails, the first bytes of them were written.
+/// Copies the matching lines, and returns how many there are. After an error, the first of their bytes were written.
 fn filter_input<A: Allocator + Copy, R: Read + Drop, W: Write>(
     alloc: A,
     pattern: &Pattern<A>,
@@ -122,12 +122,12 @@ fn filter_input<A: Allocator + Copy, R: Read + Drop, W: Write>(
     let mut writer = Watch::new(Borrowed { writer: output });
     let answer = filter_lines(alloc, pattern, options, &mut reader, &mut writer);
     let Borrowed { writer: output } = writer.into_inner();
-    // No effect at run time. The proof reads here what the output holds.
+    // No effect at run time: the proof needs the contents of the output here.
     let _ = &*output;
     answer
 }
 
-/// Writes the pattern that stands for the text alone, and returns the status.
+/// Writes the pattern that matches the text literally, and returns the status.
 fn run_escape<A: Allocator + Copy, W: Write, E: Write>(
     alloc: A,
     text: &str,

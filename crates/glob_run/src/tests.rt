@@ -1,4 +1,4 @@
-//! Replays the rows over streams and trees in memory, and sees to it that those are asked by their command alone.
+//! Replays the rows over streams and trees in memory, and checks that only the right command reads them.
 ghost use Rattle.std.specs.Prelude.{None};
 
 mod rows;
@@ -10,11 +10,11 @@ use std::alloc::{AllocError, Global};
 use std::cell::Cell;
 use std::io::{self, ErrorKind, Read};
 
-/// What a row is without its fields: a usage fault.
+/// The other fields of a row that has only words: a usage fault.
 const USAGE: &str =
     "|a⏎|2||usage: glob_run match [-i] [-s] [-d] PATTERN | escape TEXT | find [-i] [-s] [-d] [-n LIMIT] PATTERN⏎";
 
-/// A reader of the bytes of a field, one a call, and whether it was called.
+/// A reader of the bytes of a field, one byte a call, which records whether it was called.
 #[derive(Drop)]
 struct Source<'a> {
     rest: &'a [u8],
@@ -35,7 +35,7 @@ impl Read for Source<'_> {
     }
 }
 
-/// A tree in memory, and whether it was asked.
+/// A tree in memory, which records whether it was asked.
 #[derive(Drop)]
 struct Watched<'a> {
     tree: MemTree,
@@ -60,8 +60,8 @@ impl Tree for Watched<'_> {
     }
 }
 
-/// The bytes that a field stands for, and a zero where the stream does not fail: the end of a reader, and room for more
-/// in a writer.
+/// The bytes that a field stands for, and a zero unless the stream fails: the end of a reader, and room for more in a
+/// writer.
 fn bytes_of(alloc: Global, field: &str) -> Result<Vec<u8>, AllocError> {
     let mut bytes = Vec::new(alloc);
     for c in field.chars() {
@@ -76,7 +76,7 @@ fn bytes_of(alloc: Global, field: &str) -> Result<Vec<u8>, AllocError> {
     Ok(bytes)
 }
 
-/// The tree of these keys.
+/// The tree with these keys.
 fn tree_of(alloc: Global, keys: &str) -> Result<MemTree, TreeRefusal> {
     let mut tree = MemTree::new(alloc)?;
     for key in keys.split(' ') {
@@ -91,7 +91,7 @@ fn tree_of(alloc: Global, keys: &str) -> Result<MemTree, TreeRefusal> {
     Ok(tree)
 }
 
-/// Whether only `match` read its input and only `find` asked its tree, and neither at a fault of the words or the
+/// Whether only `match` read its input and only `find` its tree, and neither did after a usage fault or for an invalid
 /// pattern.
 fn is_asked_by(words: &str, errors: &str, input: bool, tree: bool) -> bool {
     let is_fault = errors.starts_with("usage") || errors.starts_with("Pattern");
@@ -100,7 +100,7 @@ fn is_asked_by(words: &str, errors: &str, input: bool, tree: bool) -> bool {
     (may_read || !input) && (may_walk || !tree)
 }
 
-/// Whether the program does on the words of the row, over a tree of these keys, what its other fields say.
+/// Whether the program, on the words of the row and a tree with these keys, does what the other fields say.
 fn does(alloc: Global, keys: &str, row: &str) -> Result<bool, TreeRefusal> {
     let mut row = String::from_str(alloc, row)?;
     if !row.contains('|') {

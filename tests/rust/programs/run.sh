@@ -19,9 +19,10 @@ find . | cut -c3- | LC_ALL=C sort | cat - "$data/texts" >../texts
 for rules in assets missing broken; do
     say pack . "$data/$rules.rules"
 done
-say report '*' '*/*' 's*/**/[!a]*'
+say report '*' '*/*' 's*/**/[!a]*' '*/.*'
 say report -i -x '*.PY' -x docs/reference 'SRC/*/*' '[D]ocs/**/*' 'ODD/*' 'odd/?'
-say report -d -x '*x*' 'odd/*' 'odd/*/*' '*/.*'
+# No `.*` under the dot rule, by which releases of the original do not find the same.
+say report -d -x '*x*' 'odd/*' 'odd/*/*'
 say report -e 'docs/*' 'odd/**/x*' 'src/*'
 say report 'src/[a'
 say routes "$data/table" ../texts

@@ -1,4 +1,4 @@
--- What a step of a walk adds to what is written, and to what was found.
+-- What a step of a walk adds to the output and to the findings.
 use Rattle.std.specs.Prelude.{◌≡◌, ◌⊎◌, ℕ, Bool, true, false, if◌then◌else◌, List, [], ◌++◌, Option, Result, Ok, Err, ⊤}
 use Rattle.std.specs.Io.KnownBytes.{Appends}
 use Rattle.std.specs.Path.{path_buf_bytes}
@@ -13,18 +13,18 @@ use Rattle.glob_walk.specs.declared.machine.Step.TheVariants as step
 use Rattle.glob_walk.specs.declared.ending.End.TheVariants as end
 use Rattle.glob_console.specs.declared.find.findings.Findings.{Findings}
 
--- These bytes follow those that waited, and of all of these the first were written, and the others wait.
+-- The bytes were added to those that waited; the first of all these were written, and the rest wait.
 abbrev pub Queues : (old : Option (List ℕ)) → (waiting : List ℕ) → (new : Option (List ℕ)) → (waiting' : List ℕ)
     → (bytes : List ℕ) → Type 0
 Queues old waiting new waiting' bytes =
     (written : List ℕ) × Appends old new written × (waiting ++ bytes ≡ written ++ waiting')
 
--- the record of an item of a walk; an error has none
+-- the record of an item of a walk; an error adds nothing
 abbrev pub item_record : {A : Type 0} → (end : ℕ) → Result (PathBuf A) (GlobError A) → List ℕ
 item_record end (Ok path) = ended_record end (path_buf_bytes path)
 item_record end (Err error) = []
 
--- an item of a walk is wanted; each error is
+-- whether an item of a walk is wanted; every error is
 abbrev pub is_item_wanted : {A : Type 0} → (wanted : Text → Bool) → Result (PathBuf A) (GlobError A) → Bool
 is_item_wanted wanted (Ok path) = wanted (path_buf_bytes path)
 is_item_wanted wanted (Err error) = true
@@ -34,15 +34,15 @@ abbrev pub IsPath : {A : Type 0} → Result (PathBuf A) (GlobError A) → Type 0
 IsPath (Ok path) = ⊤
 IsPath (Err error) = ⊥
 
--- the same and one answer of the walk more
+-- the findings after one more outcome of the walk
 abbrev pub noting : Findings → Outcome → Findings
 noting findings (Gives (Found path)) = record findings { has_path = true }
 noting findings (Gives (Unread path kind)) = record findings { has_error = true }
 noting findings (LimitAt path) = record findings { end = end.Limit }
 noting findings NoMemory = record findings { end = end.Memory }
 
--- A wanted item adds its record and is noted, and other steps add nothing. After the last one nothing waits. `IsAnswer`
--- says what the choice may say of an item.
+-- A wanted item adds its record and is noted, and other steps add nothing. After the last step nothing waits.
+-- `IsAnswer` says what the choice may answer for an item.
 abbrev pub StepWrites : {A : Type 0} → (end : ℕ)
     → (IsAnswer : Bool → Result (PathBuf A) (GlobError A) → Type 0) → Step A → (old new : Findings) → (Adds : List ℕ → Type 0) → (waiting : List ℕ) → Type 0
 StepWrites end IsAnswer (step.Item item) old new Adds waiting =

@@ -1,4 +1,4 @@
-//! Why a search wrote less than it found.
+//! Why a search failed.
 ghost use Rattle.std.specs.Prelude.{◌≡◌};
 ghost use Rattle.glob_console.specs.FoundPaths.{find_fault_words};
 ghost use Rattle.glob_console.specs.Lines.{WritesLine};
@@ -13,13 +13,13 @@ use std::io;
 pub enum FindFault {
     /// The pattern of the walk was refused, before anything was looked up or written.
     Pattern(PatternRefusal),
-    /// There was no memory, for a line or to choose a path.
+    /// An allocation failed, for a line or in the choice.
     Memory,
     /// A line could not be written.
     Write(io::Error),
 }
 
-/// A pattern that is refused.
+/// A refused pattern.
 impl From<PatternRefusal> for FindFault {
     ghost use Rattle.std.specs.Prelude.{◌≡◌};
     ghost use Rattle.glob_console.specs.declared.find.fault.FindFault.TheVariants.{Pattern};
@@ -56,7 +56,7 @@ impl From<io::Error> for FindFault {
 }
 
 impl FindFault {
-    /// Writes the line of the fault, and returns its status.
+    /// Writes the line of the fault, and returns its exit status.
     pub fn report<A: Allocator + Copy, E: io::Write>(self, errors: &mut ErrorLines<'_, A, E>) -> u8
         ensures status { result ≡ 2 }
         ensures line { WritesLine errors.old.prefix.now (find_fault_words self)

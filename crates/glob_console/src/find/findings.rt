@@ -1,4 +1,4 @@
-//! What a search came to.
+//! The result of a search.
 ghost use Rattle.std.specs.Prelude.{◌≡◌, false};
 ghost use Rattle.glob_walk.specs.declared.ending.End.TheVariants as end;
 ghost use Rattle.glob_walk.specs.Walks.{outcome};
@@ -9,19 +9,19 @@ use crate::status::{FAULT, FOUND, UNFOUND};
 use glob_walk::{End, GlobResult, end_of};
 use std::alloc::Allocator;
 
-/// What a search came to: how its walk ended, and whether there were paths and errors.
+/// The result of a search: how its walk ended, and whether there were paths and errors.
 #[derive(Clone, Copy)]
 pub struct Findings {
     /// How the walk ended.
     pub end: End,
-    /// Whether it gave a path that is wanted.
+    /// Whether it found a wanted path.
     pub has_path: bool,
-    /// Whether it gave a directory that could not be listed.
+    /// Whether it met a directory that could not be listed.
     pub has_error: bool,
 }
 
 impl Findings {
-    /// Those of a walk that gave nothing and is done.
+    /// The result of a walk that found nothing and is done.
     pub(crate) fn new() -> Self
         ensures end { result.end ≡ end.Done }
         ensures path { result.has_path ≡ false }
@@ -46,7 +46,7 @@ impl Findings {
         }
     }
 
-    /// The exit status: 0 with a wanted path, 1 without, and 2 where the walk met an error or did not come to its end.
+    /// The exit status: 2 if the walk met an error or was cut short, else 0 if it found a wanted path, else 1.
     pub fn status(self) -> u8
         ensures { result ≡ status_of self }
     {

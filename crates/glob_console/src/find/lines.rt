@@ -1,4 +1,4 @@
-//! Lines that wait for others before they are written. With `-0` each ends in a NUL in place of a line feed.
+//! Lines that are gathered before they are written. With `-0` each ends in a NUL instead of a line feed.
 ghost use Rattle.std.specs.Prelude.{◌≡◌, ◌++◌, [], IfErr, IfOk, OnErr, OnOk};
 ghost use Rattle.glob_lines.specs.Lines.{AppendsFront, ended_record};
 ghost use Rattle.glob_console.specs.FoundPaths.{IsWriting};
@@ -9,18 +9,18 @@ use glob_lines::write_whole;
 use std::alloc::{AllocError, Allocator};
 use std::io::{self, Write};
 
-/// After how many units of the walk waiting lines are written.
+/// After how many units of the walk the waiting lines are written.
 const PATIENCE: u64 = 100;
 
-/// How many bytes of lines wait. The buffer has room for one more line, of the longest path of most systems.
+/// How many bytes of lines may wait. The buffer also has room for one more line with the longest path of most systems.
 const CAPACITY: usize = 8192;
 
-/// Lines on their way to a writer. The first is written at once. Later ones are written together: when the buffer is
-/// full, before a question `PATIENCE` units after the last such time, and when they are flushed.
+/// Lines on their way to a writer. The first is written immediately. Later ones are written together: when there are
+/// `CAPACITY` bytes, before a question if the walk has spent `PATIENCE` units since the last such time, and by `flush`.
 #[derive(Drop)]
 pub struct Lines<A: Allocator> {
     waiting: Vec<u8, A>,
-    /// How many units the walk had spent the last time that they were written before a question.
+    /// How many units the walk had spent at the last question before which waiting lines were due.
     spent: u64,
     has_line: bool,
 }
@@ -37,8 +37,8 @@ impl<A: Allocator> Lines<A> {
         })
     }
 
-    /// Adds the text and the byte that ends it. Where it fails, the first bytes of what waits and of these may have
-    /// been written.
+    /// Adds the text and the byte that ends it. If that fails, the first bytes of the waiting lines and this one may
+    /// have been written.
     pub fn add<W: Write>(&mut self, text: &str, end: u8, output: &mut W) -> Result<(), FindFault>
         ensures fault { IfErr result IsWriting }
         ensures line { OnOk result (Queues (W.contents output.old) self.old.waiting.items
@@ -55,7 +55,7 @@ impl<A: Allocator> Lines<A> {
         Ok(self.flush(output)?)
     }
 
-    /// Writes the lines that wait, if they may have waited long, before a question of a walk that has spent so much.
+    /// Writes the waiting lines before a question, if they may have waited long. The walk has spent `spent` units.
     pub fn before_ask<W: Write>(&mut self, spent: u64, output: &mut W) -> io::Result<()>
         ensures keeps { OnOk result (Queues (W.contents output.old) self.old.waiting.items
             (W.contents output.new) self.new.waiting.items []) }
@@ -72,7 +72,7 @@ impl<A: Allocator> Lines<A> {
         self.flush(output)
     }
 
-    /// Writes the lines that wait. Where it fails, the first bytes of them may have been written.
+    /// Writes the waiting lines. If that fails, their first bytes may have been written.
     pub fn flush<W: Write>(&mut self, output: &mut W) -> io::Result<()>
         ensures all { OnOk result (Queues (W.contents output.old) self.old.waiting.items
             (W.contents output.new) self.new.waiting.items []) }

@@ -6,4 +6,5 @@ use Rattle.glob_run.proofs.run_match.Goals as goal
 
 pub returns-in-Err-clause-lines : goal.returns-in-Err-clause-lines
 returns-in-Err-clause-lines g c =
-    CopiesLines-some _ _ _ _ _ _ c.fault.ensures.status (some_bytes_by_keeping line_feed c.args.options c.args.pattern.now _ _ _ (Keeps-refl _))
+    CopiesLines-some _ _ _ _ _ _ c.fault.ensures.status (some_bytes_by_keeping line_feed c.args.options
+    c.args.pattern.now _ _ _ (Keeps-refl _))

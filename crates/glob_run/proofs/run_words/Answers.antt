@@ -8,7 +8,8 @@ returns-in_default-clause-request g c = rw (sym c.parse.ensures, c.in_default.is
 
 pub returns-in-Match-clause-request : goal.returns-in-Match-clause-request
 unfolding Fulfils
-returns-in-Match-clause-request g c = rw (sym c.parse.ensures, c.in-Some.is, c.in-Match.is) (c.run_match.ensures.refused, c.run_match.ensures.lines)
+returns-in-Match-clause-request g c = rw (sym c.parse.ensures, c.in-Some.is, c.in-Match.is)
+    (c.run_match.ensures.refused, c.run_match.ensures.lines)
 
 pub returns-in-Escape-clause-request : goal.returns-in-Escape-clause-request
 unfolding Fulfils
@@ -17,4 +18,8 @@ returns-in-Escape-clause-request g c = rw (sym c.parse.ensures, c.in-Some.is, c.
 pub returns-in-Find-clause-request : goal.returns-in-Find-clause-request
 unfolding Fulfils
 returns-in-Find-clause-request g c =
-    rw (sym c.parse.ensures, c.in-Some.is, c.in-Find.is) (c.run_find.ensures.refused, λ content told. (c.run_find.ensures.status content told, c.run_find.ensures.written content told))
+    rw (sym c.parse.ensures, c.in-Some.is, c.in-Find.is) (
+      c.run_find.ensures.refused,
+      λ content told.
+          (c.run_find.ensures.status content told, c.run_find.ensures.written content told),
+    )

@@ -1,10 +1,10 @@
-//! What the program does with its words, its input and a tree, one row a line.
+//! What the program does with its arguments, its input and a tree, one row a line.
 //!
-//! A row is WORDS|INPUT|STATUS|OUTPUT|ERRORS, with one blank between each two words, and `∅` for none. Words alone are
-//! a usage fault. `⏎` is a line feed, `␦` the byte 255, and `✗` is where a stream fails, after the bytes before it. A
-//! line `+ KEYS` has the tree of the rows after it: below the root, which is the current directory, directories end in
-//! `/`, and those that cannot be listed in `#`. Other rows have an empty tree. `tests/programs.py` replays the rows on
-//! the built program, but for those with `∅`, `✗`, `#` or an absolute path.
+//! A row is WORDS|INPUT|STATUS|OUTPUT|ERRORS, with one blank between words, and `∅` for no words. A row with only WORDS
+//! is a usage fault. `⏎` is a line feed, `␦` the byte 255, and at `✗` a stream fails. A line `+ KEYS` has the tree for
+//! the rows after it, with paths below the root, which is the current directory: directories end in `/`, and those that
+//! cannot be listed in `#`. Rows before the first such line have an empty tree. `tests/programs.py` replays the rows on
+//! the built program, except for those with `∅`, `✗`, `#` or an absolute path.
 
 /// The rows.
 pub static ROWS: &str = "

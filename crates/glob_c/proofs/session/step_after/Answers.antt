@@ -15,13 +15,15 @@ pub returns-in-Listed-clause-driven : goal.returns-in-Listed-clause-driven
 returns-in-Listed-clause-driven c = λ x all given fits.
     let walk = c.args.machine.now in
     step_gives c.listed.ensures.steps x all given
-    (subst (λ r. RepliesTo (AsksList true) r walk x) c.in-Listed.is (subst (λ s. RepliesTo (saying s) c.args.reply walk x) c.in-List.is fits))
+    (subst (λ r. RepliesTo (AsksList true) r walk x) c.in-Listed.is (subst (λ s. RepliesTo (saying s) c.args.reply walk
+    x) c.in-List.is fits))
 
 pub returns-in-Listed-reply-clause-driven : goal.returns-in-Listed-reply-clause-driven
 returns-in-Listed-reply-clause-driven c = λ x all given fits.
     let walk = c.args.machine.now in
     step_gives c.listed-in-Listed-reply.ensures.steps x all given
-    (subst (λ r. RepliesTo (AsksList false) r walk x) c.in-Listed-reply.is (subst (λ s. RepliesTo (saying s) c.args.reply walk x) c.in-ListNames.is fits))
+    (subst (λ r. RepliesTo (AsksList false) r walk x) c.in-Listed-reply.is
+    (subst (λ s. RepliesTo (saying s) c.args.reply walk x) c.in-ListNames.is fits))
 
 pub returns-clause-driven : goal.returns-clause-driven
 returns-clause-driven c = λ x all given fits.

@@ -33,8 +33,12 @@ returns-clause-paths g c c' told =
     let ms = listing c' c.args.walk.options c.args.walk.pattern.now in
     subst (λ limit. IfOk c.write_items.result
     (FindsPaths c.args.walk.end (g.C.Choice.wanted c.args.choice.now c') ms limit (held c.args.output.now) (held c.write_items.new.output)))
-    c.in_ok-machine.ensures.fresh.limit (c.write_items.ensures.paths c' told ms (given_fresh c.args.walk.limit (listing c' c.args.walk.options c.args.walk.pattern.now) c' c.in_ok-machine.machine c.in_ok-machine.ensures.fresh (c.in_ok-machine.ensures.aim c')))
+    c.in_ok-machine.ensures.fresh.limit (c.write_items.ensures.paths c' told ms (given_fresh c.args.walk.limit
+    (listing c' c.args.walk.options c.args.walk.pattern.now) c' c.in_ok-machine.machine
+    c.in_ok-machine.ensures.fresh (c.in_ok-machine.ensures.aim c')))
 
 pub returns-clause-some : goal.returns-clause-some
 returns-clause-some g c c' told =
-    c.write_items.ensures.some c' told (listing c' c.args.walk.options c.args.walk.pattern.now) (given_fresh c.args.walk.limit (listing c' c.args.walk.options c.args.walk.pattern.now) c' c.in_ok-machine.machine c.in_ok-machine.ensures.fresh (c.in_ok-machine.ensures.aim c'))
+    c.write_items.ensures.some c' told (listing c' c.args.walk.options c.args.walk.pattern.now)
+    (given_fresh c.args.walk.limit (listing c' c.args.walk.options c.args.walk.pattern.now) c'
+    c.in_ok-machine.machine c.in_ok-machine.ensures.fresh (c.in_ok-machine.ensures.aim c'))

@@ -7,8 +7,10 @@ pub loop-step-init : goal.loop-step-init
 loop-step-init g c =
     let old = g.W.Write.contents c.args.output.now in
     let made = c.new-findings.ensures in
-    subst (Written c.args.end (g.C.Choice.wanted c.args.choice.now) g.T.Tree.tells c.args.tree.now c.args.walk.now old c.args.tree.now c.args.walk.now c.new-findings.result old) (sym c.in_ok-lines.ensures)
-    (Written-first c.args.end (g.C.Choice.wanted c.args.choice.now) g.T.Tree.tells c.args.tree.now c.args.walk.now old c.new-findings.result made.end made.path made.error)
+    subst (Written c.args.end (g.C.Choice.wanted c.args.choice.now) g.T.Tree.tells c.args.tree.now c.args.walk.now old
+    c.args.tree.now c.args.walk.now c.new-findings.result old) (sym c.in_ok-lines.ensures)
+    (Written-first c.args.end (g.C.Choice.wanted c.args.choice.now) g.T.Tree.tells c.args.tree.now c.args.walk.now old
+    c.new-findings.result made.end made.path made.error)
 
 pub returns-in_err-write_step-clause-some : goal.returns-in_err-write_step-clause-some
 returns-in_err-write_step-clause-some g c c' told ms begun =
@@ -16,8 +18,11 @@ returns-in_err-write_step-clause-some g c c' told ms begun =
     let l = c.loop-step in
     let (n, asks, steps) = c.advance-step.ensures.steps in
     OnErr-from _
-    (Written-fault c.args.end (g.C.Choice.wanted c.args.choice.now) g.T.Tree.tells c.args.tree.now c.args.walk.now (held c.args.output.now) l.tree c.advance-step.new.tree l.walk c.advance-step.new.self n l.findings (held l.output) l.lines.waiting.items
-    l.invariant c.advance-step.ensures.content c.advance-step.result steps (held c.write_step.new.output) c.in_err-write_step.ensures.some c' told ms begun)
+    (Written-fault c.args.end (g.C.Choice.wanted c.args.choice.now) g.T.Tree.tells c.args.tree.now c.args.walk.now
+    (held c.args.output.now) l.tree c.advance-step.new.tree l.walk c.advance-step.new.self n l.findings
+    (held l.output) l.lines.waiting.items
+    l.invariant c.advance-step.ensures.content c.advance-step.result steps (held c.write_step.new.output)
+    c.in_err-write_step.ensures.some c' told ms begun)
 
 pub returns-in-Done-clause-paths : goal.returns-in-Done-clause-paths
 returns-in-Done-clause-paths g c c' told ms begun =
@@ -25,7 +30,9 @@ returns-in-Done-clause-paths g c c' told ms begun =
     let l = c.loop-step in
     let (n, asks, steps) = c.advance-step.ensures.steps in
     let wrote = c.write_step.new in
-    Written-done c.args.end (g.C.Choice.wanted c.args.choice.now) g.T.Tree.tells c.args.tree.now c.args.walk.now (held c.args.output.now) l.tree c.advance-step.new.tree l.walk c.advance-step.new.self n l.findings (held l.output) l.lines.waiting.items
+    Written-done c.args.end (g.C.Choice.wanted c.args.choice.now) g.T.Tree.tells c.args.tree.now c.args.walk.now
+    (held c.args.output.now) l.tree c.advance-step.new.tree l.walk c.advance-step.new.self n l.findings
+    (held l.output) l.lines.waiting.items
     l.invariant c.advance-step.ensures.content wrote.tree c.in_ok-write_step.ensures.content (held wrote.output) wrote.lines.waiting.items
     c.advance-step.result c.in-Done.is steps wrote.findings c.in_ok-write_step.ensures.written c' told ms begun
 
@@ -35,7 +42,9 @@ loop-step-preserved-in_default g c =
     let l = c.loop-step in
     let (n, asks, steps) = c.advance-step.ensures.steps in
     let wrote = c.write_step.new in
-    Written-next c.args.end (g.C.Choice.wanted c.args.choice.now) g.T.Tree.tells c.args.tree.now c.args.walk.now (held c.args.output.now) l.tree c.advance-step.new.tree l.walk c.advance-step.new.self n l.findings (held l.output) l.lines.waiting.items
+    Written-next c.args.end (g.C.Choice.wanted c.args.choice.now) g.T.Tree.tells c.args.tree.now c.args.walk.now
+    (held c.args.output.now) l.tree c.advance-step.new.tree l.walk c.advance-step.new.self n l.findings
+    (held l.output) l.lines.waiting.items
     l.invariant c.advance-step.ensures.content wrote.tree c.in_ok-write_step.ensures.content (held wrote.output) wrote.lines.waiting.items
     c.advance-step.result c.in_default.not-Done steps wrote.findings c.in_ok-write_step.ensures.written
 
@@ -45,7 +54,9 @@ loop-step-preserved-in_default-2 g c =
     let l = c.loop-step in
     let (n, asks, steps) = c.advance-step.ensures.steps in
     let wrote = c.write_step.new in
-    Written-next c.args.end (g.C.Choice.wanted c.args.choice.now) g.T.Tree.tells c.args.tree.now c.args.walk.now (held c.args.output.now) l.tree c.advance-step.new.tree l.walk c.advance-step.new.self n l.findings (held l.output) l.lines.waiting.items
+    Written-next c.args.end (g.C.Choice.wanted c.args.choice.now) g.T.Tree.tells c.args.tree.now c.args.walk.now
+    (held c.args.output.now) l.tree c.advance-step.new.tree l.walk c.advance-step.new.self n l.findings
+    (held l.output) l.lines.waiting.items
     l.invariant c.advance-step.ensures.content wrote.tree c.in_ok-write_step.ensures.content (held wrote.output) wrote.lines.waiting.items
     c.advance-step.result c.in_default.not-Done steps wrote.findings c.in_ok-write_step.ensures.written
 
@@ -55,6 +66,8 @@ loop-step-preserved g c =
     let l = c.loop-step in
     let (n, asks, steps) = c.advance-step.ensures.steps in
     let wrote = c.write_step.new in
-    Written-next c.args.end (g.C.Choice.wanted c.args.choice.now) g.T.Tree.tells c.args.tree.now c.args.walk.now (held c.args.output.now) l.tree c.advance-step.new.tree l.walk c.advance-step.new.self n l.findings (held l.output) l.lines.waiting.items
+    Written-next c.args.end (g.C.Choice.wanted c.args.choice.now) g.T.Tree.tells c.args.tree.now c.args.walk.now
+    (held c.args.output.now) l.tree c.advance-step.new.tree l.walk c.advance-step.new.self n l.findings
+    (held l.output) l.lines.waiting.items
     l.invariant c.advance-step.ensures.content wrote.tree c.in_ok-write_step.ensures.content (held wrote.output) wrote.lines.waiting.items
     c.advance-step.result c.in_default.not-Done steps wrote.findings c.in_ok-write_step.ensures.written

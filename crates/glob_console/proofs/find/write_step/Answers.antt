@@ -11,4 +11,5 @@ returns-else-not-branch-clause-some g c x told =
     let sure : wanted (path_buf_bytes c.in-Ok.path) ≡ true =
     subst (λ t. wanted t ≡ true) c.as_str.ensures (sym (c.in_ok-wants-in-Ok.ensures.wanted x told) ∙ c.if-not-branch.false) in
     rw (c.in-Item.is, c.in-Ok.is, sure)
-    (subst (λ t. OnErr c.add.result (AppendsFront (held c.args.output.now) (held c.add.new.output) (waiting ++ ended_record c.args.end t))) c.as_str-in-Ok.ensures c.add.ensures.some)
+    (subst (λ t. OnErr c.add.result (AppendsFront (held c.args.output.now) (held c.add.new.output)
+    (waiting ++ ended_record c.args.end t))) c.as_str-in-Ok.ensures c.add.ensures.some)

@@ -10,7 +10,8 @@ loop-argument-preserved g c =
     rw c.in_ok-push.ensures.items
     (map-append (λ w. w.now) l.words.items (c.as_str.result ∷ [])
     ∙ ap (λ texts. texts ++ c.as_str.result.now ∷ []) l.invariant
-    ∙ ap (λ text. map string_bytes (take l.argument-index xs) ++ text ∷ []) (c.as_str.ensures.value ∙ ap (λ s. string_bytes s) c.argument-item.is)
+    ∙ ap (λ text. map string_bytes (take l.argument-index xs) ++ text ∷ []) (c.as_str.ensures.value ∙ ap
+    (λ s. string_bytes s) c.argument-item.is)
     ∙ sym (map_more (λ s. string_bytes s) xs l.argument-index _ (omega arith)))
 
 pub returns : goal.returns

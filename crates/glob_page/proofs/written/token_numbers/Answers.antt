@@ -18,7 +18,8 @@ numbers_pushed : (tokens : List Written) (t : Written) (before one two three : L
     → one ≡ before ++ kind_number t.kind ∷ [] → two ≡ one ++ t.piece.start ∷ [] → three ≡ two ++ t.piece.end ∷ []
     → three ≡ written_numbers (tokens ++ t ∷ [])
 numbers_pushed tokens t before one two three inv first second third =
-    third ∙ ap (λ ns. ns ++ t.piece.end ∷ []) (second ∙ ap (λ ns. ns ++ t.piece.start ∷ []) (first ∙ ap (λ ns. ns ++ kind_number t.kind ∷ []) inv))
+    third ∙ ap (λ ns. ns ++ t.piece.end ∷ []) (second ∙ ap (λ ns. ns ++ t.piece.start ∷ [])
+    (first ∙ ap (λ ns. ns ++ kind_number t.kind ∷ []) inv))
     ∙ sym (written_numbers-push tokens t)
 
 -- they are three for each token

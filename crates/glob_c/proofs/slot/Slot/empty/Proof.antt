@@ -31,5 +31,6 @@ empty_spec 𝓤 𝓛 𝓜 𝓡 wired =
     sets ! (agg ! (and_then ! (lit ! tt) (no_more !))) refl (tt, (record { fits = lit< tt }, tt)) $
     empty_in ! null_ptr $
     returns ! (look_at ! 0 refl) $ free_all ! refl $
-    suffices ! _ (ends_at 𝓛 f.ended stayed c y (slot_val null_ptr) (record { at = null_ptr; text = None; walk = None }) tt tt) $ says ! (refl, refl) $
+    suffices ! _ (ends_at 𝓛 f.ended stayed c y (slot_val null_ptr) (record { at = null_ptr; text = None; walk = None })
+    tt tt) $ says ! (refl, refl) $
     nothing ! $ nothing ! $ done !))

@@ -36,21 +36,25 @@ returns-in_err-flush-clause-line g c =
 pub returns-in_err-flush-clause-some : goal.returns-in_err-flush-clause-some
 returns-in_err-flush-clause-some g c =
     let read = c.in_ok-extend_from_slice.ensures.items ∙ ap (λ bytes. c.args.self.now.waiting.items ++ bytes) c.as_bytes.ensures.value in
-    let more = waits_more c.args.self.now.waiting.items c.args.text.now c.extend_from_slice.new.self.items c.extend_from_slice-2.new.self.items c.args.end
+    let more = waits_more c.args.self.now.waiting.items c.args.text.now c.extend_from_slice.new.self.items
+    c.extend_from_slice-2.new.self.items c.args.end
     read c.in_ok-extend_from_slice-2.ensures.items in
-    OnErr-from _ (subst (λ bytes. AppendsFront (g.W.Write.contents c.args.output.now) (g.W.Write.contents c.flush.new.output) bytes) more c.in_err-flush.ensures.some)
+    OnErr-from _ (subst (λ bytes. AppendsFront (g.W.Write.contents c.args.output.now)
+    (g.W.Write.contents c.flush.new.output) bytes) more c.in_err-flush.ensures.some)
 
 pub returns-then-len-lt-CAPACITY-clause-line : goal.returns-then-len-lt-CAPACITY-clause-line
 returns-then-len-lt-CAPACITY-clause-line g c =
     let read = c.in_ok-extend_from_slice.ensures.items ∙ ap (λ bytes. c.args.self.now.waiting.items ++ bytes) c.as_bytes.ensures.value in
-    let more = waits_more c.args.self.now.waiting.items c.args.text.now c.extend_from_slice.new.self.items c.extend_from_slice-2.new.self.items c.args.end
+    let more = waits_more c.args.self.now.waiting.items c.args.text.now c.extend_from_slice.new.self.items
+    c.extend_from_slice-2.new.self.items c.args.end
     read c.in_ok-extend_from_slice-2.ensures.items in
     ([], Appends-none (g.W.Write.contents c.args.output.now), sym more)
 
 pub returns-clause-line : goal.returns-clause-line
 returns-clause-line g c =
     let read = c.in_ok-extend_from_slice.ensures.items ∙ ap (λ bytes. c.args.self.now.waiting.items ++ bytes) c.as_bytes.ensures.value in
-    let more = waits_more c.args.self.now.waiting.items c.args.text.now c.extend_from_slice.new.self.items c.extend_from_slice-2.new.self.items c.args.end
+    let more = waits_more c.args.self.now.waiting.items c.args.text.now c.extend_from_slice.new.self.items
+    c.extend_from_slice-2.new.self.items c.args.end
     read c.in_ok-extend_from_slice-2.ensures.items in
     let q = c.in_ok-flush.ensures.all in
     (q.0, q.1, sym more ∙ sym (append-nil c.extend_from_slice-2.new.self.items) ∙ q.2)
