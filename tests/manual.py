@@ -12,7 +12,7 @@ from pathlib import Path
 from lib.count import ROOT, Count, built, has, run
 
 README, TUTORIAL = ((ROOT / name).read_text(encoding="utf-8") for name in ("README.md", "rust/TUTORIAL.md"))
-PROGRAMS = sorted(page.stem for page in ROOT.glob("man/*.1"))
+PAGES = sorted(ROOT.glob("man/*.1"))
 ROFF = {r"\(aq": "'", r"\(ga": "`", r"\e": "\\", r"\-": "-", r"\&": ""}
 
 # Command lines whose last word is incomplete, and the completions that are offered for it: by bash, and by fish and zsh
@@ -87,8 +87,7 @@ SHELLS = {"bash": ["bash", "-c", BASH], "fish": ["fish", "--no-config", "-c", FI
 
 MADE = {"bash": "share/bash-completion/completions/globs", "zsh": "share/zsh/site-functions/_globs",
     "fish": "share/fish/vendor_completions.d/globs.fish"}
-PAGES = [f"share/man/man1/{name}.1" for name in PROGRAMS]
-INSTALLED = sorted([*MADE.values(), *PAGES, *(f"bin/{name}" for name in PROGRAMS)])
+INSTALLED = sorted([*MADE.values(), "share/man/man1/globs.1", "bin/globs"])
 
 
 def blocks_of(page, kind):
@@ -102,7 +101,7 @@ def shown(blocks):
 
 def examples():
     """The commands of the man pages and of the README's text blocks."""
-    text = "".join((ROOT / f"man/{name}.1").read_text(encoding="utf-8") for name in PROGRAMS)
+    text = "".join(page.read_text(encoding="utf-8") for page in PAGES)
     blocks = re.findall(r"^\.EX\n(.*?)^\.EE$", text, re.M | re.S)
     blocks = [re.sub(r"\\\(..|\\.", lambda it: ROFF[it[0]], block) for block in blocks]
     return shown(blocks + blocks_of(README, "text"))
@@ -124,7 +123,7 @@ class Manual:
 
     def install(self):
         """Checks that everything is installed."""
-        _ = built("glob_run"), built("globs")
+        built("globs")
         status, _, errors = run([ROOT / "bin/install", self.prefix])
         files = sorted(str(it.relative_to(self.prefix)) for it in self.prefix.rglob("*") if it.is_file())
         self.count.same(f"bin/install {errors}", (status, files), (0, INSTALLED))
@@ -133,7 +132,7 @@ class Manual:
         """Checks the man pages with the tools for it."""
         for words in (["mandoc", "-Tlint", "-Wwarning"], ["groff", "-man", "-ww", "-z"]):
             if has(words[0], "a check of the man pages"):
-                self.count.same(words[0], run([*words, *(self.prefix / page for page in PAGES)]), (0, "", ""))
+                self.count.same(words[0], run([*words, *PAGES]), (0, "", ""))
 
     def completions(self):
         """Checks the completions that the shells offer, and that they can read their files."""
@@ -158,7 +157,7 @@ class Manual:
         return [it.split() for it in offered.read_text(encoding="utf-8").splitlines()]
 
     def examples(self):
-        installed = f"{self.prefix}/bin:/usr/bin:/bin"
+        installed = f"{self.prefix}/bin:{built('glob_run').parent}:/usr/bin:/bin"
         rows = [("pages", installed, examples()), ("tutorial", installed, shown(blocks_of(TUTORIAL, "console")))]
         for name, path, calls in [*rows, (ROOT, os.environ["PATH"], shown_calls())]:
             folder = self.home / name

@@ -50,7 +50,6 @@ uses() {
 }
 
 built globs globs 'rt ci'
-built glob_run glob_run 'rt ci'
 built glob_c libcadmiumdove.a bin/c_library
 check 'a release' "$root/bin/release" "$work/made"
 mkdir "$work/there"
