@@ -3,7 +3,7 @@
 use std::error::Error;
 use std::ffi::OsString;
 use std::fs::{self, DirEntry};
-use std::io;
+use std::io::{self, ErrorKind};
 use std::path::Path;
 
 use crate::walk::{glob_in, Entry, Look, Name, Tree};
@@ -114,17 +114,24 @@ impl Disk {
         }
     }
 
-    /// What is at a path.
-    pub(crate) fn look_at(self, path: &Path) -> Look {
+    /// What is at a path: an error if the system says neither what is there nor that nothing is.
+    pub(crate) fn look_at(self, path: &Path) -> io::Result<Look> {
         match fs::symlink_metadata(path) {
             Ok(metadata) if metadata.is_symlink() && self.follow_links => match fs::metadata(path) {
-                Ok(metadata) if metadata.is_dir() => Look::Dir,
-                _ => Look::Other,
+                Ok(metadata) if metadata.is_dir() => Ok(Look::Dir),
+                _ => Ok(Look::Other),
             },
-            Ok(metadata) if metadata.is_dir() => Look::Dir,
-            Ok(_) => Look::Other,
-            Err(_) => Look::Missing,
+            Ok(metadata) if metadata.is_dir() => Ok(Look::Dir),
+            Ok(_) => Ok(Look::Other),
+            Err(error) if matches!(error.kind(), ErrorKind::NotFound | ErrorKind::NotADirectory) => Ok(Look::Missing),
+            Err(error) => Err(error),
         }
+    }
+
+    /// Whether there is a regular file at a path.
+    pub(crate) fn is_file(self, path: &Path) -> bool {
+        let metadata = if self.follow_links { fs::metadata(path) } else { fs::symlink_metadata(path) };
+        metadata.is_ok_and(|metadata| metadata.is_file())
     }
 
     /// The entries of a directory, with their kinds or without.
@@ -162,7 +169,7 @@ impl Default for Disk {
 
 impl Tree for Disk {
     fn look(&mut self, path: &str) -> Look {
-        self.look_at(path.as_ref())
+        self.look_at(path.as_ref()).unwrap_or(Look::Missing)
     }
 
     fn list(&mut self, path: &str) -> io::Result<Vec<Entry>> {

@@ -37,6 +37,7 @@ mod lanes;
 mod pattern;
 mod proved;
 mod search_errors;
+mod searching;
 mod traits;
 
 pub mod captures;

@@ -16,31 +16,26 @@
 //! something in it may still be found: the search above lists `.`, and what is below `src`. A pattern of names alone,
 //! as `src/lib.rs`, is looked up, and lists nothing. A `*` takes no `/`, and `**` takes any number of names.
 //!
-//! A directory that cannot be listed, an ignore file that cannot be read or is refused, and a name that is not UTF-8 are
-//! items with a [`SearchError`]. What cannot be looked up counts as missing.
+//! A path that cannot be looked up, a directory that cannot be listed, an ignore file that cannot be read or is refused,
+//! and a name that is not UTF-8 are items with a [`SearchError`].
 //!
 //! With [`git`](Search::git) and [`Wanted::Others`], a search of `**/*` finds the files that
 //! `git ls-files -co --exclude-standard` prints, if no tracked file is ignored or missing, no repository lies within,
 //! each name is UTF-8, and git has no ignore file of the user. Git prints no pipe, socket or device; and it reads a line
 //! that is [refused](crate::ignore::Reason) here, and compares `?` and brackets with single bytes.
 
-use std::borrow::Cow;
-use std::collections::VecDeque;
-use std::ffi::OsString;
 use std::fmt;
-use std::fs;
-use std::io;
-use std::iter::FusedIterator;
 use std::mem;
-use std::path::{Path, PathBuf};
+use std::path::PathBuf;
 
 use crate::ignore::IgnoreList;
 pub use crate::proved::glob_search::{NoRuleTexts, RuleTexts, Wanted};
 use crate::proved::glob_search::{Search as Engine, Settings};
-use crate::search_errors::error_of;
 pub use crate::search_errors::{SearchError, SearchRefusal};
+use crate::searching::{Exclusion, Guide};
+pub use crate::searching::{Searching, Start};
 use crate::set::{braces, strs_of, BraceSetRefusal, SetRefusal};
-use crate::walk::{Disk, Entry, Look, Tree};
+use crate::walk::{Disk, Tree};
 use crate::MatchOptions;
 
 /// A path that a search finds.
@@ -60,12 +55,6 @@ pub struct Found {
     pub is_dir: bool,
 }
 
-/// What a function says is left out.
-type Exclusion = Box<dyn FnMut(&str, bool) -> bool + Send>;
-
-/// What a tree has passed over since this was asked last.
-type PassedOver<T> = Box<dyn FnMut(&mut T) -> Vec<SearchError> + Send>;
-
 /// A search that has not begun. [`IntoIterator`] begins it on the file system, and [`over`](Search::over) in any
 /// [`Tree`].
 ///
@@ -83,6 +72,7 @@ pub struct Search {
     follow_links: bool,
     start: PathBuf,
     is_git: bool,
+    files: bool,
     exclusion: Option<Exclusion>,
 }
 
@@ -179,7 +169,8 @@ impl Search {
     /// A search for patterns that were read.
     fn of(patterns: Vec<String>) -> Self {
         let settings = Settings { kinds: true, ..Settings::new() };
-        Search { patterns, settings, follow_links: false, start: PathBuf::new(), is_git: false, exclusion: None }
+        let start = PathBuf::new();
+        Search { patterns, settings, follow_links: false, start, is_git: false, files: false, exclusion: None }
     }
 
     /// How names are matched. The separator rule holds in any case.
@@ -226,8 +217,8 @@ impl Search {
     }
 
     /// Finds directories only, or everything but directories. [`Others`](Wanted::Others) are not only files: also
-    /// symbolic links, those that lead nowhere among them, pipes, sockets and devices. Before you open one, ask
-    /// [`symlink_metadata`](std::fs::symlink_metadata) whether it is a file: to open a pipe may wait forever.
+    /// symbolic links, those that lead nowhere among them, pipes, sockets and devices. To open a pipe may wait forever;
+    /// [`files`](Search::files) finds regular files only.
     ///
     /// ```
     /// use cadmiumdove::search::{Search, Wanted};
@@ -246,6 +237,32 @@ impl Search {
     #[must_use]
     pub fn wanted(mut self, wanted: Wanted) -> Self {
         self.settings.wanted = wanted;
+        self.files = false;
+        self
+    }
+
+    /// Finds regular files only, on the file system. Each path that is found and is no directory is looked up once more:
+    /// a symbolic link is no file, unless links are followed and it leads to one. A [`Tree`] of one's own knows only
+    /// directories and others, and this finds the others there.
+    ///
+    /// ```
+    /// use cadmiumdove::search::Search;
+    ///
+    /// for found in Search::new(["src/*"])?.files() {
+    ///     std::fs::read(found?.path)?;
+    /// }
+    /// # Ok::<(), Box<dyn std::error::Error>>(())
+    /// ```
+    ///
+    /// <details><summary>Tested</summary>
+    ///
+    /// `others_are_all_but_directories` in `tests/search_errors.rs`.
+    ///
+    /// </details>
+    #[must_use]
+    pub fn files(mut self) -> Self {
+        self.settings.wanted = Wanted::Others;
+        self.files = true;
         self
     }
 
@@ -461,7 +478,7 @@ impl Search {
             }
         }
         let engine = Engine::new(&strs_of(&patterns), settings).expect("the patterns were read");
-        Searching { engine, tree, guide, passed_over: Box::new(|_tree| Vec::new()), ready: VecDeque::new() }
+        Searching::new(engine, tree, guide)
     }
 }
 
@@ -487,165 +504,17 @@ impl IntoIterator for Search {
     type IntoIter = Searching<Start, Start>;
 
     fn into_iter(mut self) -> Searching<Start, Start> {
-        let disk = Disk::new().follow_links(self.follow_links);
-        let start = Start { disk, directory: mem::take(&mut self.start), strays: Vec::new() };
+        let start = Start::new(Disk::new().follow_links(self.follow_links), mem::take(&mut self.start));
         let missing = start.missing();
         if missing.is_some() {
             self.patterns.clear();
         }
-        let mut searching = self.over(start.clone(), start);
-        searching.passed_over = Box::new(Start::passed_over);
-        searching.ready.extend(missing.map(|error| Err(SearchError::Unread(".".into(), error))));
-        searching
+        let files = self.files;
+        self.over(start.clone(), start).reporting(missing, files)
     }
 }
 
 /// Whether a component of a pattern is no name.
 fn matches_no_path(pattern: &str) -> bool {
     pattern.split('/').any(|component| matches!(component, "" | "." | ".."))
-}
-
-/// A search that has begun: what it finds, and what it could not do, in order.
-///
-/// ```
-/// use cadmiumdove::search::Search;
-///
-/// let mut searching = Search::new(["src/*.rs"])?.into_iter();
-/// assert!(searching.next().is_some());
-/// assert!(searching.spent() > 1);
-/// # Ok::<(), cadmiumdove::search::SearchRefusal>(())
-/// ```
-pub struct Searching<T, R> {
-    engine: Engine,
-    tree: T,
-    guide: Guide<R>,
-    /// What the tree has passed over since it was asked last.
-    passed_over: PassedOver<T>,
-    /// What comes before all else.
-    ready: VecDeque<Result<Found, SearchError>>,
-}
-
-impl<T, R> Searching<T, R> {
-    /// How many units of work were charged: never more than the limit.
-    ///
-    /// <details><summary>Tested</summary>
-    ///
-    /// `limits` in `tests/settings.rs`.
-    ///
-    /// </details>
-    #[must_use]
-    pub fn spent(&self) -> u64 {
-        self.engine.spent()
-    }
-}
-
-impl<T: Tree, R: RuleTexts> Iterator for Searching<T, R> {
-    type Item = Result<Found, SearchError>;
-
-    fn next(&mut self) -> Option<Self::Item> {
-        if let Some(item) = self.ready.pop_front() {
-            return Some(item);
-        }
-        let item = self.engine.next(&mut self.tree, &mut self.guide).map(|item| {
-            let found = item.map_err(error_of)?;
-            Ok(Found { path: found.path.into(), is_dir: found.is_dir.unwrap_or(false) })
-        });
-        // The directories that were listed for this item come before it.
-        self.ready.extend((self.passed_over)(&mut self.tree).into_iter().map(Err));
-        if self.ready.is_empty() {
-            return item;
-        }
-        self.ready.extend(item);
-        self.ready.pop_front()
-    }
-}
-
-impl<T: Tree, R: RuleTexts> FusedIterator for Searching<T, R> {}
-
-impl<T, R> fmt::Debug for Searching<T, R> {
-    fn fmt(&self, f: &mut fmt::Formatter<'_>) -> fmt::Result {
-        f.debug_struct("Searching").field("spent", &self.spent()).finish_non_exhaustive()
-    }
-}
-
-/// The texts of ignore files, and what a function leaves out.
-struct Guide<R> {
-    texts: R,
-    is_git: bool,
-    exclusion: Option<Exclusion>,
-}
-
-impl<R: RuleTexts> RuleTexts for Guide<R> {
-    fn text(&mut self, path: &str) -> io::Result<Option<String>> {
-        self.texts.text(path)
-    }
-
-    fn leaves_out(&mut self, path: &str, is_dir: bool) -> bool {
-        self.is_git && (path == ".git" || path.ends_with("/.git"))
-            || self.texts.leaves_out(path, is_dir)
-            || self.exclusion.as_mut().is_some_and(|says| says(path, is_dir))
-    }
-}
-
-/// The file system from a directory on.
-///
-/// ```
-/// use cadmiumdove::search::{Search, Searching, Start};
-///
-/// let searching: Searching<Start, Start> = Search::new(["*"])?.below("src").into_iter();
-/// assert!(searching.count() > 0);
-/// # Ok::<(), cadmiumdove::search::SearchRefusal>(())
-/// ```
-#[derive(Clone, Debug)]
-pub struct Start {
-    disk: Disk,
-    directory: PathBuf,
-    /// The paths whose names are not UTF-8, of the directories that were listed.
-    strays: Vec<PathBuf>,
-}
-
-impl Start {
-    /// Why there is no such directory. A path that ends in `/.` leads nowhere from anything else.
-    fn missing(&self) -> Option<io::Error> {
-        fs::metadata(self.at(".")).err()
-    }
-
-    /// What was passed over since this was asked last.
-    fn passed_over(&mut self) -> Vec<SearchError> {
-        mem::take(&mut self.strays).into_iter().map(SearchError::NotText).collect()
-    }
-
-    /// A path from the directory on. What is not UTF-8 was given by the caller.
-    fn at<'a>(&self, path: &'a str) -> Cow<'a, Path> {
-        if self.directory.as_os_str().is_empty() {
-            Cow::Borrowed(Path::new(path))
-        } else {
-            Cow::Owned(self.directory.join(path))
-        }
-    }
-}
-
-impl Tree for Start {
-    fn look(&mut self, path: &str) -> Look {
-        self.disk.look_at(&self.at(path))
-    }
-
-    fn list(&mut self, path: &str) -> io::Result<Vec<Entry>> {
-        let mut names: Vec<OsString> = Vec::new();
-        let entries = self.disk.entries_and(&self.at(path), true, |name| names.push(name))?;
-        names.sort_unstable();
-        let above = Path::new(if path == "." { "" } else { path });
-        self.strays.extend(names.into_iter().map(|name| above.join(name)));
-        Ok(entries)
-    }
-}
-
-impl RuleTexts for Start {
-    fn text(&mut self, path: &str) -> io::Result<Option<String>> {
-        match fs::read_to_string(self.at(path)) {
-            Ok(text) => Ok(Some(text)),
-            Err(error) if error.kind() == io::ErrorKind::NotFound => Ok(None),
-            Err(error) => Err(error),
-        }
-    }
 }

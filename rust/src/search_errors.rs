@@ -32,7 +32,7 @@ use crate::set::{BraceSetRefusal, SetRefusal};
 pub enum SearchError {
     /// The name at the path is not UTF-8, so neither it nor what is below it is found.
     NotText(PathBuf),
-    /// The directory at the path could not be listed, so what is below it is not found.
+    /// The path could not be looked up, or the directory there could not be listed, so what may be there is not found.
     Unread(PathBuf, io::Error),
     /// The file with rules at the path could not be read, so its rules are not heard.
     UnreadRules(PathBuf, io::Error),

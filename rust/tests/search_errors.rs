@@ -178,6 +178,12 @@ fn others_are_all_but_directories() {
     let names = |entries: Vec<&fs::DirEntry>| entries.iter().map(|entry| entry.file_name().into()).collect();
     assert_eq!((dirs.len(), others.len()), (1, 5));
     assert_eq!((found(Wanted::Directories), found(Wanted::Others)), (names(dirs), names(others)));
+    let files =
+        |search: Search| -> Vec<PathBuf> { search.files().into_iter().map(|item| item.unwrap().path).collect() };
+    assert_eq!(files(scratch.search(&["*"])), [Path::new("file")]);
+    assert_eq!(files(scratch.search(&["*"]).follow_links(true)), [Path::new("file"), Path::new("to_file")]);
+    assert_eq!(files(scratch.search(&["to_*", "socket", "loose", "d/**/*"])), [Path::new("d/file")]);
+    assert_eq!(scratch.search(&["*"]).files().wanted(Wanted::Others).into_iter().count(), 5);
     drop(socket);
 }
 
@@ -268,4 +274,27 @@ fn errors_have_a_path_a_text_and_a_source() {
         };
         assert_eq!(row(error), (path.map(Path::to_owned), filled(text), source.map(filled), is_last));
     }
+}
+
+#[test]
+fn a_path_that_cannot_be_looked_up_is_an_error() {
+    let scratch = Scratch::with("long", &[b"a", b"d/b"]);
+    let long = "n".repeat(256);
+    let mut items = scratch.search(&["a", &long, &format!("d/{long}/*"), "d/*"]).into_iter();
+    let mut errors = BTreeSet::new();
+    let mut found = Vec::new();
+    for item in items.by_ref() {
+        match item {
+            Ok(it) => found.push(it.path),
+            Err(SearchError::Unread(path, error)) => {
+                assert_ne!(error.kind(), io::ErrorKind::NotFound);
+                assert!(errors.insert(path));
+            }
+            Err(error) => panic!("{error}"),
+        }
+    }
+    assert_eq!(found, [Path::new("a"), Path::new("d/b")]);
+    assert!(errors.contains(Path::new(&long)), "{errors:?}");
+    // Nothing is below a file.
+    assert_eq!(scratch.search(&["a/b", "a/b/*", "n"]).into_iter().count(), 0);
 }
