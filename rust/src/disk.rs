@@ -11,7 +11,8 @@ use crate::Paths;
 use crate::{GlobError, MatchOptions, PatternError};
 
 /// The paths that a pattern leads to, from the current directory or from the root, under [`MatchOptions::new`]. Names
-/// are in the order of their bytes. A directory that cannot be listed is an item with an error, and the walk goes on.
+/// come in the order of their bytes. A directory that cannot be listed gives an item with an error, and the walk goes
+/// on.
 ///
 /// ```
 /// for path in cadmiumdove::glob("src/**/*.rs").unwrap() {
@@ -37,8 +38,8 @@ pub fn glob(pattern: &str) -> Result<Paths, PatternError> {
     glob_with(pattern, MatchOptions::new())
 }
 
-/// The paths that a pattern leads to, as of [`glob()`], under these options. The separator rule has no effect, since a
-/// name has no `/`.
+/// The paths that a pattern leads to, like [`glob()`], but under these options. The separator rule has no effect, since
+/// a name has no `/`.
 ///
 /// ```
 /// use cadmiumdove::{glob_with, MatchOptions};
@@ -92,9 +93,9 @@ impl Disk {
         Disk { follow_links: true }
     }
 
-    /// Whether symbolic links are followed. One that is not is no directory, so that a walk by `**` does not enter it,
-    /// ends on a cycle of links, and finds nothing by `link/*`. A path through a link is followed all the same, as
-    /// `link/a`.
+    /// Whether symbolic links are followed. If not, a link does not count as a directory: a walk by `**` does not enter
+    /// it, so it ends on a cycle of links, and `link/*` finds nothing. A path through a link, such as `link/a`, is
+    /// looked up all the same.
     ///
     /// <details><summary>Tested</summary>
     ///
@@ -105,7 +106,7 @@ impl Disk {
         Disk { follow_links }
     }
 
-    /// Whether an entry is a directory. One whose kind cannot be learned is none.
+    /// Whether an entry is a directory. If its kind cannot be determined, it does not count as one.
     fn is_dir(self, entry: &DirEntry) -> bool {
         match entry.file_type() {
             Ok(kind) if !kind.is_symlink() => kind.is_dir(),

@@ -13,7 +13,7 @@
 //!
 //! [`Reason`] has the kinds of lines that are refused, and the error has the number of the first.
 //!
-//! Threads and walks share a list by a reference or an `Arc`; a copy is one of its own:
+//! Threads and walks share a list by a reference or an `Arc`; a clone is independent:
 //!
 //! ```
 //! use cadmiumdove::ignore::IgnoreList;
@@ -39,7 +39,7 @@ impl Default for IgnoreList {
 }
 
 impl IgnoreList {
-    /// The rules of a text without the lines that are refused, and why each of these is, as for a file of somebody else.
+    /// The rules of a text without the lines that are refused, and why each of those is, for a file that is not yours.
     ///
     /// ```
     /// use cadmiumdove::ignore::IgnoreList;

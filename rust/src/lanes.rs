@@ -56,7 +56,7 @@ mod tests {
     /// Bytes whose bits are at the ends, and those of texts.
     const BYTES: [u8; 12] = [0, 1, 0x20, b'A', b'a', 0x7f, 0x80, 0x81, 0xa9, 0xc3, 0xe0, 0xff];
 
-    /// Bit k of the mask is of byte k, whatever its neighbours are.
+    /// Bit k of the mask belongs to byte k, whatever its neighbours are.
     #[test]
     fn lanes_are_compared_one_by_one() {
         for (x, y) in BYTES.iter().flat_map(|x| BYTES.iter().map(move |y| (*x, *y))) {

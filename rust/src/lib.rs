@@ -1,6 +1,6 @@
 //! Shell patterns such as `src/**/*.rs` that match texts and find files, with the API of the crate `glob` 0.3.
 //!
-//! A program that uses `glob` stays as it is, with one line of `Cargo.toml` changed to
+//! A program that uses `glob` changes one line of `Cargo.toml` to
 //! `glob = { package = "cadmiumdove", path = "PATH/rust" }`. Here the crate has its own name:
 //!
 //! ```
@@ -15,15 +15,15 @@
 //! }
 //! ```
 //!
-//! Beside it, each in a module of its own: walks with a limit, over any tree, or that ask their caller ([`walk`]), sets
-//! of patterns ([`set`]), the rules of ignore files ([`ignore`]), searches by many patterns that heed such files
-//! ([`search`]), the pieces of a text that a pattern's wildcards take, and how far a text matches ([`captures`](mod@captures)).
-//! [`tutorial`] takes one sitting, and [`recipes`] has an example for each task.
+//! More is in modules of their own: walks with a limit, over any tree, or that ask their caller ([`walk`]), sets of
+//! patterns ([`set`]), the rules of ignore files ([`ignore`]), searches by many patterns that heed such files
+//! ([`search`]), and the pieces of a text that a pattern's wildcards take, and how far a text matches
+//! ([`captures`](mod@captures)). [`tutorial`] takes one sitting, and [`recipes`] has an example for each task.
 //!
-//! What matches and what goes from path to path is made from sources in which every function is proved to do what its
-//! contract says; README says what that means for this crate. The file that an item's source link shows begins with the
-//! path of its source, where its contract is, unless the item is written by hand. The questions of a match are at most in
-//! proportion to the tokens of the pattern times the characters of the text; and nothing here calls itself.
+//! The code that matches and walks is made from sources in which every function is proved to do what its contract says;
+//! README says what that means for this crate. The file that an item's source link shows begins with the path of its
+//! source, where its contract is, unless the item is written by hand. A match asks a number of questions that is at
+//! most in proportion to the tokens of the pattern times the characters of the text, and nothing here calls itself.
 
 #![forbid(unsafe_code)]
 #![warn(missing_debug_implementations, missing_docs, clippy::missing_errors_doc)]

@@ -70,7 +70,7 @@ impl fmt::Debug for Pattern {
 }
 
 impl PatternErrorKind {
-    /// What is wrong where a text is no pattern.
+    /// What is wrong with a text that is not a pattern.
     ///
     /// ```
     /// use cadmiumdove::{Pattern, PatternErrorKind};

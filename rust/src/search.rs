@@ -1,4 +1,4 @@
-//! Searches: the paths below a directory that some of many patterns match, without those that ignore files leave out.
+//! Searches: the paths below a directory that any of many patterns matches, without those that ignore files exclude.
 //!
 //! ```
 //! use cadmiumdove::search::Search;
@@ -13,16 +13,17 @@
 //! ```
 //!
 //! Each path comes once, in ascending order of names, however many patterns match it. A directory is listed only if
-//! something in it may still be found: the search above lists `.`, and what is below `src`. A pattern of names alone,
-//! as `src/lib.rs`, is looked up, and lists nothing. A `*` takes no `/`, and `**` takes any number of names.
+//! something in it may still be found: the search above lists `.`, and what is below `src`. A pattern without
+//! wildcards, such as `src/lib.rs`, is looked up, and lists nothing. A `*` takes no `/`, and `**` takes any number of
+//! names.
 //!
 //! A path that cannot be looked up, a directory that cannot be listed, an ignore file that cannot be read or is refused,
-//! and a name that is not UTF-8 are items with a [`SearchError`].
+//! and a name that is not UTF-8 give items with a [`SearchError`].
 //!
-//! With [`git`](Search::git) and [`Wanted::Others`], a search of `**/*` finds the files that
-//! `git ls-files -co --exclude-standard` prints, if no tracked file is ignored or missing, no repository lies within,
-//! each name is UTF-8, and git has no ignore file of the user. Git prints no pipe, socket or device; and it reads a line
-//! that is [refused](crate::ignore::Reason) here, and compares `?` and brackets with single bytes.
+//! With [`git`](Search::git) and [`Wanted::Others`], a search of `**/*` finds the files that `git ls-files -co
+//! --exclude-standard` prints, if no tracked file is ignored or missing, there is no repository within, each name is
+//! UTF-8, and the user has no ignore file of their own. Git prints no pipe, socket or device. It reads lines that are
+//! [refused](crate::ignore::Reason) here, and compares `?` and brackets with single bytes.
 
 use std::fmt;
 use std::mem;
@@ -49,14 +50,13 @@ use crate::MatchOptions;
 /// ```
 #[derive(Clone, Debug, PartialEq, Eq)]
 pub struct Found {
-    /// The names from the start directory on, as `src/main.rs`.
+    /// The names from the start directory on, such as `src/main.rs`.
     pub path: PathBuf,
-    /// Whether it is a directory. A symbolic link to one is none, unless links are followed.
+    /// Whether it is a directory. A symbolic link to one does not count, unless links are followed.
     pub is_dir: bool,
 }
 
-/// A search that has not begun. [`IntoIterator`] begins it on the file system, and [`over`](Search::over) in any
-/// [`Tree`].
+/// A search that has not begun. [`IntoIterator`] begins it on the file system, [`over`](Search::over) in any [`Tree`].
 ///
 /// ```
 /// use cadmiumdove::search::{Search, Wanted};
@@ -83,7 +83,8 @@ impl fmt::Debug for Search {
 }
 
 impl Search {
-    /// A search below the current directory for what some patterns match, case-sensitively. Links are not followed.
+    /// A search below the current directory for what any of the patterns matches, case-sensitively. Links are not
+    /// followed.
     ///
     /// ```
     /// use cadmiumdove::search::Search;
@@ -97,13 +98,13 @@ impl Search {
     /// # Ok::<(), cadmiumdove::search::SearchRefusal>(())
     /// ```
     ///
-    /// A pattern names paths from the start directory on: `src/*`, not `./src/*`. For directories use
+    /// Patterns match paths relative to the start directory: `src/*`, not `./src/*`. For directories use
     /// `wanted(Wanted::Directories)`, not a `/` at the end.
     ///
     /// # Errors
     ///
-    /// The error is of the first text that is refused, with its number, counted from 0:
-    /// [`Pattern`](SearchRefusal::Pattern) if it is no pattern, and [`NoPath`](SearchRefusal::NoPath) if it has a
+    /// The error is that of the first text that is refused, with its number, counted from 0:
+    /// [`Pattern`](SearchRefusal::Pattern) if it is not a pattern, and [`NoPath`](SearchRefusal::NoPath) if it has a
     /// component that is empty, `.` or `..`, as `src/`, `/tmp/*`, `../*` and the empty text have. No path that a search
     /// gives has such a component.
     ///
@@ -128,7 +129,7 @@ impl Search {
         Ok(Search::of(patterns))
     }
 
-    /// As [`new`](Search::new), for all alternatives of the texts: `src/*.{c,h}` is `src/*.c` and `src/*.h`.
+    /// Like [`new`](Search::new), for all alternatives of the texts: `src/*.{c,h}` means `src/*.c` and `src/*.h`.
     ///
     /// ```
     /// use cadmiumdove::search::Search;
@@ -138,9 +139,10 @@ impl Search {
     ///
     /// # Errors
     ///
-    /// The error is of the first text that is refused, with its number, counted from 0:
-    /// [`Braces`](SearchRefusal::Braces) if its braces are not closed or stand for too many alternatives, or if one of
-    /// these is no pattern, and [`NoPath`](SearchRefusal::NoPath) if one has a component that is empty, `.` or `..`.
+    /// The error is that of the first text that is refused, with its number, counted from 0:
+    /// [`Braces`](SearchRefusal::Braces) if its braces are not closed or stand for too many alternatives, or if an
+    /// alternative is not a pattern; [`NoPath`](SearchRefusal::NoPath) if one has a component that is empty, `.` or
+    /// `..`.
     ///
     /// <details><summary>Tested</summary>
     ///
@@ -173,7 +175,7 @@ impl Search {
         Search { patterns, settings, follow_links: false, start, is_git: false, files: false, exclusion: None }
     }
 
-    /// How names are matched. The separator rule holds in any case.
+    /// How names are matched. The separator rule always holds.
     ///
     /// ```
     /// use cadmiumdove::search::Search;
@@ -195,7 +197,7 @@ impl Search {
         self
     }
 
-    /// Finds paths of at most so many names: with 1 what is in the start directory.
+    /// Finds paths of at most this many names; with 1, only what is directly in the start directory.
     ///
     /// ```
     /// use cadmiumdove::search::Search;
@@ -216,9 +218,9 @@ impl Search {
         self
     }
 
-    /// Finds directories only, or everything but directories. [`Others`](Wanted::Others) are not only files: also
-    /// symbolic links, those that lead nowhere among them, pipes, sockets and devices. To open a pipe may wait forever;
-    /// [`files`](Search::files) finds regular files only.
+    /// Finds only directories, or everything else. [`Others`](Wanted::Others) are not only files, but also symbolic
+    /// links (even those that lead nowhere), pipes, sockets and devices. Opening a pipe may wait forever;
+    /// [`files`](Search::files) finds only regular files.
     ///
     /// ```
     /// use cadmiumdove::search::{Search, Wanted};
@@ -266,7 +268,7 @@ impl Search {
         self
     }
 
-    /// Whether a symbolic link to a directory is entered as one, on the file system.
+    /// Whether, on the file system, a symbolic link to a directory is entered like a directory.
     ///
     /// ```
     /// use cadmiumdove::search::Search;
@@ -286,9 +288,9 @@ impl Search {
         self
     }
 
-    /// Searches below another directory than the current one, on the file system. Paths are given from there, also
-    /// those of errors, where `.` is the directory itself. If it is missing or no directory, the only item is an error
-    /// [`Unread`](SearchError::Unread) of `.`, whatever the patterns.
+    /// Searches below this directory of the file system, instead of the current one. Paths are relative to it, also
+    /// those of errors, where `.` is the directory itself. If it is missing or not a directory, the only item is an
+    /// error [`Unread`](SearchError::Unread) of `.`, whatever the patterns.
     ///
     /// ```
     /// use cadmiumdove::search::Search;
@@ -313,7 +315,7 @@ impl Search {
         self
     }
 
-    /// Leaves out what a list ignores, and all below it. Its rules come before those of files.
+    /// Leaves out what a list ignores, and everything below it. Its rules come before those of files.
     ///
     /// A list is the text of an ignore file: `#` begins a comment, `!` re-includes, and a rule without a `/` is about
     /// names at every depth. For patterns of a command line use [`exclude`](Search::exclude) with a
@@ -339,9 +341,9 @@ impl Search {
         self
     }
 
-    /// Reads the files of these names in each directory that is entered, and leaves out what their rules ignore. The
-    /// deepest file that names a path decides, and in one directory the last of these names. A file with a line that is
-    /// refused is an error in its place, and has no rules.
+    /// Reads the files with these names in each directory that is entered, and leaves out what their rules ignore. The
+    /// deepest file that names a path decides, and within one directory the last of these names. A file with a refused
+    /// line gives an error in its place, and has no rules.
     ///
     /// ```
     /// use cadmiumdove::search::Search;
@@ -366,8 +368,9 @@ impl Search {
         self
     }
 
-    /// Heeds what git does: reads the `.gitignore` of each directory and `.git/info/exclude`, and leaves out each `.git`.
-    /// The start directory is taken for the top of the repository. It adds to [`ignore_files`](Search::ignore_files).
+    /// Heeds what git heeds: reads the `.gitignore` of each directory and `.git/info/exclude`, and leaves out each
+    /// `.git`. The start directory is taken for the top of the repository. This adds to
+    /// [`ignore_files`](Search::ignore_files).
     ///
     /// ```
     /// use cadmiumdove::search::Search;
@@ -389,8 +392,8 @@ impl Search {
         self
     }
 
-    /// Leaves out each path for which a function says so, and all below it. It is asked about paths that no rule
-    /// ignores, and whether each is a directory.
+    /// Leaves out each path for which a function returns `true`, and everything below it. The function is called for
+    /// the paths that no rule ignores, with whether each is a directory.
     ///
     /// ```
     /// use cadmiumdove::search::Search;
@@ -400,7 +403,7 @@ impl Search {
     /// # Ok::<(), cadmiumdove::search::SearchRefusal>(())
     /// ```
     ///
-    /// Patterns of a command line are a set. Under the separator rule their `*` takes no `/`, as in the search itself:
+    /// Patterns of a command line make a set. Under the separator rule its `*` takes no `/`, as in the search itself:
     ///
     /// ```
     /// use cadmiumdove::search::Search;
@@ -427,8 +430,8 @@ impl Search {
         self
     }
 
-    /// The most units of work: one for each lookup, listing, file of rules, and entry of a listing. A search that would
-    /// need more ends with [`Limit`](SearchError::Limit).
+    /// The most units of work: one for each lookup, listing, file of rules, and entry of a listing. A search that needs
+    /// more ends with [`Limit`](SearchError::Limit).
     ///
     /// ```
     /// use cadmiumdove::search::{Search, SearchError};
@@ -449,10 +452,10 @@ impl Search {
         self
     }
 
-    /// Begins in a tree of one's own, with the texts of its ignore files, which [`NoRuleTexts`] has none of. In a
-    /// directory that is listed, only the files that the listing has are asked for. The names of a tree are UTF-8 by
-    /// their type, so what it passes over, as [`Disk`] does, is no error here, and neither is a start directory that is
-    /// missing, unless it is listed.
+    /// Begins in a tree of your own, with the texts of its ignore files ([`NoRuleTexts`] has none). In a directory that
+    /// is listed, only the files that the listing has are asked for. The names of a tree are UTF-8 by their type, so
+    /// what it passes over, as [`Disk`] does, is not an error here. Nor is a missing start directory, unless it is
+    /// listed.
     ///
     /// ```
     /// use cadmiumdove::search::{NoRuleTexts, Search};
@@ -482,10 +485,10 @@ impl Search {
     }
 }
 
-/// Begins on the file system. A start directory that is missing or no directory is an error
-/// [`Unread`](SearchError::Unread), and nothing else comes. Each name that is not UTF-8, of a directory that is listed, is
-/// an item [`NotText`](SearchError::NotText), whatever the patterns and the rules. These items come before what is found
-/// in that directory and below it, in the order of their bytes.
+/// Begins on the file system. A start directory that is missing, or is not a directory, gives an error
+/// [`Unread`](SearchError::Unread), and nothing else. Each name that is not UTF-8, in a directory that is listed, gives
+/// an item [`NotText`](SearchError::NotText), whatever the patterns and the rules. These items come before what is
+/// found in and below that directory, in the order of their bytes.
 ///
 /// ```
 /// use cadmiumdove::search::{Search, SearchError};
@@ -514,7 +517,7 @@ impl IntoIterator for Search {
     }
 }
 
-/// Whether a component of a pattern is no name.
+/// Whether a component of a pattern is not a name.
 fn matches_no_path(pattern: &str) -> bool {
     pattern.split('/').any(|component| matches!(component, "" | "." | ".."))
 }

@@ -9,7 +9,7 @@ use crate::ignore::Reason;
 use crate::proved::glob_search::SearchFault as Fault;
 use crate::set::{BraceSetRefusal, SetRefusal};
 
-/// What a search could not do. Paths are given from the start directory on, as those that are found; `.` is that
+/// What a search could not do. Paths are relative to the start directory, like those that are found; `.` is that
 /// directory itself. The search goes on, except after [`Limit`](SearchError::Limit).
 ///
 /// ```
@@ -34,16 +34,16 @@ pub enum SearchError {
     NotText(PathBuf),
     /// The path could not be looked up, or the directory there could not be listed, so what may be there is not found.
     Unread(PathBuf, io::Error),
-    /// The file with rules at the path could not be read, so its rules are not heard.
+    /// The file with rules at the path could not be read, so its rules do not apply.
     UnreadRules(PathBuf, io::Error),
-    /// A line of the file with rules at the path is refused, so none of its rules is heard. The line is counted from 1.
+    /// A line of the file with rules at the path is refused, so none of its rules applies. Lines are counted from 1.
     RefusedRules(PathBuf, usize, Reason),
     /// The next unit of work does not fit the limit. The search has ended.
     Limit,
 }
 
 impl SearchError {
-    /// The path that the error is about: `None` for [`Limit`](SearchError::Limit).
+    /// The path that the error is about; `None` for [`Limit`](SearchError::Limit).
     ///
     /// <details><summary>Tested</summary>
     ///
@@ -61,7 +61,7 @@ impl SearchError {
         }
     }
 
-    /// Whether it is [`Limit`](SearchError::Limit), after which nothing comes.
+    /// Whether this is [`Limit`](SearchError::Limit), after which nothing comes.
     ///
     /// <details><summary>Tested</summary>
     ///
@@ -110,7 +110,8 @@ pub(crate) fn error_of(fault: Fault) -> SearchError {
     }
 }
 
-/// Why [`Search::new`](crate::search::Search::new) or [`from_braces`](crate::search::Search::from_braces) refused texts.
+/// Why [`Search::new`](crate::search::Search::new) or [`from_braces`](crate::search::Search::from_braces) refused
+/// texts.
 ///
 /// ```
 /// use cadmiumdove::search::{Search, SearchRefusal};
@@ -126,9 +127,9 @@ pub(crate) fn error_of(fault: Fault) -> SearchError {
 #[derive(Debug, Clone, PartialEq, Eq)]
 #[non_exhaustive]
 pub enum SearchRefusal {
-    /// A text is no pattern.
+    /// A text is not a pattern.
     Pattern(SetRefusal),
-    /// The braces of a text are not closed or stand for too many alternatives, or one of these is no pattern.
+    /// The braces of a text are not closed or stand for too many alternatives, or an alternative is not a pattern.
     Braces(BraceSetRefusal),
     /// The text with the number, counted from 0, or one of its alternatives, has a component that is empty, `.` or
     /// `..`, so that it matches no path of a search.
@@ -136,7 +137,7 @@ pub enum SearchRefusal {
 }
 
 impl SearchRefusal {
-    /// The number of the text that is refused, counted from 0. Its alternatives do not count.
+    /// The number of the text that is refused, counted from 0. Alternatives are not counted.
     ///
     /// ```
     /// use cadmiumdove::search::Search;

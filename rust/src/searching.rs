@@ -15,10 +15,10 @@ use crate::search::{Found, SearchError};
 use crate::search_errors::error_of;
 use crate::walk::{Disk, Entry, Look, Tree};
 
-/// What a function says is left out.
+/// The function that says what is left out.
 pub(crate) type Exclusion = Box<dyn FnMut(&str, bool) -> bool + Send>;
 
-/// What a tree has passed over since this was asked last.
+/// What a tree has passed over since the last such question.
 type PassedOver<T> = Box<dyn FnMut(&mut T) -> Vec<SearchError> + Send>;
 
 /// Whether something that is found in a tree is given.
@@ -38,7 +38,7 @@ pub struct Searching<T, R> {
     engine: Engine,
     tree: T,
     guide: Guide<R>,
-    /// What the tree has passed over since it was asked last.
+    /// What the tree has passed over since the last such question.
     passed_over: PassedOver<T>,
     keeps: Keeps<T>,
     /// What comes before all else.
@@ -52,7 +52,7 @@ impl<T, R> Searching<T, R> {
         Searching { engine, tree, guide, passed_over, keeps, ready: VecDeque::new() }
     }
 
-    /// How many units of work were charged: never more than the limit.
+    /// How many units of work were charged, never more than the limit.
     ///
     /// <details><summary>Tested</summary>
     ///
@@ -154,12 +154,12 @@ impl Start {
         Start { disk, directory, strays: Vec::new() }
     }
 
-    /// Why there is no such directory. A path that ends in `/.` leads nowhere from anything else.
+    /// Why there is no such directory. A path that ends in `/.` leads nowhere from anything but a directory.
     pub(crate) fn missing(&self) -> Option<io::Error> {
         fs::metadata(self.at(".")).err()
     }
 
-    /// What was passed over since this was asked last.
+    /// What was passed over since the last such question.
     fn passed_over(&mut self) -> Vec<SearchError> {
         mem::take(&mut self.strays)
     }

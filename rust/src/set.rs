@@ -1,4 +1,4 @@
-//! Sets of patterns: which of many match a text, where few of them are asked.
+//! Sets of patterns: which of many match a text, asking only a few of them.
 //!
 //! ```
 //! use cadmiumdove::set::PatternSet;
@@ -11,8 +11,8 @@
 //! # Ok::<(), cadmiumdove::set::SetRefusal>(())
 //! ```
 //!
-//! A set is never changed by asking it, so threads share one by a reference or an `Arc`. A copy costs less than making
-//! the set anew, since nothing is parsed:
+//! Asking a set never changes it, so threads share one by a reference or an `Arc`. A clone costs less than making the
+//! set again, since nothing is parsed:
 //!
 //! ```
 //! use cadmiumdove::set::PatternSet;
@@ -28,7 +28,7 @@
 //! [`Search::exclude`](crate::search::Search::exclude) leaves out what a set matches: `**/target`, and not
 //! `**/target/**`, leaves out the directory, and all below it.
 //!
-//! Braces are short for their alternatives:
+//! Braces are an abbreviation for their alternatives:
 //!
 //! ```
 //! use cadmiumdove::set::{PatternSet, braces};
@@ -69,7 +69,7 @@ impl PatternSet {
     /// # Errors
     ///
     /// The error is [`Syntax`](SetRefusal::Syntax) with the number, counted from 0, and the fault of the first text
-    /// that is no pattern.
+    /// that is not a pattern.
     ///
     /// <details><summary>Contract</summary>
     ///
@@ -92,7 +92,7 @@ impl PatternSet {
 
     /// [`new`](Self::new) of all alternatives of all texts, those of the first text first, as
     /// [`expand`](braces::expand) returns them. The texts may be what [`from_texts`](Self::from_texts) takes, and are
-    /// read as there but for braces. Numbers of patterns count alternatives, and those of errors texts.
+    /// read as there, except for braces. Numbers of patterns count alternatives, and numbers in errors count texts.
     ///
     /// ```
     /// use cadmiumdove::set::PatternSet;
@@ -110,7 +110,7 @@ impl PatternSet {
     ///
     /// The error is of the first text that has a fault: [`Braces`](BraceSetRefusal::Braces) if its braces are not
     /// closed or stand for more than [`MOST_ALTERNATIVES`](braces::MOST_ALTERNATIVES), and
-    /// [`Pattern`](BraceSetRefusal::Pattern) if one of its alternatives is no pattern.
+    /// [`Pattern`](BraceSetRefusal::Pattern) if one of its alternatives is not a pattern.
     ///
     /// <details><summary>Contract</summary>
     ///
@@ -133,8 +133,8 @@ impl PatternSet {
         Self::of_braces(&strs_of(&texts), options)
     }
 
-    /// The numbers of all patterns that match the text, in order. Where many texts are asked,
-    /// [`matches_into`](Self::matches_into) fills one list again and again.
+    /// The numbers of all patterns that match the text, in order. For many texts, [`matches_into`](Self::matches_into)
+    /// fills one list again and again.
     ///
     /// ```
     /// use cadmiumdove::set::PatternSet;
@@ -238,7 +238,7 @@ impl Default for PatternSet {
 }
 
 impl SetRefusal {
-    /// The number of the text that is no pattern, counted from 0. The fault without it is
+    /// The number of the text that is not a pattern, counted from 0. The fault without it is
     /// [`source`](std::error::Error::source).
     ///
     /// ```

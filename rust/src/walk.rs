@@ -1,7 +1,7 @@
 //! Walks with a limit, over trees of your own, and walks that ask their caller.
 //!
-//! A walk is paid for in units: one for each path that is looked up, one for each directory that is listed, and one for
-//! each of its entries. With a limit it ends whatever the pattern and the tree are, also where links make a cycle. A
+//! A walk is charged in units: one for each path that is looked up, one for each directory that is listed, and one for
+//! each of its entries. With a limit it ends, whatever the pattern and the tree, even if links form a cycle. A
 //! directory is read to its end before its entries are charged:
 //!
 //! ```
@@ -20,8 +20,8 @@
 //! # Ok::<(), cadmiumdove::PatternError>(())
 //! ```
 //!
-//! A [`Tree`] is anything that is looked up and listed, as an archive. [`recipes`](crate::recipes) has one of a map of
-//! paths, and says what it is asked:
+//! A [`Tree`] is anything that can be looked up and listed, such as an archive. [`recipes`](crate::recipes) has one
+//! made of a map of paths, and says what it is asked:
 //!
 //! ```
 //! use cadmiumdove::walk::{glob_in, Entry, Look, Name, Tree};
@@ -51,7 +51,7 @@
 //! ```
 //!
 //! A [`WalkMachine`] has no tree: it asks, and whoever drives it answers, at once or later. So a walk over a network
-//! can wait for its answers. After what is no answer to its question, it asks again.
+//! can wait for its answers. After anything but an answer to its question, it asks again.
 //!
 //! ```
 //! use cadmiumdove::walk::{Entry, Look, Name, Step, WalkMachine};
@@ -76,7 +76,7 @@ pub use crate::proved::glob_tree::{Entry, Look, Name, Tree};
 pub use crate::proved::glob_walk::{is_plain, Answer, GlobCause, GlobError, GlobResult, Step, WalkMachine};
 
 impl GlobCause {
-    /// Why a path is an error of a walk: where a directory cannot be listed, `Read`.
+    /// Why a walk gave an error: `Read` if a directory could not be listed.
     ///
     /// ```
     /// use cadmiumdove::walk::{glob_in, Disk, GlobCause};
@@ -125,7 +125,7 @@ pub fn spent<T: Tree>(paths: &Paths<T>) -> u64 {
     paths.spent()
 }
 
-/// How many items a walk gave: at most one more than it [`spent`].
+/// How many items a walk has given, at most one more than it [`spent`].
 ///
 /// <details><summary>Contract</summary>
 ///
@@ -141,7 +141,7 @@ pub fn given<T: Tree>(paths: &Paths<T>) -> u128 {
     paths.given()
 }
 
-/// So a walk leaves the tree to its caller.
+/// With this a walk leaves the tree to its caller.
 ///
 /// ```
 /// use cadmiumdove::walk::{glob_in, Disk, Entry, Look, Tree};
@@ -179,7 +179,7 @@ impl<T: Tree + ?Sized> Tree for &mut T {
     }
 }
 
-/// A tree that is chosen as the program runs.
+/// A tree that is chosen at run time.
 ///
 /// ```
 /// use cadmiumdove::walk::{glob_in, Disk, Entry, Look, Tree};
