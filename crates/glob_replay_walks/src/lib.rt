@@ -7,6 +7,7 @@ pub mod disks;
 mod goals;
 pub mod mem_files;
 mod rows;
+mod searches;
 pub mod trees;
 mod walking;
 pub mod walks;
