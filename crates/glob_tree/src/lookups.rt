@@ -7,7 +7,7 @@ ghost use Rattle.glob_tree.specs.Followed.{AreKindsSaid, IsLookSaid};
 ghost use Rattle.glob_tree.specs.Looks.{is_directory};
 ghost use Rattle.glob_tree.specs.Private.Listing.{IsSaid, are_looked_up};
 ghost use Rattle.glob_tree.specs.Private.Looking.{HasWay, IsFoundAs, IsSeen, IsWay, LeadsOn};
-ghost use Rattle.glob_tree.specs.Strays.{Grows};
+ghost use Rattle.glob_tree.specs.Received.{IsLookReceived, ReceivesAtMost, ReceivesOnWay};
 ghost use Rattle.glob_tree.specs.declared.physical.Links.TheVariants.{Followed};
 ghost use Rattle.glob_tree.specs.declared.reading.Kinds.TheVariants.{LookedUp};
 
@@ -76,6 +76,9 @@ impl<R: System, S: Strays, A: Allocator + Copy> Lookups<R, S, A> {
         ensures followed { (f : FileSystem) → IsHeld self.old.files f → is_direct f path.now ≡ true
             → self.old.links ≡ Followed → IfOk result (λ seen.
             IsLookSaid f path.now seen (S.paths self.old.strays) (S.paths self.new.strays)) }
+        ensures names { S.names self.new.strays ≡ S.names self.old.strays }
+        ensures received { IfOk result (λ seen. IsLookReceived path.now seen
+            (S.paths self.old.strays) (S.paths self.new.strays)) }
     {
         if self.has_way(path)? {
             self.look_at(path)
@@ -95,6 +98,9 @@ impl<R: System, S: Strays, A: Allocator + Copy> Lookups<R, S, A> {
             → IfOk result (λ yes. yes ≡ false → HasWay f path.now false) }
         ensures settled { IfOk result (λ yes. yes ≡ true
             → S.paths self.new.strays ≡ S.paths self.old.strays) }
+        ensures names { S.names self.new.strays ≡ S.names self.old.strays }
+        ensures received { OnOk result
+            (ReceivesOnWay path.now (S.paths self.old.strays) (S.paths self.new.strays)) }
     {
         let Some((above, _)) = cut_last(path) else {
             return Ok(true);
@@ -121,6 +127,9 @@ impl<R: System, S: Strays, A: Allocator + Copy> Lookups<R, S, A> {
             → IfOk result (λ yes. yes ≡ false → LeadsOn f above.now false) }
         ensures settled { IfOk result (λ yes. yes ≡ true
             → S.paths self.new.strays ≡ S.paths self.old.strays) }
+        ensures names { S.names self.new.strays ≡ S.names self.old.strays }
+        ensures received { OnOk result
+            (ReceivesOnWay above.now (S.paths self.old.strays) (S.paths self.new.strays)) }
     {
         let mut directory = above;
         while !self.is_known(directory) {
@@ -158,7 +167,8 @@ impl<R: System, S: Strays, A: Allocator + Copy> Lookups<R, S, A> {
             IsLookSaid f path.now seen (S.paths self.old.strays) (S.paths self.new.strays)) }
         ensures settled { IfOk result (λ seen. is_directory seen ≡ true
             → S.paths self.new.strays ≡ S.paths self.old.strays) }
-        ensures grows { OnOk result (Grows (S.paths self.old.strays) (S.paths self.new.strays)) }
+        ensures received { OnOk result
+            (ReceivesAtMost path.now (S.paths self.old.strays) (S.paths self.new.strays)) }
     {
         match self.found(path)? {
             None => Ok(Look::Missing),
@@ -204,7 +214,8 @@ impl<R: System, S: Strays, A: Allocator + Copy> Lookups<R, S, A> {
             IsSaid f path.now yes (S.paths self.old.strays) (S.paths self.new.strays)) }
         ensures settled { IfOk result (λ yes. yes ≡ true
             → S.paths self.new.strays ≡ S.paths self.old.strays) }
-        ensures grows { OnOk result (Grows (S.paths self.old.strays) (S.paths self.new.strays)) }
+        ensures received { OnOk result
+            (ReceivesAtMost path.now (S.paths self.old.strays) (S.paths self.new.strays)) }
     {
         Ok(self.look_at(path)?.is_dir())
     }
@@ -218,7 +229,8 @@ impl<R: System, S: Strays, A: Allocator + Copy> Lookups<R, S, A> {
             → IfOk result (λ metadata. IsFoundAs (lstat_found f path.now) metadata) }
         ensures known { IfOk result (λ metadata. IsSome metadata
             → S.paths self.new.strays ≡ S.paths self.old.strays) }
-        ensures grows { OnOk result (Grows (S.paths self.old.strays) (S.paths self.new.strays)) }
+        ensures received { OnOk result
+            (ReceivesAtMost path.now (S.paths self.old.strays) (S.paths self.new.strays)) }
     {
         let answer = self.rt.lstat(path);
         settle(&mut self.strays, path, answer)

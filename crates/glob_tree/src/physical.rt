@@ -7,6 +7,7 @@ ghost use Rattle.glob_tree.specs.Disks.{content_with_links};
 ghost use Rattle.glob_tree.specs.FileSystems.{FileSystem, IsHeld, IsReceived, is_direct, strays_found};
 ghost use Rattle.glob_tree.specs.Followed.{AreKindsSaid, IsLookSaid};
 ghost use Rattle.glob_tree.specs.Private.Listing.{are_looked_up};
+ghost use Rattle.glob_tree.specs.Received.{IsLookReceived};
 ghost use Rattle.glob_tree.specs.declared.physical.Links.TheVariants.{Followed, Kept};
 ghost use Rattle.glob_tree.specs.declared.reading.Kinds.TheVariants.{LookedUp};
 
@@ -122,6 +123,9 @@ impl<R: System, S: Strays, A: Allocator + Copy> Tree for PhysicalDisk<R, S, A> {
         ensures followed { (f : FileSystem) → IsHeld self.old.files f → is_direct f path.now ≡ true
             → self.old.links ≡ Followed → IfOk result (λ seen.
             IsLookSaid f path.now seen (S.paths self.old.strays) (S.paths self.new.strays)) }
+        ensures names { S.names self.new.strays ≡ S.names self.old.strays }
+        ensures received { IfOk result (λ seen. IsLookReceived path.now seen
+            (S.paths self.old.strays) (S.paths self.new.strays)) }
     {
         self.asks = self.asks.after(1);
         self.lookups.look(path)
@@ -155,8 +159,8 @@ impl<R: System, S: Strays, A: Allocator + Copy> Tree for PhysicalDisk<R, S, A> {
     }
 
     /// The names of the entries. If links are kept, it looks none of them up, so it reports none as a directory; the
-    /// clauses promise only that what it reports as one is one. If links are followed, it is [`list`](Tree::list), since
-    /// only a lookup finds the links that the strays receive. The errors are those of a listing.
+    /// clauses promise only that what it reports as one is one. If links are followed, it is [`list`](Tree::list): only a
+    /// lookup finds the links that the strays receive. The errors are those of a listing.
     fn list_names(&mut self, path: &str) -> Result<Vec<Entry<A>, A>, ListError>
         ensures files { self.new.files ≡ self.old.files }
         ensures links { self.new.links ≡ self.old.links }
