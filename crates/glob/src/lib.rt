@@ -20,8 +20,9 @@
 //!
 //! [`glob`] walks the file system and gives each path that a pattern leads to; [`glob_with`] takes options. [`glob_in`]
 //! walks any [`Tree`] within a limit, item by item, and [`walk_in`] gathers a whole walk. [`MemTree`] is a tree in
-//! memory, and [`Disk`] the file system that a [`System`] reaches: the real one or, for tests, a [`MemSystem`]. A
-//! [`WalkMachine`] is a walk without a tree, whose questions any program answers.
+//! memory, and [`Disk`] the file system that a [`System`] reaches: the real one, the files of a runtime of your own
+//! ([`FilesSystem`]) or, for tests, a [`MemSystem`]. A [`WalkMachine`] is a walk without a tree, whose questions any
+//! program answers.
 //!
 //! A call that makes or grows something takes its allocator, and reports an allocation failure as an error.
 #![tactic(auto)]
@@ -38,8 +39,8 @@ pub use glob_pattern::{
     run_positions,
 };
 pub use glob_tree::{
-    Asks, Directory, Disk, Entry, ListError, Look, MemSystem, MemTree, Name, System, Tree,
-    TreeRefusal,
+    Asks, Directory, Disk, Entry, FilesSystem, ListError, Look, MemSystem, MemTree, Name, System,
+    Tree, TreeRefusal,
 };
 pub use glob_walk::{Answer, End, GlobCause, GlobError, GlobResult, Step, WalkMachine, is_plain};
 pub use paths::{Paths, glob_in};

@@ -8,5 +8,6 @@ pub mod Looks
 pub mod Memory
 pub mod Paths
 pub mod Private
+pub mod Received
 pub mod Strays
 pub mod Words

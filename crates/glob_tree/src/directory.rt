@@ -12,7 +12,7 @@ use std::alloc::{AllocError, Allocator};
 /// for a small directory a larger block would cost more than it saves in system calls.
 const BLOCK: usize = 4096;
 
-/// The size in bytes of all further reads.
+/// The size in bytes of all further reads. Their block is allocated, since the stack may be small.
 const LARGE_BLOCK: usize = 32768;
 
 /// Reads an opened directory to its end, and returns its bytes: its names, each followed by a NUL, such as
@@ -20,7 +20,7 @@ const LARGE_BLOCK: usize = 32768;
 ///
 /// The error is `Read` with the error of the read that failed, or `Memory` if an allocation failed, here or in the
 /// system. A failed read is never taken for the end: what was read before it is dropped.
-pub fn read_directory<D: Directory, A: Allocator>(
+pub fn read_directory<D: Directory, A: Allocator + Copy>(
     alloc: A,
     directory: &mut D,
 ) -> Result<Vec<u8, A>, ListError>
@@ -44,7 +44,7 @@ pub fn read_directory<D: Directory, A: Allocator>(
 }
 
 /// Appends all that is left of the directory.
-fn read_rest<D: Directory, A: Allocator>(
+fn read_rest<D: Directory, A: Allocator + Copy>(
     directory: &mut D,
     bytes: &mut Vec<u8, A>,
 ) -> Result<(), ListError>
@@ -56,9 +56,16 @@ fn read_rest<D: Directory, A: Allocator>(
     ensures fails { IsSome (D.left directory.old)
         → IfErr result (λ e. ReadToEndMayFail (D.fault directory.old) e) }
 {
-    let mut block = [0; LARGE_BLOCK];
-    while read_block(directory, &mut block, bytes)? > 0 {}
+    let mut block = zeros(*bytes.allocator(), LARGE_BLOCK)?;
+    while read_block(directory, block.as_mut_slice(), bytes)? > 0 {}
     Ok(())
+}
+
+/// A block of so many zeros.
+fn zeros<A: Allocator>(alloc: A, len: usize) -> Result<Vec<u8, A>, AllocError>
+    ensures { IfOk result (λ block. vec_len block ≡ len) }
+{
+    vec![in alloc; 0; len]
 }
 
 /// Appends what one read returns, and returns the number of bytes: 0 if the directory has ended.

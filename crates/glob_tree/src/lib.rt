@@ -30,5 +30,5 @@ pub use path_text::{begins_with_dot, child, join, stays};
 pub use physical::{Links, PhysicalDisk};
 pub use refusal::TreeRefusal;
 pub use strays::Strays;
-pub use system::{Directory, OpenDirectory, System};
+pub use system::{Directory, FilesDirectory, FilesSystem, OpenDirectory, System};
 pub use tree::{Entry, ListError, Look, Tree};

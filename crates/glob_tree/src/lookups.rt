@@ -1,14 +1,15 @@
 //! What the calls of a system say about paths and entries, with links kept or followed.
 ghost use Rattle.std.specs.Prelude.{if◌then◌else◌, ◌≡◌, ◌≢◌, [], true, false, None, IfOk, IfErr, IsSome, OnOk};
-ghost use Rattle.glob_tree.specs.Answers.{AreListedNames, IsListAnswer, IsListError, entries_of, names_of};
+ghost use Rattle.glob_tree.specs.Answers.{AreListedNames, IsEntriesAnswer, IsListError, entries_of, names_of};
 ghost use Rattle.glob_tree.specs.Content.{list_result, look_result};
 ghost use Rattle.glob_tree.specs.FileSystems.{FileSystem, IsHeld, IsReceived, is_direct, lstat_found, strays_found};
 ghost use Rattle.glob_tree.specs.Followed.{AreKindsSaid, IsLookSaid};
 ghost use Rattle.glob_tree.specs.Looks.{is_directory};
-ghost use Rattle.glob_tree.specs.Private.Listing.{IsSaid};
+ghost use Rattle.glob_tree.specs.Private.Listing.{IsSaid, are_looked_up};
 ghost use Rattle.glob_tree.specs.Private.Looking.{HasWay, IsFoundAs, IsSeen, IsWay, LeadsOn};
-ghost use Rattle.glob_tree.specs.Strays.{Grows};
+ghost use Rattle.glob_tree.specs.Received.{IsLookReceived, ReceivesAtMost, ReceivesOnWay};
 ghost use Rattle.glob_tree.specs.declared.physical.Links.TheVariants.{Followed};
+ghost use Rattle.glob_tree.specs.declared.reading.Kinds.TheVariants.{LookedUp};
 
 mod following;
 
@@ -59,6 +60,13 @@ impl<R: System, S: Strays, A: Allocator + Copy> Lookups<R, S, A> {
         }
     }
 
+    /// Whether links are kept or followed.
+    pub fn links(&self) -> Links
+        ensures { result ≡ self.now.links }
+    {
+        self.links
+    }
+
     /// What is at a path. Nothing is below a non-directory, so a path that goes on behind a kept link is missing.
     pub fn look(&mut self, path: &str) -> Result<Look, AllocError>
         ensures files { self.new.files ≡ self.old.files }
@@ -68,6 +76,9 @@ impl<R: System, S: Strays, A: Allocator + Copy> Lookups<R, S, A> {
         ensures followed { (f : FileSystem) → IsHeld self.old.files f → is_direct f path.now ≡ true
             → self.old.links ≡ Followed → IfOk result (λ seen.
             IsLookSaid f path.now seen (S.paths self.old.strays) (S.paths self.new.strays)) }
+        ensures names { S.names self.new.strays ≡ S.names self.old.strays }
+        ensures received { IfOk result (λ seen. IsLookReceived path.now seen
+            (S.paths self.old.strays) (S.paths self.new.strays)) }
     {
         if self.has_way(path)? {
             self.look_at(path)
@@ -87,6 +98,9 @@ impl<R: System, S: Strays, A: Allocator + Copy> Lookups<R, S, A> {
             → IfOk result (λ yes. yes ≡ false → HasWay f path.now false) }
         ensures settled { IfOk result (λ yes. yes ≡ true
             → S.paths self.new.strays ≡ S.paths self.old.strays) }
+        ensures names { S.names self.new.strays ≡ S.names self.old.strays }
+        ensures received { OnOk result
+            (ReceivesOnWay path.now (S.paths self.old.strays) (S.paths self.new.strays)) }
     {
         let Some((above, _)) = cut_last(path) else {
             return Ok(true);
@@ -113,6 +127,9 @@ impl<R: System, S: Strays, A: Allocator + Copy> Lookups<R, S, A> {
             → IfOk result (λ yes. yes ≡ false → LeadsOn f above.now false) }
         ensures settled { IfOk result (λ yes. yes ≡ true
             → S.paths self.new.strays ≡ S.paths self.old.strays) }
+        ensures names { S.names self.new.strays ≡ S.names self.old.strays }
+        ensures received { OnOk result
+            (ReceivesOnWay above.now (S.paths self.old.strays) (S.paths self.new.strays)) }
     {
         let mut directory = above;
         while !self.is_known(directory) {
@@ -150,7 +167,8 @@ impl<R: System, S: Strays, A: Allocator + Copy> Lookups<R, S, A> {
             IsLookSaid f path.now seen (S.paths self.old.strays) (S.paths self.new.strays)) }
         ensures settled { IfOk result (λ seen. is_directory seen ≡ true
             → S.paths self.new.strays ≡ S.paths self.old.strays) }
-        ensures grows { OnOk result (Grows (S.paths self.old.strays) (S.paths self.new.strays)) }
+        ensures received { OnOk result
+            (ReceivesAtMost path.now (S.paths self.old.strays) (S.paths self.new.strays)) }
     {
         match self.found(path)? {
             None => Ok(Look::Missing),
@@ -160,12 +178,14 @@ impl<R: System, S: Strays, A: Allocator + Copy> Lookups<R, S, A> {
     }
 
     /// The entries of the directory at a path.
-    pub fn list(&mut self, path: &str) -> Result<Vec<Entry<A>, A>, ListError>
+    pub fn list(&mut self, path: &str, kinds: Kinds) -> Result<Vec<Entry<A>, A>, ListError>
         ensures files { self.new.files ≡ self.old.files }
         ensures links { self.new.links ≡ self.old.links }
         ensures entries { (f : FileSystem) → IsSeen self.old.links self.old.files f → IfOk result
-            (λ v. IsListAnswer (list_result f.content path.now) (entries_of v.items)) }
+            (λ v. IsEntriesAnswer (are_looked_up kinds) (list_result f.content path.now)
+            (entries_of v.items)) }
         ensures followed { (f : FileSystem) → IsHeld self.old.files f → self.old.links ≡ Followed
+            → kinds ≡ LookedUp
             → IfOk result (λ v. AreKindsSaid f path.now (list_result f.content path.now)
             (entries_of v.items) (S.paths self.old.strays) (S.paths self.new.strays)) }
         ensures named { (f : FileSystem) → IsHeld self.old.files f → IfOk result (λ v.
@@ -177,7 +197,7 @@ impl<R: System, S: Strays, A: Allocator + Copy> Lookups<R, S, A> {
             → IfErr result (λ e. IsListError (list_result f.content path.now) e) }
     {
         let alloc = *self.way.allocator();
-        entries(self, alloc, path, Kinds::LookedUp)
+        entries(self, alloc, path, kinds)
     }
 
     /// Whether a directory is at a path. A link to one counts only if links are followed.
@@ -194,7 +214,8 @@ impl<R: System, S: Strays, A: Allocator + Copy> Lookups<R, S, A> {
             IsSaid f path.now yes (S.paths self.old.strays) (S.paths self.new.strays)) }
         ensures settled { IfOk result (λ yes. yes ≡ true
             → S.paths self.new.strays ≡ S.paths self.old.strays) }
-        ensures grows { OnOk result (Grows (S.paths self.old.strays) (S.paths self.new.strays)) }
+        ensures received { OnOk result
+            (ReceivesAtMost path.now (S.paths self.old.strays) (S.paths self.new.strays)) }
     {
         Ok(self.look_at(path)?.is_dir())
     }
@@ -208,7 +229,8 @@ impl<R: System, S: Strays, A: Allocator + Copy> Lookups<R, S, A> {
             → IfOk result (λ metadata. IsFoundAs (lstat_found f path.now) metadata) }
         ensures known { IfOk result (λ metadata. IsSome metadata
             → S.paths self.new.strays ≡ S.paths self.old.strays) }
-        ensures grows { OnOk result (Grows (S.paths self.old.strays) (S.paths self.new.strays)) }
+        ensures received { OnOk result
+            (ReceivesAtMost path.now (S.paths self.old.strays) (S.paths self.new.strays)) }
     {
         let answer = self.rt.lstat(path);
         settle(&mut self.strays, path, answer)

@@ -1,14 +1,19 @@
 //! The file system, where a symbolic link is not treated as a directory unless links are followed.
 ghost use Rattle.std.specs.Prelude.{◌≡◌, ◌+◌, true, IfOk, IfErr, OnOk, option_and_then};
-ghost use Rattle.glob_tree.specs.Answers.{IsListAnswer, IsListError, AreListedNames, IsTold, entries_of, entry_count, names_of};
+ghost use Rattle.glob_tree.specs.Answers.{IsEntriesAnswer, IsListAnswer, IsListError, IsNamesAnswer, AreListedNames, IsTold};
+ghost use Rattle.glob_tree.specs.Answers.{entries_of, entry_count, names_of};
 ghost use Rattle.glob_tree.specs.Content.{Content, list_result, look_result};
 ghost use Rattle.glob_tree.specs.Disks.{content_with_links};
 ghost use Rattle.glob_tree.specs.FileSystems.{FileSystem, IsHeld, IsReceived, is_direct, strays_found};
 ghost use Rattle.glob_tree.specs.Followed.{AreKindsSaid, IsLookSaid};
+ghost use Rattle.glob_tree.specs.Private.Listing.{are_looked_up};
+ghost use Rattle.glob_tree.specs.Received.{IsLookReceived};
 ghost use Rattle.glob_tree.specs.declared.physical.Links.TheVariants.{Followed, Kept};
+ghost use Rattle.glob_tree.specs.declared.reading.Kinds.TheVariants.{LookedUp};
 
 use crate::asks::Asks;
 use crate::lookups::Lookups;
+use crate::reading::Kinds;
 use crate::strays::Strays;
 use crate::system::System;
 use crate::tree::{Entry, ListError, Look, Tree};
@@ -46,9 +51,9 @@ pub enum Links {
 /// ```
 ///
 /// A look makes one system call, and one more for each directory above the path, except for those that are above the
-/// last such path as well. A listing makes one for each entry, besides those that open, read and close the directory.
-/// If links are followed, each link costs a second call, and a link to a directory at most one more for each of its
-/// ancestors. No clause counts system calls.
+/// last such path as well. A listing makes one for each entry (`list_names` makes none if links are kept), besides the
+/// calls that open, read and close the directory. If links are followed, each link costs a second call, and a link to a
+/// directory at most one more for each of its ancestors. No clause counts system calls.
 #[derive(Drop)]
 pub struct PhysicalDisk<R: System, S: Strays, A: Allocator = Global> {
     lookups: Lookups<R, S, A>,
@@ -118,6 +123,9 @@ impl<R: System, S: Strays, A: Allocator + Copy> Tree for PhysicalDisk<R, S, A> {
         ensures followed { (f : FileSystem) → IsHeld self.old.files f → is_direct f path.now ≡ true
             → self.old.links ≡ Followed → IfOk result (λ seen.
             IsLookSaid f path.now seen (S.paths self.old.strays) (S.paths self.new.strays)) }
+        ensures names { S.names self.new.strays ≡ S.names self.old.strays }
+        ensures received { IfOk result (λ seen. IsLookReceived path.now seen
+            (S.paths self.old.strays) (S.paths self.new.strays)) }
     {
         self.asks = self.asks.after(1);
         self.lookups.look(path)
@@ -147,8 +155,67 @@ impl<R: System, S: Strays, A: Allocator + Copy> Tree for PhysicalDisk<R, S, A> {
             → OnOk result (IsReceived (list_result f.content path.now) (strays_found f path.now)
             (S.names self.old.strays) (S.names self.new.strays)) }
     {
+        self.listing(path, Kinds::LookedUp)
+    }
+
+    /// The names of the entries. If links are kept, it looks none of them up, so it reports none as a directory; the
+    /// clauses promise only that what it reports as one is one. If links are followed, it is [`list`](Tree::list): only a
+    /// lookup finds the links that the strays receive. The errors are those of a listing.
+    fn list_names(&mut self, path: &str) -> Result<Vec<Entry<A>, A>, ListError>
+        ensures files { self.new.files ≡ self.old.files }
+        ensures links { self.new.links ≡ self.old.links }
+        ensures asks { self.new.asks ≡ self.old.asks + 1 + entry_count result }
+        ensures names { (c : Content)
+            → IsTold (option_and_then (content_with_links self.old.links) self.old.files) c
+            → IfOk result (λ v. IsNamesAnswer (list_result c path.now) (entries_of v.items)) }
+        ensures fails { (c : Content)
+            → IsTold (option_and_then (content_with_links self.old.links) self.old.files) c
+            → IfErr result (λ e. IsListError (list_result c path.now) e) }
+        ensures followed { (f : FileSystem) → IsHeld self.old.files f → self.old.links ≡ Followed
+            → IfOk result (λ v. AreKindsSaid f path.now (list_result f.content path.now)
+            (entries_of v.items) (S.paths self.old.strays) (S.paths self.new.strays)) }
+        ensures named { (f : FileSystem) → IsHeld self.old.files f → IfOk result
+            (λ v. AreListedNames (list_result f.content path.now) (names_of (entries_of v.items))) }
+        ensures unread { (f : FileSystem) → IsHeld self.old.files f
+            → IfErr result (λ e. IsListError (list_result f.content path.now) e) }
+        ensures strays { (f : FileSystem) → IsHeld self.old.files f
+            → OnOk result (IsReceived (list_result f.content path.now) (strays_found f path.now)
+            (S.names self.old.strays) (S.names self.new.strays)) }
+    {
+        match self.lookups.links() {
+            Links::Kept => self.listing(path, Kinds::LeftOut),
+            Links::Followed => self.list(path),
+        }
+    }
+}
+
+impl<R: System, S: Strays, A: Allocator + Copy> PhysicalDisk<R, S, A> {
+    /// Lists a directory, and counts what that asks.
+    fn listing(&mut self, path: &str, kinds: Kinds) -> Result<Vec<Entry<A>, A>, ListError>
+        ensures files { self.new.files ≡ self.old.files }
+        ensures links { self.new.links ≡ self.old.links }
+        ensures asks { self.new.asks ≡ self.old.asks + 1 + entry_count result }
+        ensures entries { (c : Content)
+            → IsTold (option_and_then (content_with_links self.old.links) self.old.files) c
+            → IfOk result (λ v. IsEntriesAnswer (are_looked_up kinds) (list_result c path.now)
+            (entries_of v.items)) }
+        ensures fails { (c : Content)
+            → IsTold (option_and_then (content_with_links self.old.links) self.old.files) c
+            → IfErr result (λ e. IsListError (list_result c path.now) e) }
+        ensures followed { (f : FileSystem) → IsHeld self.old.files f → self.old.links ≡ Followed
+            → kinds ≡ LookedUp
+            → IfOk result (λ v. AreKindsSaid f path.now (list_result f.content path.now)
+            (entries_of v.items) (S.paths self.old.strays) (S.paths self.new.strays)) }
+        ensures named { (f : FileSystem) → IsHeld self.old.files f → IfOk result
+            (λ v. AreListedNames (list_result f.content path.now) (names_of (entries_of v.items))) }
+        ensures unread { (f : FileSystem) → IsHeld self.old.files f
+            → IfErr result (λ e. IsListError (list_result f.content path.now) e) }
+        ensures strays { (f : FileSystem) → IsHeld self.old.files f
+            → OnOk result (IsReceived (list_result f.content path.now) (strays_found f path.now)
+            (S.names self.old.strays) (S.names self.new.strays)) }
+    {
         self.asks = self.asks.after(1);
-        let entries = self.lookups.list(path)?;
+        let entries = self.lookups.list(path, kinds)?;
         self.asks = self.asks.after(entries.len());
         Ok(entries)
     }

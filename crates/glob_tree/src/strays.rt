@@ -3,7 +3,8 @@ ghost use Rattle.std.specs.Prelude.{◌≡◌, ◌≢◌, ◌⊎◌, ℕ, List, 
 ghost use Rattle.std.specs.IoError.{error_kind};
 ghost use Rattle.glob_tree.specs.FileSystems.{Found, IsStatAnswer};
 ghost use Rattle.glob_tree.specs.Private.Looking.{IsFoundAs};
-ghost use Rattle.glob_tree.specs.Strays.{and_then, Grows};
+ghost use Rattle.glob_tree.specs.Received.{ReceivesAtMost};
+ghost use Rattle.glob_tree.specs.Strays.{and_then};
 
 use std::alloc::AllocError;
 use std::fs::Metadata;
@@ -58,7 +59,8 @@ pub(crate) fn settle<S: Strays>(
     ensures found { (found : Option Found) → IsStatAnswer found answer
         → IfOk result (λ metadata. IsFoundAs found metadata) }
     ensures names { S.names strays.new ≡ S.names strays.old }
-    ensures grows { OnOk result (Grows (S.paths strays.old) (S.paths strays.new)) }
+    ensures received { OnOk result
+        (ReceivesAtMost path.now (S.paths strays.old) (S.paths strays.new)) }
     ensures known { OnOk answer (S.paths strays.new ≡ S.paths strays.old) }
     ensures some { IfOk result (λ metadata. IsSome metadata
         → S.paths strays.new ≡ S.paths strays.old) }

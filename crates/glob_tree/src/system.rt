@@ -76,30 +76,79 @@ pub trait Directory: Drop {
         ensures fails { IfErr result (λ e. ReadMayFail (left self.old) (fault self.old) e) };
 }
 
-/// The real system. That its calls do what [`System`] says is believed, not proved.
+/// The system that any [`Files`] reaches, such as a runtime of your own, or the real one with an allocator. Contracts
+/// know nothing of what it holds.
+///
+/// ```text
+/// let disk = Disk::new(FilesSystem { files: rt }, alloc);    // a tree of the files that `rt` reaches
+/// walk_in(alloc, disk, "src/*.rs", options, u64::MAX)?
+/// ```
+#[derive(Clone, Copy, Drop)]
+pub struct FilesSystem<F: Files + Drop> {
+    /// What reaches the files.
+    pub files: F,
+}
+
+/// That these calls do what [`System`] says is believed, not proved.
+impl<F: Files + Drop> System for FilesSystem<F> {
+    type Dir = FilesDirectory<F>;
+
+    ghost holds = { λ _. None };
+
+    fn lstat(&self, path: &str) -> io::Result<Metadata> {
+        self.files.symlink_metadata(path)
+    }
+
+    fn stat(&self, path: &str) -> io::Result<Metadata> {
+        self.files.metadata(path)
+    }
+
+    fn open(&self, path: &str) -> io::Result<FilesDirectory<F>> {
+        let names = self.files.open_dir(path)?;
+        Ok(FilesDirectory { names })
+    }
+}
+
+/// A directory that a [`FilesSystem`] has opened.
+#[derive(Drop)]
+pub struct FilesDirectory<F: Files> {
+    names: F::Dir,
+}
+
+impl<F: Files> Directory for FilesDirectory<F> {
+    ghost left = { λ _. None };
+
+    ghost fault = { λ _. None };
+
+    fn read(&mut self, block: &mut [u8]) -> io::Result<usize> {
+        self.names.read(block)
+    }
+}
+
+/// The real system, as a [`FilesSystem`].
 impl System for HostRuntime {
     type Dir = OpenDirectory;
 
     ghost holds = { λ _. None };
 
     fn lstat(&self, path: &str) -> io::Result<Metadata> {
-        self.symlink_metadata(path)
+        FilesSystem { files: *self }.lstat(path)
     }
 
     fn stat(&self, path: &str) -> io::Result<Metadata> {
-        self.metadata(path)
+        FilesSystem { files: *self }.stat(path)
     }
 
     fn open(&self, path: &str) -> io::Result<OpenDirectory> {
-        let names = self.open_dir(path)?;
-        Ok(OpenDirectory { names })
+        let opened = FilesSystem { files: *self }.open(path)?;
+        Ok(OpenDirectory { opened })
     }
 }
 
 /// A directory that the real system has opened.
 #[derive(Drop)]
 pub struct OpenDirectory {
-    names: <HostRuntime as Files>::Dir,
+    opened: FilesDirectory<HostRuntime>,
 }
 
 impl Directory for OpenDirectory {
@@ -108,6 +157,6 @@ impl Directory for OpenDirectory {
     ghost fault = { λ _. None };
 
     fn read(&mut self, block: &mut [u8]) -> io::Result<usize> {
-        self.names.read(block)
+        self.opened.read(block)
     }
 }

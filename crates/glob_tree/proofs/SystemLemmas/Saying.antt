@@ -9,7 +9,7 @@ use Rattle.std.proofs.lemmas.List.Elements.{Contains-append_left, Contains-appen
 use Rattle.std.proofs.lemmas.List.Sorted.{IsPermutation-map}
 use Rattle.std.proofs.lemmas.Option.{same_Some}
 use Rattle.glob_text.specs.Text.{Text}
-use Rattle.glob_tree.specs.Answers.{AreListedNames, IsEntriesAnswer, IsListError, entries_of, names_of}
+use Rattle.glob_tree.specs.Answers.{AreDirectories, AreListedNames, IsEntriesAnswer, IsListAnswer, IsListError, entries_of, names_of}
 use Rattle.glob_tree.specs.Content.{DirEntry, ListAnswer, Entries, Fails, NoDirectory, is_content, list_result}
 use Rattle.glob_tree.specs.FileSystems.{FileSystem, IsReceived, stat_found, strays_found}
 use Rattle.glob_tree.specs.Followed.{AreKindsSaid, IsKindSaid, answer_followed, entry_followed, is_found_directory, list_followed}
@@ -114,6 +114,11 @@ names_kept : (f : FileSystem) (path : Text) (es : List DirEntry) → names_of es
 names_kept f path [] = refl
 names_kept f path (e ∷ es) = ap (λ l. e.0 ∷ l) (names_kept f path es)
 
+-- entries of which none is reported as a directory
+no_directories : (ls es : List DirEntry) → All (λ e. e.1 ≡ false) es → AreDirectories es ls
+no_directories ls es none =
+    λ e (k, lt, at) yes. absurd (both_ways e.1 (subst (λ (x : DirEntry). x.1 ≡ false) at (none k e lt)) yes)
+
 module _ (f : FileSystem) (path : Text) (kinds : Kinds) (es : List DirEntry)
     (said : kinds ≡ LookedUp → AreKindsSaid f path (list_result f.content path) es (Some []) (Some []))
     (none : kinds ≡ LeftOut → All (λ e. e.1 ≡ false) es) where
@@ -130,7 +135,7 @@ module _ (f : FileSystem) (path : Text) (kinds : Kinds) (es : List DirEntry)
       (IsPermutation-map (said_of f path) (names_of ls) (names_of es) named))
   by_kinds LeftOut is (Entries ls) from [] named received = (
     subst (λ l. IsPermutation l (names_of es)) (names_kept f path ls) named,
-    λ e (k, lt, at) yes. absurd (both_ways e.1 (subst (λ (x : DirEntry). x.1 ≡ false) at (none is k e lt)) yes),
+    no_directories (map (entry_followed f path) ls) es (none is),
   )
   by_kinds LookedUp is (Fails kind) from ss named received = absurd named
   by_kinds LeftOut is (Fails kind) from ss named received = absurd named
@@ -149,6 +154,22 @@ unfolding list_followed
 listed_exactly f path kinds (Err e) said none named received = tt
 listed_exactly f path kinds (Ok v) said none named received =
     by_kinds f path kinds (entries_of v.items) said none kinds refl (list_result f.content path) refl (strays_found f path) named received
+
+-- the entries of a disk whose content has every link
+pub listed_by_kinds : {A E : Type 0} (f : FileSystem) (path : Text) (kinds : Kinds) (r : Result (Vec (Entry A) A) E)
+    → (kinds ≡ LookedUp → IfOk r (λ v. IsListAnswer (list_result f.content path) (entries_of v.items)))
+    → (kinds ≡ LeftOut → IfOk r (λ v. All (λ e. e.1 ≡ false) (entries_of v.items)))
+    → IfOk r (λ v. AreListedNames (list_result f.content path) (names_of (entries_of v.items)))
+    → IfOk r (λ v. IsEntriesAnswer (are_looked_up kinds) (list_result f.content path) (entries_of v.items))
+listed_by_kinds f path kinds (Err e) listed none named = tt
+listed_by_kinds f path kinds (Ok v) listed none named = by_answer kinds refl (list_result f.content path) listed named
+  where
+    by_answer : (kinds' : Kinds) → kinds ≡ kinds' → (a : ListAnswer) → (kinds ≡ LookedUp → IsListAnswer a (entries_of v.items))
+        → AreListedNames a (names_of (entries_of v.items)) → IsEntriesAnswer (are_looked_up kinds') a (entries_of v.items)
+    by_answer LookedUp is a listed named = listed is
+    by_answer LeftOut is (Entries ls) listed named = (named, no_directories ls (entries_of v.items) (none is))
+    by_answer LeftOut is (Fails kind) listed named = absurd named
+    by_answer LeftOut is NoDirectory listed named = tt
 
 -- the errors of a disk that receives nothing, and of one that receives names
 pub exact_fault : {T : Type 0} (f : FileSystem) (path : Text) (r : Result T ListError)

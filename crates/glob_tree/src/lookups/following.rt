@@ -4,7 +4,8 @@ ghost use Rattle.std.specs.Fs.{file_type, IsSymlink};
 ghost use Rattle.glob_tree.specs.FileSystems.{FileSystem, IsHeld, is_direct, stat_found};
 ghost use Rattle.glob_tree.specs.Followed.{is_found_directory};
 ghost use Rattle.glob_tree.specs.Private.Looking.{IsFoundAs};
-ghost use Rattle.glob_tree.specs.Strays.{and_then, Grows};
+ghost use Rattle.glob_tree.specs.Received.{ReceivesAtMost};
+ghost use Rattle.glob_tree.specs.Strays.{and_then};
 ghost use Rattle.glob_tree.specs.declared.physical.Links.TheVariants.{Followed};
 
 use super::Lookups;
@@ -30,7 +31,8 @@ impl<R: System, S: Strays, A: Allocator + Copy> Lookups<R, S, A> {
             × (S.paths self.new.strays ≡ and_then (S.paths self.old.strays) (link.now ∷ [])))) }
         ensures settled { IfOk result (λ yes. yes ≡ true
             → S.paths self.new.strays ≡ S.paths self.old.strays) }
-        ensures grows { OnOk result (Grows (S.paths self.old.strays) (S.paths self.new.strays)) }
+        ensures received { OnOk result
+            (ReceivesAtMost link.now (S.paths self.old.strays) (S.paths self.new.strays)) }
     {
         let Some(target) = self.target(link)? else {
             return Ok(false);
@@ -94,7 +96,8 @@ impl<R: System, S: Strays, A: Allocator + Copy> Lookups<R, S, A> {
             → IfOk result (λ metadata. IsFoundAs (stat_found f link.now) metadata) }
         ensures known { IfOk result (λ metadata. IsSome metadata
             → S.paths self.new.strays ≡ S.paths self.old.strays) }
-        ensures grows { OnOk result (Grows (S.paths self.old.strays) (S.paths self.new.strays)) }
+        ensures received { OnOk result
+            (ReceivesAtMost link.now (S.paths self.old.strays) (S.paths self.new.strays)) }
     {
         let answer = self.rt.stat(link);
         settle(&mut self.strays, link, answer)

@@ -1,6 +1,7 @@
-use Rattle.std.proofs.Common.{rules, ◌≡◌, true, false, refl, subst}
+use Rattle.std.proofs.Common.{rules, ◌≡◌, true, false, inr, refl, subst}
 use Rattle.glob_tree.specs.FileSystems.{is_direct}
 use Rattle.glob_tree.specs.Private.Looking.{LeadsOn}
+use Rattle.glob_tree.proofs.ReceivedLemmas.{received_below}
 use Rattle.glob_tree.proofs.SystemLemmas.Looking.{way_of_one, way_below}
 use Rattle.glob_tree.proofs.SystemLemmas.Ways.{direct_above}
 use Rattle.glob_tree.proofs.lookups.Lookups.has_way.Goals as goal
@@ -32,3 +33,8 @@ returns-then-not-branch-clause-followed g c = λ f held direct links told.
     (subst (λ p. is_direct f p ≡ true) c.in-Some.ensures.0 direct) in
     way_below f held.1 c.args.path.now c.in-Some.above.now c.in-Some.field-0-1.now c.in-Some.ensures.0 c.in-Some.ensures.1 false
     (c.in_ok-leads.ensures.followed f held above links none)
+
+pub returns-then-not-branch-clause-received : goal.returns-then-not-branch-clause-received
+returns-then-not-branch-clause-received g c =
+    received_below c.in-Some.above.now c.args.path.now _ _ (inr (c.in-Some.field-0-1.now, c.in-Some.ensures.0))
+    c.in_ok-leads.ensures.received

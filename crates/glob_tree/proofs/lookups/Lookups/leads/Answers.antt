@@ -1,6 +1,7 @@
-use Rattle.std.proofs.Common.{rules, ◌≡◌, true, false, refl, sym, subst, ◌∙◌}
+use Rattle.std.proofs.Common.{rules, ◌≡◌, true, false, inr, refl, sym, subst, ◌∙◌}
 use Rattle.glob_tree.specs.FileSystems.{IsHeld, is_direct}
 use Rattle.glob_tree.specs.Private.Looking.{IsSeen}
+use Rattle.glob_tree.proofs.ReceivedLemmas.{above_trans, received_above}
 use Rattle.glob_tree.proofs.SystemLemmas.Looking.{none_said, step_way, last_way, step_none, no_way}
 use Rattle.glob_tree.proofs.SystemLemmas.Ways.{direct_above}
 use Rattle.glob_tree.proofs.lookups.Lookups.leads.Goals as goal
@@ -22,6 +23,11 @@ returns-then-not-branch-clause-followed g c = λ f held direct links told.
     (none_said f c.loop-directory.directory.now c.in_ok-is_dir.field-0 none _ _
     (c.in_ok-is_dir.ensures.followed f (subst (λ o. IsHeld o f) (sym kept.1) held) (kept.5 f held direct) (kept.2 ∙ links)))
 
+pub returns-then-not-branch-clause-received : goal.returns-then-not-branch-clause-received
+returns-then-not-branch-clause-received g c =
+    let kept = c.loop-directory.invariant in
+    received_above c.loop-directory.directory.now c.args.above.now _ _ _ kept.8 kept.6 c.in_ok-is_dir.ensures.received
+
 pub loop-directory-preserved : goal.loop-directory-preserved
 loop-directory-preserved g c =
     let kept = c.loop-directory.invariant in
@@ -40,6 +46,9 @@ loop-directory-preserved g c =
       λ f held direct. direct_above f held.1 c.in-Some.further.now c.in-Some.field-0-1.now
           (subst (λ p. is_direct f p ≡ true) c.in-Some.ensures.0 (kept.5 f held direct)),
       c.in_ok-is_dir.ensures.settled yes ∙ kept.6,
+      c.in_ok-is_dir.ensures.strays ∙ kept.7,
+      above_trans c.in-Some.further.now c.loop-directory.directory.now c.args.above.now
+          (inr (c.in-Some.field-0-1.now, c.in-Some.ensures.0)) kept.8,
     )
 
 pub returns-in_default-clause-leads : goal.returns-in_default-clause-leads

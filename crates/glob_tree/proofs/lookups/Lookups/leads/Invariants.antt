@@ -6,6 +6,7 @@ use Rattle.glob_tree.specs.Content.{look_result}
 use Rattle.glob_tree.specs.FileSystems.{FileSystem, IsHeld, is_direct}
 use Rattle.glob_tree.specs.Looks.{is_directory}
 use Rattle.glob_tree.specs.Private.Looking.{IsSeen, IsWay, LeadsOn}
+use Rattle.glob_tree.specs.Received.{IsAtOrAbove}
 use Rattle.glob_tree.proofs.lookups.Lookups.leads.Given as goal
 
 abbrev pub invariant-loop-directory : goal.invariant-loop-directory
@@ -15,6 +16,8 @@ invariant-loop-directory g l = shadow (Utf8 l.directory)
     × ((f : FileSystem) → l.directory ≢ [] → is_directory (look_result f.content l.directory) ≡ false → LeadsOn f l.above false)
     × ((f : FileSystem) → IsHeld l.initial.self.files f → is_direct f l.above ≡ true → is_direct f l.directory ≡ true)
     × (g.S.Strays.paths l.self.strays ≡ g.S.Strays.paths l.initial.self.strays)
+    × (g.S.Strays.names l.self.strays ≡ g.S.Strays.names l.initial.self.strays)
+    × IsAtOrAbove l.directory l.above
 
 abbrev pub decreases-loop-directory : goal.decreases-loop-directory
 decreases-loop-directory g l = length l.directory

@@ -1,5 +1,10 @@
-use Rattle.glob_tree.proofs.SystemLemmas.Saying.{received_fault}
+use Rattle.glob_tree.proofs.SystemLemmas.Saying.{listed_by_kinds, received_fault}
 use Rattle.glob_tree.proofs.lookups.Lookups.list.Goals as goal
+
+pub returns-clause-entries : goal.returns-clause-entries
+returns-clause-entries g c = λ f seen.
+    listed_by_kinds f c.args.path.now c.args.kinds c.entries.result (λ looked. c.entries.ensures.entries f seen looked)
+    c.entries.ensures.left_out (c.entries.ensures.named f seen.0)
 
 pub returns-clause-fails : goal.returns-clause-fails
 returns-clause-fails g c = λ f held. received_fault f c.args.path.now c.entries.result (c.entries.ensures.fails f held)

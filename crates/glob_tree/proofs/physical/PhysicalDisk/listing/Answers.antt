@@ -6,9 +6,10 @@ use Rattle.glob_tree.specs.Disks.{PhysicalModel, content_with_links}
 use Rattle.glob_tree.specs.FileSystems.{IsHeld}
 use Rattle.glob_tree.specs.Followed.{AreKindsSaid}
 use Rattle.glob_tree.specs.declared.physical.Links.TheVariants.{Followed}
+use Rattle.glob_tree.specs.declared.reading.Kinds.TheVariants.{LookedUp}
 use Rattle.glob_tree.proofs.MemoryLemmas.Refusing.{fails_by}
 use Rattle.glob_tree.proofs.SystemLemmas.Looking.{Sees-from_told}
-use Rattle.glob_tree.proofs.physical.PhysicalDiskTree.list.Goals as goal
+use Rattle.glob_tree.proofs.physical.PhysicalDisk.listing.Goals as goal
 
 pub returns-in_err-entries-clause-fails : goal.returns-in_err-entries-clause-fails
 returns-in_err-entries-clause-fails g c = λ x told.
@@ -26,7 +27,7 @@ returns-in_err-entries-clause-unread g c = λ f held.
 
 pub returns-clause-followed : goal.returns-clause-followed
 returns-clause-followed g c = λ f.
-    subst (λ (d : PhysicalModel _). IsHeld d.files f → d.links ≡ Followed
+    subst (λ (d : PhysicalModel _). IsHeld d.files f → d.links ≡ Followed → c.args.kinds ≡ LookedUp
     → AreKindsSaid f c.args.path.now (list_result f.content c.args.path.now) (entries_of c.in_ok-entries.entries.items)
     (g.S.Strays.paths d.strays) (g.S.Strays.paths c.list.new.self.strays)) c.self.view_is
-    (λ held links. c.in_ok-entries.ensures.followed f held links)
+    (λ held links looked. c.in_ok-entries.ensures.followed f held links looked)
