@@ -9,7 +9,7 @@ use Rattle.glob_text.specs.Pieces.{is_empty, begins_with}
 use Rattle.glob_tree.specs.Content.{Content, is_content, Key, is_dir, names_past, kind_at, resolve}
 use Rattle.glob_walk.specs.Components.{components, has_root, wants_directories, without_end_separator, is_literal, is_recursive, is_current_or_parent, matches_name, walk_fault}
 use Rattle.glob_pattern.specs.Computing.Deciding.{is_match}
-use Rattle.glob_pattern.specs.Matching.Components.{name_before, run_before, run_to_end}
+use Rattle.glob_pattern.specs.Matching.Components.{is_open}
 use Rattle.glob_walk.specs.Marks.{Item, Unread, paths}
 use Rattle.glob_pattern.specs.declared.options.MatchOptions.{MatchOptions}
 use Rattle.glob_tree.specs.declared.kind.Kind.{Kind}
@@ -72,15 +72,16 @@ abbrev pub walk_takes_name : MatchOptions → (after_recursive : Bool) → (comp
 walk_takes_name o after_recursive t n = if after_recursive || not (is_literal t) then matches_name o t n else bytes_eq t n
 
 -- The components take the names: `**` any number of those that the dot rule lets it take (at the end at least one), and
--- any other component one name.
+-- any other component one name. `takes_names` of `glob_pattern` is another statement: there each component takes what it
+-- matches, also a literal one case-insensitively. Case-sensitively the two agree.
 abbrev pub walk_takes : MatchOptions → (after_recursive : Bool) → (components names : List Text) → Bool
 walk_takes o after [] [] = true
 walk_takes o after [] (n ∷ ns) = false
-walk_takes o after (t ∷ []) names =
-    if is_recursive t then run_to_end o names else name_before (walk_takes_name o after t) (walk_takes o false []) names
-walk_takes o after (t ∷ u ∷ us) names =
-    if is_recursive t then run_before o (walk_takes o true (u ∷ us)) names
-    else name_before (walk_takes_name o after t) (walk_takes o false (u ∷ us)) names
+walk_takes o after (t ∷ ts) [] = false
+walk_takes o after (t ∷ ts) (n ∷ ns) =
+    if is_recursive t
+    then walk_takes o true ts (n ∷ ns) || (is_open o n && (walk_takes o after (t ∷ ts) ns || walk_takes o true ts ns))
+    else walk_takes_name o after t n && walk_takes o false ts ns
 
 -- the text of a key of this kind with these names after the start, if the components take them
 abbrev pub taken_text : MatchOptions → (pattern : Text) → Kind → Key → Option Text

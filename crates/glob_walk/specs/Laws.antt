@@ -1,17 +1,16 @@
 -- Laws of walks, as statements.
-use Rattle.std.specs.Prelude.{◌≡◌, ℕ, ◌+◌, ◌*◌, ◌≤◌, not, if◌then◌else◌, List, [], ◌∷◌, length, Some, IsTrue, ◌&&◌, Bool, IsPermutation, AllPairs}
+use Rattle.std.specs.Prelude.{◌≡◌, ℕ, ◌+◌, ◌*◌, ◌≤◌, false, not, if◌then◌else◌, List, [], ◌∷◌, length, Some, IsTrue, ◌&&◌, Bool, IsPermutation, AllPairs}
 use Rattle.std.specs.Str.{IsUtf8, is_utf8}
 use Rattle.std.specs.List.{list_all}
 use Rattle.glob_text.specs.Text.{Text}
 use Rattle.glob_tree.specs.Paths.{is_proper}
 use Rattle.glob_tree.specs.Content.{Content, Key, DirEntry, is_content, is_dir_at, is_before, resolve, sorted_entries}
-use Rattle.glob_walk.specs.Components.{begins_recursive, components, is_recursive, matches_name}
+use Rattle.glob_walk.specs.Components.{begins_recursive, components, is_recursive}
 use Rattle.glob_walk.specs.Marks.{Mark, Item, items, cost, paths, IsBeginning}
 use Rattle.glob_walk.specs.Listing.{descent, levels, listing}
-use Rattle.glob_walk.specs.Goal.{is_plain, matches_undivided, text_below, is_readable, goal, taken_goal, IsPlainWalk, IsSensitiveWalk, ReachesTexts, GivesTexts, ReachesGoal, GivesGoal}
+use Rattle.glob_walk.specs.Goal.{is_plain, matches_undivided, text_below, is_readable, goal, taken_goal, walk_takes, IsPlainWalk, IsSensitiveWalk, ReachesTexts, GivesTexts, ReachesGoal, GivesGoal}
 use Rattle.glob_walk.specs.Order.{IsOrderly}
 use Rattle.glob_pattern.specs.declared.options.MatchOptions.{MatchOptions}
-use Rattle.glob_pattern.specs.Matching.Components.{takes_names}
 
 -- names that the keys of a content may have
 abbrev pub are_names : List Text → Bool
@@ -23,7 +22,7 @@ abbrev pub PlainMatchesLevels : Type 0
 PlainMatchesLevels =
     (o : MatchOptions) (pattern : Text) → IsUtf8 pattern → IsTrue (is_plain pattern) → IsTrue o.case_sensitive
     → (n : Text) (ns : List Text) → IsTrue (are_names (n ∷ ns))
-    → matches_undivided o pattern (text_below pattern (n ∷ ns)) ≡ takes_names o (matches_name o) (components pattern) (n ∷ ns)
+    → matches_undivided o pattern (text_below pattern (n ∷ ns)) ≡ walk_takes o false (components pattern) (n ∷ ns)
 
 -- in a case-sensitive plain walk, each path in a prefix of the items is a goal, and all items together reach the goal
 abbrev pub SensitiveWalkReaches : Type 0

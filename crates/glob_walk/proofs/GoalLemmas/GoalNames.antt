@@ -17,7 +17,7 @@ use Rattle.glob_walk.specs.Goal.{start_key, text_below, matches_kind, taken_text
 use Rattle.glob_walk.specs.Laws.{are_names}
 use Rattle.glob_pattern.specs.declared.options.MatchOptions.{MatchOptions}
 use Rattle.glob_walk.proofs.GoalLemmas.KeysBelow.{names_at}
-use Rattle.glob_walk.proofs.GoalLemmas.TakenNames.{run-nil, takes-one_none}
+use Rattle.glob_walk.proofs.GoalLemmas.TakenNames.{takes-none}
 use Rattle.glob_walk.proofs.GoalLemmas.FoundIsTaken.{IsTakenAt}
 
 -- components take at least one name
@@ -30,9 +30,7 @@ takes_some o pattern h = no_names (components pattern) (omega (
   where
     no_names : (ts : List Text) → 0 < length ts → walk_takes o false ts [] ≡ true → ⊥
     no_names [] l g = omega arith
-    no_names (t ∷ ts) l g = ⊎_elim
-        (λ r. run-nil o false t ts r g)
-        (λ r. both_ways (walk_takes o false (t ∷ ts) []) (takes-one_none o false t ts r) g) (cases_Bool (is_recursive t))
+    no_names (t ∷ ts) l g = takes-none o false t ts g
 
 -- these are the names of a key below the start that the components take, and its kind is wanted
 abbrev pub IsTaken : Content → MatchOptions → (pattern : Text) → Key → Type 0
