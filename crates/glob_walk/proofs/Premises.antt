@@ -17,9 +17,9 @@ use Rattle.glob_pattern.specs.Matching.Options.{new_options, default_options}
 use Rattle.glob_pattern.specs.declared.options.MatchOptions.{MatchOptions}
 use Rattle.glob_walk.specs.Components.{components, walk_fault}
 use Rattle.glob_walk.specs.Goal.{goal, is_plain, is_readable, matches_undivided, text_below, walk_takes}
+use Rattle.glob_walk.specs.Goal.{has_one_recursive, keeps_order}
 use Rattle.glob_walk.specs.Listing.{listing, descent, enter, meet}
 use Rattle.glob_walk.specs.Marks.{Found, Unread, items, front, paths}
-use Rattle.glob_walk.specs.Order.{has_one_recursive, keeps_order}
 
 -- makes the definitions compute in the rows
 unfoldable computed : Unit {0}

@@ -14,9 +14,9 @@ use Rattle.glob_tree.proofs.ContentLemmas.Contents.{IsContent, IsContent-from_te
 use Rattle.glob_pattern.specs.declared.options.MatchOptions.{MatchOptions}
 use Rattle.glob_pattern.specs.Matching.Components.{is_open, name_before, run_before, run_to_end, takes_names}
 use Rattle.glob_walk.specs.Components.{components, is_literal, is_recursive, matches_name}
-use Rattle.glob_walk.specs.Goal.{is_plain, start_key, text_below, matches_undivided, matches_kind, goal_text, goal}
-use Rattle.glob_walk.specs.Goal.{taken_text, taken_goal, walk_takes, walk_takes_name, IsSensitiveWalk}
-use Rattle.glob_walk.specs.Laws.{are_names}
+use Rattle.glob_walk.specs.Goal.{is_plain, start_key, text_below, matches_undivided, matches_kind, wanted_text, goal}
+use Rattle.glob_walk.specs.Goal.{taken_goal, walk_takes, walk_takes_name}
+use Rattle.glob_walk.specs.Laws.{are_names, IsSensitiveWalk}
 use Rattle.glob_walk.proofs.GoalLemmas.Characters.{AllUtf8}
 use Rattle.glob_walk.proofs.GoalLemmas.KeysBelow.{names_at}
 use Rattle.glob_walk.proofs.GoalLemmas.LiteralComponents.{own_only, own_name}
@@ -98,7 +98,8 @@ module _ (o : MatchOptions) (case : o.case_sensitive ≡ true) where
       by_test (λ x ms all. takes_same x (u ∷ us) (and_parts (is_utf8 t) (list_all is_utf8 (u ∷ us)) utf8).1 ms all)
       (is_recursive t) refl names ok
     where
-      by_test : ((x : Bool) (ms : Key) → list_all is_utf8 ms ≡ true → walk_takes o x (u ∷ us) ms ≡ takes_names o (matches_name o) (u ∷ us) ms)
+      by_test : ((x : Bool) (ms : Key) → list_all is_utf8 ms ≡ true
+          → walk_takes o x (u ∷ us) ms ≡ takes_names o (matches_name o) (u ∷ us) ms)
           → (b : Bool) → is_recursive t ≡ b → (ms : Key) → list_all is_utf8 ms ≡ true
           → walk_takes o a (t ∷ u ∷ us) ms ≡ cond b (run_before o (takes_names o (matches_name o) (u ∷ us)) ms)
           (name_before (matches_name o t) (takes_names o (matches_name o) (u ∷ us)) ms)
@@ -122,6 +123,13 @@ plain_matches_levels o pattern utf8 plain case n ns h =
     undivided_takes o case pattern utf8 plain n ns names (flat-from (n ∷ ns) (AreNames-from (n ∷ ns) h))
     ∙ sym (takes_same o case false (components pattern) (all_utf8 (components pattern) (components-utf8 pattern utf8))
     (n ∷ ns) (all_utf8 (n ∷ ns) names))
+
+module _ (o : MatchOptions) (pattern : Text) where
+  abbrev taken_text : Kind → Key → Option Text
+  taken_text kind names = wanted_text pattern (walk_takes o false (components pattern)) kind names
+
+  abbrev goal_text : Kind → Key → Option Text
+  goal_text kind names = wanted_text pattern (λ ns. matches_undivided o pattern (text_below pattern ns)) kind names
 
 -- the goal, if the pattern is plain and the options are case-sensitive
 pub goal_is_taken : (c : Content) (o : MatchOptions) (pattern : Text) → IsSensitiveWalk c o pattern → taken_goal c o
