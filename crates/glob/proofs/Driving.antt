@@ -4,10 +4,9 @@ use Rattle.std.proofs.Common.{sym, subst, ◌∙◌, arith}
 use Rattle.std.proofs.lemmas.Bool.{both_ways}
 use Rattle.glob_tree.specs.Content.{Content}
 use Rattle.glob_tree.specs.Answers.{IsTold}
-use Rattle.glob_walk.specs.Listing.{listing_of}
 use Rattle.glob_walk.specs.Marks.{Mark, Item}
 use Rattle.glob_walk.specs.Questions.{question_units}
-use Rattle.glob_walk.specs.Machines.{MachineState, Progress, Saying, AsksLook, AsksList, Says, Ends, StepGoes, HasGiven}
+use Rattle.glob_walk.specs.Machines.{MachineState, Progress, Saying, AsksLook, AsksList, Says, Ends, StepGoes, HasGiven, listing_of}
 use Rattle.glob_walk.specs.Machines.{GivesNext, IsAskedAfter, IsCharged, is_last, item_number, step_units}
 use Rattle.glob_walk.specs.Iterating.{Walking, IsAsked, Goes}
 use Rattle.glob_walk.specs.Walks.{Gives, LimitAt, NoMemory}

@@ -11,11 +11,10 @@ use Rattle.glob_tree.specs.Answers.{IsTold}
 use Rattle.glob_tree.specs.Content.{Content}
 use Rattle.glob_pattern.specs.declared.options.MatchOptions.{MatchOptions}
 use Rattle.glob_walk.specs.declared.error.GlobError.{GlobError}
-use Rattle.glob_walk.specs.Goal.{goal, IsSensitiveWalk, ReachesGoal}
+use Rattle.glob_walk.specs.Goal.{goal, IsOrderly, Answers, item_of, given_items, ReachesTexts}
+use Rattle.glob_walk.specs.Laws.{IsSensitiveWalk}
 use Rattle.glob_walk.specs.Listing.{listing}
-use Rattle.glob_walk.specs.Order.{IsOrderly}
 use Rattle.glob_walk.specs.Marks.{Item, Found, Unread, Mark, items, cost, paths}
-use Rattle.glob_walk.specs.WalkGoals.{Answers, item_of, given_items}
 use Rattle.glob_walk.specs.Iterating.{Goes, Walking}
 use Rattle.glob_walk.specs.Machines.{Progress, Saying, Says, Ends, HasGiven, GivesNext, left_of, next_saying}
 use Rattle.glob_walk.specs.Walks.{Gives, LimitAt, NoMemory, outcome, AreItems}
@@ -67,7 +66,7 @@ none_unread (p ∷ found) path kind h =
 
 -- where no item is an error, what a walk finds of its goal is all of it
 pub goal-found : (c : Content) (o : MatchOptions) (pattern : Text) (given : List Item) (found : List Text) (IsWhole : Type 0)
-    → given ≡ found_items found → IsWhole → ReachesGoal c o pattern IsWhole given
+    → given ≡ found_items found → IsWhole → ReachesTexts c pattern (goal c o pattern) IsWhole given
     → (path : Text) → Contains found path ↔ Contains (goal c o pattern) path
 goal-found c o pattern given found IsWhole is whole reaches path =
     let same : paths given ≡ found = ap paths is ∙ paths-found found in (

@@ -43,16 +43,7 @@ module _ {A : Type 0} (ms : List Mark) (limit spent : ℕ) (answers : List (Resu
   IsWalk-lost item rest u = (
     given,
     are,
-    record {
-      done = u.done;
-      rest = rest;
-      lost = item ∷ [];
-      whole = u.whole;
-      units = u.units;
-      given =
-          sym u.same;
-      few = omega arith;
-    },
+    record { rest = rest; lost = item ∷ []; charged = u; few = omega arith },
   )
 
 -- a walk from its beginning on, of which only items were gathered

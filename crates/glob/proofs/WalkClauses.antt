@@ -6,10 +6,9 @@ use Rattle.glob_tree.specs.Content.{Content}
 use Rattle.glob_pattern.specs.declared.options.MatchOptions.{MatchOptions}
 use Rattle.glob_walk.specs.Marks.{Item, items, front, paths, IsBeginning}
 use Rattle.glob_walk.specs.Listing.{listing}
-use Rattle.glob_walk.specs.Goal.{is_readable, taken_goal, IsPlainWalk, IsSensitiveWalk, ReachesTexts, GivesTexts, ReachesGoal, GivesGoal}
-use Rattle.glob_walk.specs.Order.{IsOrderly}
+use Rattle.glob_walk.specs.Goal.{is_readable, goal, taken_goal, ReachesTexts, GivesTexts, IsOrderly, item_of, given_items}
+use Rattle.glob_walk.specs.Laws.{IsPlainWalk, IsSensitiveWalk}
 use Rattle.glob_walk.specs.Walks.{Gives, AreItems, IsWalk}
-use Rattle.glob_walk.specs.WalkGoals.{item_of, given_items}
 use Rattle.glob_walk.specs.declared.error.GlobError.{GlobError}
 use Rattle.glob_walk.specs.declared.ending.End.{End}
 use Rattle.glob_walk.specs.declared.ending.End.TheVariants.{Done, Limit, Memory}
@@ -47,12 +46,12 @@ module _ {A : Type 0} (c : Content) (o : MatchOptions) (pattern : Text) (limit s
   whole Memory walk e = absurd (cc)
 
   module _ (p : IsSensitiveWalk c o pattern) where
-    pub walk_reaches_goal : (end : End) → IsWalk (listing c o pattern) limit end spent answers → ReachesGoal c o
-        pattern (end ≡ Done) (given_items answers)
+    pub walk_reaches_goal : (end : End) → IsWalk (listing c o pattern) limit end spent answers
+        → ReachesTexts c pattern (goal c o pattern) (end ≡ Done) (given_items answers)
     walk_reaches_goal end walk = reaches_goal c o pattern p (given_items answers) (end ≡ Done) (begins end walk) (whole end walk)
 
     pub walk_gives_goal : (end : End) → IsWalk (listing c o pattern) limit end spent answers → is_readable c pattern ≡
-        true → end ≡ Done → GivesGoal c o pattern (given_items answers)
+        true → end ≡ Done → GivesTexts (goal c o pattern) (given_items answers)
     walk_gives_goal end walk readable e = gives_goal c o pattern p (given_items answers) readable (whole end walk e)
 
   pub walk_finds_taken : IsPlainWalk c pattern → (end : End) → IsWalk (listing c o pattern) limit end spent answers

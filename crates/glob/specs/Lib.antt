@@ -30,8 +30,5 @@ pub use Rattle.glob_walk.specs.Laws as WalkLaws
 pub use Rattle.glob_walk.specs.Listing
 pub use Rattle.glob_walk.specs.Machines
 pub use Rattle.glob_walk.specs.Marks
-pub use Rattle.glob_walk.specs.Order
 pub use Rattle.glob_walk.specs.Questions
-pub use Rattle.glob_walk.specs.WalkGoals
 pub use Rattle.glob_walk.specs.Walks
-pub use Rattle.glob_walk.specs.Words as WalkWords

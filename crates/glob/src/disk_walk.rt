@@ -2,9 +2,9 @@
 ghost use Rattle.std.specs.Prelude.{◌≡◌, ◌-◌, ◌^◌, None, IfOk, IfErr};
 ghost use Rattle.glob_pattern.specs.Matching.Options.{new_options};
 ghost use Rattle.glob_tree.specs.Content.{Content};
-ghost use Rattle.glob_walk.specs.Listing.{listing_of, listing};
+ghost use Rattle.glob_walk.specs.Listing.{listing};
 ghost use Rattle.glob_walk.specs.Components.{walk_fault};
-ghost use Rattle.glob_walk.specs.Machines.{IsFresh};
+ghost use Rattle.glob_walk.specs.Machines.{IsFresh, listing_of};
 ghost use Rattle.glob_walk.specs.Walks.{RefusesWith};
 
 use crate::paths::{Paths, glob_in};

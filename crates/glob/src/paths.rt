@@ -1,9 +1,9 @@
 //! A walk over a tree, item by item.
 ghost use Rattle.std.specs.Prelude.{◌≡◌, ◌≤◌, ◌+◌, [], None, IfOk, IfErr};
 ghost use Rattle.glob_tree.specs.Content.{Content};
-ghost use Rattle.glob_walk.specs.Listing.{listing_of, listing};
+ghost use Rattle.glob_walk.specs.Listing.{listing};
 ghost use Rattle.glob_walk.specs.Components.{walk_fault};
-ghost use Rattle.glob_walk.specs.Machines.{HasGiven, IsFresh};
+ghost use Rattle.glob_walk.specs.Machines.{HasGiven, IsFresh, listing_of};
 ghost use Rattle.glob_walk.specs.Walks.{RefusesWith};
 
 use glob_pattern::{MatchOptions, PatternRefusal};

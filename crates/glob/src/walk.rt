@@ -5,7 +5,7 @@ ghost use Rattle.glob_tree.specs.Answers.{IsTold};
 ghost use Rattle.glob_walk.specs.Components.{walk_fault};
 ghost use Rattle.glob_walk.specs.Listing.{listing};
 ghost use Rattle.glob.specs.Private.Walking.{EndsAs};
-ghost use Rattle.glob_walk.specs.WalkGoals.{FindsGoal, FindsExactly, FindsTaken};
+ghost use Rattle.glob_walk.specs.Goal.{FindsGoal, FindsExactly, FindsTaken};
 ghost use Rattle.glob_walk.specs.Iterating.{Walking};
 ghost use Rattle.glob_walk.specs.Machines.{IsFresh};
 ghost use Rattle.glob_walk.specs.Private.Walkers.{Walk as WalkOf};

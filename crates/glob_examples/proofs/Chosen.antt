@@ -3,7 +3,7 @@ use Rattle.std.proofs.Common.{◌≡◌, ◌≢◌, Less, ◌↔◌, Bool, true,
 use Rattle.std.proofs.lemmas.Bool.{false≢true}
 use Rattle.glob.specs.Content.{Content}
 use Rattle.glob.specs.Lines.{AreKept}
-use Rattle.glob.specs.Order.{path_cmp}
+use Rattle.glob.specs.Goal.{path_cmp}
 use Rattle.glob.specs.Text.{Text}
 use Rattle.glob.proofs.KeptTexts.{AreKept-exact, AreKept-AllPairs}
 use Rattle.glob_set.specs.Sets.{AnyMatch}

@@ -4,7 +4,7 @@ use Rattle.std.specs.declared.path.buf.PathBuf.{PathBuf}
 use Rattle.std.specs.IoError.{error_kind}
 use Rattle.glob.specs.Answers.{IsTold}
 use Rattle.glob.specs.Content.{Content}
-use Rattle.glob.specs.Goal.{is_plain}
+use Rattle.glob.specs.Goal.{is_plain, Answers}
 use Rattle.glob.specs.GlobErrors.{path_of, error_of, cause_of}
 use Rattle.glob.specs.Listing.{listing}
 use Rattle.glob.specs.Marks.{Item, items}
@@ -16,7 +16,6 @@ use Rattle.glob.specs.Variants.GlobCause as cause
 use Rattle.glob.specs.Iterating.{Goes, Walking}
 use Rattle.glob.specs.Machines.{Progress, HasGiven, IsFresh, Says, next_saying}
 use Rattle.glob.specs.Walks.{AreItems, Gives, error_outcome}
-use Rattle.glob.specs.WalkGoals.{Answers}
 use Rattle.glob.proofs.FoundPaths.{FindsSoFar, FindsSoFar-limit, FindsSoFar-unread, item-answered}
 use Rattle.glob_examples.specs.WalkFaults.{EndsAt, IsMet, IsPatternFault, IsWalkFault, fault_by_cause}
 use Rattle.glob_examples.specs.declared.faults.WalkFault.{WalkFault}

@@ -2,12 +2,11 @@
 use Rattle.std.specs.Prelude.{◌≡◌, ◌↔◌, List, ◌∷◌, ◌++◌, Contains}
 use Rattle.glob.specs.Characters.{slash}
 use Rattle.glob.specs.Content.{Content}
-use Rattle.glob.specs.Goal.{goal}
+use Rattle.glob.specs.Goal.{goal, IsOrderly}
 use Rattle.glob.specs.Lines.{AreKept}
 use Rattle.glob.specs.Listing.{listing}
 use Rattle.glob.specs.Marks.{items, paths}
 use Rattle.glob.specs.Matching.Options.{new_options}
-use Rattle.glob.specs.Order.{IsOrderly}
 use Rattle.glob.specs.Text.{Text}
 use Rattle.glob_set.specs.Sets.{Set, AnyMatch}
 

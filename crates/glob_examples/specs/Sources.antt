@@ -1,11 +1,10 @@
 -- The sources of a build.
 use Rattle.std.specs.Prelude.{◌≡◌, List, Contains, ◌↔◌}
 use Rattle.glob.specs.Content.{Content}
-use Rattle.glob.specs.Goal.{goal}
+use Rattle.glob.specs.Goal.{goal, IsOrderly}
 use Rattle.glob.specs.Listing.{listing}
 use Rattle.glob.specs.Marks.{items, paths}
 use Rattle.glob.specs.Matching.Options.{new_options}
-use Rattle.glob.specs.Order.{IsOrderly}
 use Rattle.glob.specs.Text.{Text}
 
 -- The files are exactly the paths that the undivided pattern matches, each once and in order, as far as its `**`

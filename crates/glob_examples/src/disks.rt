@@ -3,7 +3,7 @@ ghost use Rattle.std.specs.Prelude.{IfOk, Some, option_and_then};
 ghost use Rattle.glob_tree.specs.Disks.{content_with_links};
 ghost use Rattle.glob_tree.specs.Followed.{followed};
 ghost use Rattle.glob_tree.specs.declared.physical.Links.TheVariants.{Kept};
-ghost use Rattle.glob_walk.specs.WalkGoals.{FindsExactly, FindsTaken};
+ghost use Rattle.glob_walk.specs.Goal.{FindsExactly, FindsTaken};
 
 use glob::{Disk, MatchOptions, MemSystem, MemTree, PatternRefusal, System, Walk, walk_in};
 use glob_tree::{PhysicalDisk, Strays};

@@ -5,10 +5,9 @@ use Rattle.glob_text.specs.Text.{Text}
 use Rattle.glob_tree.specs.Content.{Content}
 use Rattle.glob_tree.specs.Answers.{IsTold}
 use Rattle.glob_pattern.specs.declared.options.MatchOptions.{MatchOptions}
-use Rattle.glob_walk.specs.Goal.{is_plain, is_readable, ReachesGoal, GivesGoal}
+use Rattle.glob_walk.specs.Goal.{is_plain, is_readable, IsOrderly, Answers, given_items, FindsGoal, FindsExactly}
+use Rattle.glob_walk.specs.Goal.{FindsTaken, goal, ReachesTexts, GivesTexts}
 use Rattle.glob_walk.specs.Marks.{Mark, Item, items, cost, front, paths, IsBeginning}
-use Rattle.glob_walk.specs.Order.{IsOrderly}
-use Rattle.glob_walk.specs.WalkGoals.{Answers, given_items, WalksSensitively, FindsGoal, FindsExactly, FindsTaken}
 use Rattle.glob_walk.specs.Walks.{AreItems, IsCutShort, HasNoRefusal, IsWalk, IsWalkAsked}
 use Rattle.glob_walk.specs.declared.error.GlobError.{GlobError}
 use Rattle.glob_walk.proofs.ListingLemmas.Marks.{IsBeginning-cut}
@@ -17,28 +16,16 @@ use Rattle.glob_walk.specs.declared.ending.End.TheVariants.{Done, Limit, Memory}
 -- What a machine has given at the start and at its end.
 pub use Rattle.glob_walk.proofs.WalkLemmas.Giving.{given_fresh, upto_end, upto_limit, upto_cut}
 
--- If the content is known, the pattern is plain, and the options are case-sensitive, it is a case-sensitive plain walk.
-pub walks_sensitively : (known : Option Content) (c : Content) (o : MatchOptions) (pattern : Text) → IsTold known c
-    → IsTrue (is_plain pattern) → IsTrue o.case_sensitive → WalksSensitively known c o pattern
-unfolding WalksSensitively
-walks_sensitively known c o pattern is plain case = (is, plain, case)
-
--- And only then.
-pub facts_of_sensitive_walk : (known : Option Content) (c : Content) (o : MatchOptions) (pattern : Text)
-    → WalksSensitively known c o pattern → IsTold known c × IsTrue (is_plain pattern) × IsTrue o.case_sensitive
-unfolding WalksSensitively
-facts_of_sensitive_walk known c o pattern plain = plain
-
 module _ {A : Type 0} (known : Option Content) (o : MatchOptions) (pattern : Text) (end : End) (answers : Answers A) where
   -- Each path is a goal, and if the walk is done, each goal is a path or is hidden.
-  pub found_goal : FindsGoal known o pattern end answers → (c : Content) → WalksSensitively known c o pattern
-      → ReachesGoal c o pattern (end ≡ Done) (given_items answers)
+  pub found_goal : FindsGoal known o pattern end answers → (c : Content) → IsTold known c → IsTrue (is_plain pattern)
+      → IsTrue o.case_sensitive → ReachesTexts c pattern (goal c o pattern) (end ≡ Done) (given_items answers)
   unfolding FindsGoal
   found_goal finds = finds
 
   -- Over a readable content, the paths are exactly the goal.
-  pub found_exactly : FindsExactly known o pattern end answers → (c : Content) → WalksSensitively known c o pattern
-      → IsTrue (is_readable c pattern) → end ≡ Done → GivesGoal c o pattern (given_items answers)
+  pub found_exactly : FindsExactly known o pattern end answers → (c : Content) → IsTold known c → IsTrue (is_plain pattern)
+      → IsTrue o.case_sensitive → IsTrue (is_readable c pattern) → end ≡ Done → GivesTexts (goal c o pattern) (given_items answers)
   unfolding FindsExactly
   found_exactly finds = finds
 

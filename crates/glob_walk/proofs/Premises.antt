@@ -13,14 +13,13 @@ use Rattle.glob_tree.specs.declared.kind.Kind.{Kind}
 use Rattle.glob_tree.specs.declared.kind.Kind.TheVariants.{Dir, Shut, Other}
 use Rattle.glob_pattern.specs.Computing.Deciding.{is_match, tokens_match}
 use Rattle.glob_pattern.specs.Computing.Reading.{units_from}
-use Rattle.glob_pattern.specs.Matching.Components.{takes_names}
 use Rattle.glob_pattern.specs.Matching.Options.{new_options, default_options}
 use Rattle.glob_pattern.specs.declared.options.MatchOptions.{MatchOptions}
-use Rattle.glob_walk.specs.Components.{components, matches_name, walk_fault}
-use Rattle.glob_walk.specs.Goal.{goal, is_plain, is_readable, matches_undivided, text_below}
+use Rattle.glob_walk.specs.Components.{components, walk_fault}
+use Rattle.glob_walk.specs.Goal.{goal, is_plain, is_readable, matches_undivided, text_below, walk_takes}
+use Rattle.glob_walk.specs.Goal.{has_one_recursive, keeps_order}
 use Rattle.glob_walk.specs.Listing.{listing, descent, enter, meet}
 use Rattle.glob_walk.specs.Marks.{Found, Unread, items, front, paths}
-use Rattle.glob_walk.specs.Order.{has_one_recursive, keeps_order}
 
 -- makes the definitions compute in the rows
 unfoldable computed : Unit {0}
@@ -148,7 +147,7 @@ content_counts = (refl, refl, refl)
 abbrev row : MatchOptions → String → List String → List Bool
 row o pattern names =
     matches_undivided o (codes pattern) (text_below (codes pattern) (map codes names))
-    ∷ takes_names o (matches_name o) (components (codes pattern)) (map codes names)
+    ∷ walk_takes o false (components (codes pattern)) (map codes names)
     ∷ is_plain (codes pattern) ∷ []
 
 -- the start is not a goal, though `**` matches the empty text
@@ -164,6 +163,6 @@ components_count = (refl, refl)
 -- without the separator rule, `*` takes a path of two names
 separators_count :
     (is_match new (codes "*") (codes "a/b") ≡ true)
-    × (takes_names new (is_match new) (codes "*" ∷ []) (codes "a" ∷ codes "b" ∷ []) ≡ false)
+    × (walk_takes new false (codes "*" ∷ []) (codes "a" ∷ codes "b" ∷ []) ≡ false)
 unfolding computed
 separators_count = (refl, refl)

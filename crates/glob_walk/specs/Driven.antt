@@ -1,8 +1,7 @@
 -- A walk that asks its caller, from its start.
 use Rattle.std.specs.Prelude.{ℕ, List, []}
 use Rattle.glob_tree.specs.Content.{Content}
-use Rattle.glob_walk.specs.Machines.{MachineState, Progress, IsFresh, HasGiven}
-use Rattle.glob_walk.specs.Listing.{listing_of}
+use Rattle.glob_walk.specs.Machines.{MachineState, Progress, IsFresh, HasGiven, listing_of}
 use Rattle.glob_walk.specs.Marks.{Mark, Item, items, IsBeginning}
 
 -- A new walk has given nothing of its listing, and what a walk has given is a prefix of the listing's items. So a

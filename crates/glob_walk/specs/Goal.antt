@@ -1,19 +1,30 @@
--- The goal of a walk: the texts of the keys below its start that the undivided pattern matches.
-use Rattle.std.specs.Prelude.{◌≡◌, ◌≢◌, Bool, true, false, ◌&&◌, ◌||◌, not, if◌then◌else◌, List, [], ◌∷◌, ◌++◌, filter_map, Contains, bytes_eq, Option, Some, None, is_none, option_and_then, ◌⊎◌, ◌↔◌, IsTrue}
-use Rattle.std.specs.List.{list_all, join_with_byte}
-use Rattle.std.specs.Str.{chars, IsUtf8}
+-- What the walk of a plain pattern finds: the goal, which are the texts of the keys below its start that the undivided
+-- pattern matches; those whose names its components take; and which paths come once and in order.
+use Rattle.std.specs.Prelude.{◌≡◌, ◌≢◌, Bool, true, false, ◌&&◌, ◌||◌, not, nat_le, if◌then◌else◌, List, [], ◌∷◌, ◌++◌, length, drop, map, filter, filter_map, Contains, AllPairs, bytes_eq, Option, Some, None, Result, is_none, option_and_then, ◌⊎◌, ◌↔◌, IsTrue}
+use Rattle.std.specs.List.{list_all, list_any, join_with_byte, prefix_len}
+use Rattle.std.specs.Cmp.Lexicographic.{slice_cmp}
+use Rattle.std.specs.Ordering.{nat_cmp}
+use Rattle.std.specs.Str.{chars}
+use Rattle.std.specs.declared.cmp.Ordering.{Ordering}
+use Rattle.std.specs.declared.cmp.Ordering.TheVariants.{Less}
 use Rattle.std.specs.declared.io.ErrorKind.{ErrorKind}
+use Rattle.std.specs.declared.path.buf.PathBuf.{PathBuf}
 use Rattle.glob_text.specs.Characters.{slash, dot}
 use Rattle.glob_text.specs.Text.{Text}
-use Rattle.glob_text.specs.Pieces.{is_empty, begins_with}
-use Rattle.glob_tree.specs.Content.{Content, is_content, Key, is_dir, names_past, kind_at, resolve}
+use Rattle.glob_text.specs.Pieces.{is_empty, begins_with, pieces}
+use Rattle.glob_tree.specs.Answers.{IsTold}
+use Rattle.glob_tree.specs.Content.{Content, Key, is_dir, names_past, kind_at, resolve}
 use Rattle.glob_walk.specs.Components.{components, has_root, wants_directories, without_end_separator, is_literal, is_recursive, is_current_or_parent, matches_name, walk_fault}
 use Rattle.glob_pattern.specs.Computing.Deciding.{is_match}
-use Rattle.glob_pattern.specs.Matching.Components.{name_before, run_before, run_to_end}
+use Rattle.glob_pattern.specs.Matching.Components.{is_open}
 use Rattle.glob_walk.specs.Marks.{Item, Unread, paths}
+use Rattle.glob_walk.specs.Walks.{Outcome, Gives, LimitAt, NoMemory, outcome}
 use Rattle.glob_pattern.specs.declared.options.MatchOptions.{MatchOptions}
 use Rattle.glob_tree.specs.declared.kind.Kind.{Kind}
 use Rattle.glob_tree.specs.declared.kind.Kind.TheVariants.{Dir, Shut, Other}
+use Rattle.glob_walk.specs.declared.error.GlobError.{GlobError}
+use Rattle.glob_walk.specs.declared.ending.End.{End}
+use Rattle.glob_walk.specs.declared.ending.End.TheVariants.{Done}
 
 -- The component is not empty, `.` or `..`; and if it has a wildcard and begins with a dot, it is right after `**`.
 abbrev pub is_plain_component : (after_recursive : Bool) → Text → Bool
@@ -37,13 +48,12 @@ start_key c pattern = if has_root pattern then [] else c.current
 abbrev pub text_below : (pattern : Text) → Key → Text
 text_below pattern names = if has_root pattern then slash ∷ join_with_byte slash names else join_with_byte slash names
 
--- case-sensitive, with the separator rule, and with the walk's dot rule
-abbrev pub goal_options : MatchOptions → MatchOptions
-goal_options o = record o { case_sensitive = true; require_literal_separator = true }
-
--- the whole pattern, without a separator at its end, matches the text
+-- The whole pattern, without a separator at its end, matches the text: case-sensitively, with the separator rule, and
+-- with the walk's dot rule.
 abbrev pub matches_undivided : MatchOptions → (pattern text : Text) → Bool
-matches_undivided o pattern text = is_match (goal_options o) (chars (without_end_separator pattern)) (chars text)
+matches_undivided o pattern text =
+    is_match (record o { case_sensitive = true; require_literal_separator = true })
+    (chars (without_end_separator pattern)) (chars text)
 
 abbrev pub ends_recursive : List Text → Bool
 ends_recursive [] = false
@@ -54,17 +64,20 @@ ends_recursive (t ∷ u ∷ us) = ends_recursive (u ∷ us)
 abbrev pub matches_kind : (pattern : Text) → Kind → Bool
 matches_kind pattern kind = is_dir kind || not (wants_directories pattern || ends_recursive (components pattern))
 
--- the text of a key of this kind with these names after the start, if the pattern matches it
-abbrev pub goal_text : MatchOptions → (pattern : Text) → Kind → Key → Option Text
-goal_text o pattern kind [] = None
-goal_text o pattern kind (n ∷ ns) =
-    if matches_kind pattern kind && matches_undivided o pattern (text_below pattern (n ∷ ns))
-    then Some (text_below pattern (n ∷ ns)) else None
+-- the text of a key of this kind with these names after the start, if they are wanted
+abbrev pub wanted_text : (pattern : Text) → (is_wanted : List Text → Bool) → Kind → Key → Option Text
+wanted_text pattern is_wanted kind [] = None
+wanted_text pattern is_wanted kind (n ∷ ns) =
+    if matches_kind pattern kind && is_wanted (n ∷ ns) then Some (text_below pattern (n ∷ ns)) else None
 
--- the texts that a walk has to find, in any order
+-- the texts of the keys below the start whose names are wanted, in any order
+abbrev pub wanted_texts : Content → (pattern : Text) → (is_wanted : List Text → Bool) → List Text
+wanted_texts c pattern is_wanted =
+    filter_map (λ e. option_and_then (wanted_text pattern is_wanted e.1) (names_past (start_key c pattern) e.0)) c.kinds
+
+-- those that the undivided pattern matches
 unfoldable pub goal : Content → MatchOptions → (pattern : Text) → List Text
-goal c o pattern =
-    filter_map (λ e. option_and_then (goal_text o pattern e.1) (names_past (start_key c pattern) e.0)) c.kinds
+goal c o pattern = wanted_texts c pattern (λ names. matches_undivided o pattern (text_below pattern names))
 
 -- A component takes a name: a literal one only the name equal to it, unless it is right after `**`; any other, each
 -- name that it matches.
@@ -72,27 +85,20 @@ abbrev pub walk_takes_name : MatchOptions → (after_recursive : Bool) → (comp
 walk_takes_name o after_recursive t n = if after_recursive || not (is_literal t) then matches_name o t n else bytes_eq t n
 
 -- The components take the names: `**` any number of those that the dot rule lets it take (at the end at least one), and
--- any other component one name.
+-- any other component one name. `takes_names` of `glob_pattern` is another statement: there each component takes what
+-- it matches, a literal one too. Case-sensitively the two agree.
 abbrev pub walk_takes : MatchOptions → (after_recursive : Bool) → (components names : List Text) → Bool
 walk_takes o after [] [] = true
 walk_takes o after [] (n ∷ ns) = false
-walk_takes o after (t ∷ []) names =
-    if is_recursive t then run_to_end o names else name_before (walk_takes_name o after t) (walk_takes o false []) names
-walk_takes o after (t ∷ u ∷ us) names =
-    if is_recursive t then run_before o (walk_takes o true (u ∷ us)) names
-    else name_before (walk_takes_name o after t) (walk_takes o false (u ∷ us)) names
+walk_takes o after (t ∷ ts) [] = false
+walk_takes o after (t ∷ ts) (n ∷ ns) =
+    if is_recursive t
+    then walk_takes o true ts (n ∷ ns) || (is_open o n && (walk_takes o after (t ∷ ts) ns || walk_takes o true ts ns))
+    else walk_takes_name o after t n && walk_takes o false ts ns
 
--- the text of a key of this kind with these names after the start, if the components take them
-abbrev pub taken_text : MatchOptions → (pattern : Text) → Kind → Key → Option Text
-taken_text o pattern kind [] = None
-taken_text o pattern kind (n ∷ ns) =
-    if matches_kind pattern kind && walk_takes o false (components pattern) (n ∷ ns)
-    then Some (text_below pattern (n ∷ ns)) else None
-
--- The texts that a walk has to find, case-sensitively or not, in any order. Case-sensitively they are the goal.
+-- Those whose names the components take, case-sensitively or not. Case-sensitively they are the goal.
 unfoldable pub taken_goal : Content → MatchOptions → (pattern : Text) → List Text
-taken_goal c o pattern =
-    filter_map (λ e. option_and_then (taken_text o pattern e.1) (names_past (start_key c pattern) e.0)) c.kinds
+taken_goal c o pattern = wanted_texts c pattern (walk_takes o false (components pattern))
 
 abbrev pub is_shut : Kind → Bool
 is_shut Dir = false
@@ -102,17 +108,6 @@ is_shut Other = false
 -- neither the start nor a key below it is a directory that cannot be listed
 unfoldable pub is_readable : Content → (pattern : Text) → Bool
 is_readable c pattern = list_all (λ e. not (is_shut e.1) || is_none (names_past (start_key c pattern) e.0)) c.kinds
-
--- a plain walk: of a plain pattern over a content
-pub record IsPlainWalk (c : Content) (pattern : Text) : Type 0 where
-  pub content : IsTrue (is_content c)
-  pub text : IsUtf8 pattern
-  pub plain : IsTrue (is_plain pattern)
-
--- a case-sensitive plain walk
-pub record IsSensitiveWalk (c : Content) (o : MatchOptions) (pattern : Text) : Type 0 where
-  pub plain : IsPlainWalk c pattern
-  pub case : IsTrue o.case_sensitive
 
 -- the text is that of a key below a directory that cannot be listed, which an error item reports
 pub record IsHidden (c : Content) (pattern : Text) (given : List Item) (text : Text) : Type 0 where
@@ -139,8 +134,66 @@ pub record GivesTexts (wanted : List Text) (given : List Item) : Type 0 where
   pub readable : (path : Text) (kind : ErrorKind) → ¬ (Contains given (Unread path kind))
   pub exact : (text : Text) → Contains (paths given) text ↔ Contains wanted text
 
-abbrev pub ReachesGoal : Content → MatchOptions → (pattern : Text) → (IsWhole : Type 0) → List Item → Type 0
-ReachesGoal c o pattern IsWhole given = ReachesTexts c pattern (goal c o pattern) IsWhole given
+-- the components from the first `**` on
+abbrev pub from_first_recursive : List Text → List Text
+from_first_recursive ts = drop (prefix_len (λ t. not (is_recursive t)) ts) ts
 
-abbrev pub GivesGoal : Content → MatchOptions → (pattern : Text) → List Item → Type 0
-GivesGoal c o pattern given = GivesTexts (goal c o pattern) given
+-- the components after the first `**` and the `**` right after it
+abbrev pub after_first_recursive : List Text → List Text
+after_first_recursive ts = drop (prefix_len is_recursive (from_first_recursive ts)) (from_first_recursive ts)
+
+-- the pattern has `**` in at most one place; `**/**` is one place
+abbrev pub has_one_recursive : (pattern : Text) → Bool
+has_one_recursive pattern = not (list_any is_recursive (after_first_recursive (components pattern)))
+
+-- the pattern has no `**`, or has it in one place with at most one component after it
+abbrev pub keeps_order : (pattern : Text) → Bool
+keeps_order pattern = has_one_recursive pattern && nat_le (length (after_first_recursive (components pattern))) 1
+
+abbrev pub names_of : (path : Text) → List Text
+names_of path = filter (λ piece. not (is_empty piece)) (pieces path)
+
+-- name by name in byte order; a list of names is before one that extends it
+abbrev pub path_cmp : Text → Text → Ordering
+path_cmp path other = slice_cmp (slice_cmp nat_cmp) (names_of path) (names_of other)
+
+-- each path once if `**` is in at most one place, and in order if at most one component follows it
+pub record IsOrderly (pattern : Text) (paths : List Text) : Type 0 where
+  pub once : has_one_recursive pattern ≡ true → AllPairs (λ path later. path ≢ later) paths
+  pub ascending : keeps_order pattern ≡ true → AllPairs (λ path later. path_cmp path later ≡ Less) paths
+
+-- what `walk_in` appends to `items`
+abbrev pub Answers : (A : Type 0) → Type 0
+Answers A = List (Result (PathBuf A) (GlobError A))
+
+abbrev pub item_of : Outcome → Option Item
+item_of (Gives item) = Some item
+item_of (LimitAt path) = None
+item_of NoMemory = None
+
+-- the items in the answers
+abbrev pub given_items : {A : Type 0} → Answers A → List Item
+given_items answers = filter_map item_of (map outcome answers)
+
+-- Case-sensitively, each path is a goal, and if the walk is done, each goal is a path or is hidden. `known` is the
+-- tree's content, if that is known.
+unfoldable pub FindsGoal : {A : Type 0} → (known : Option Content) → MatchOptions → (pattern : Text) → End → Answers A → Type 0
+FindsGoal known o pattern end answers =
+    (c : Content) → IsTold known c → IsTrue (is_plain pattern) → IsTrue o.case_sensitive
+    → ReachesTexts c pattern (goal c o pattern) (end ≡ Done) (given_items answers)
+
+-- Case-sensitively, if a walk over a readable content is done, no item is an error, and the paths are just the goal.
+unfoldable pub FindsExactly : {A : Type 0} → (known : Option Content) → MatchOptions → (pattern : Text) → End → Answers A → Type 0
+FindsExactly known o pattern end answers =
+    (c : Content) → IsTold known c → IsTrue (is_plain pattern) → IsTrue o.case_sensitive
+    → IsTrue (is_readable c pattern) → end ≡ Done → GivesTexts (goal c o pattern) (given_items answers)
+
+-- Case-sensitively or not, the components take the names of each path, and the paths come once and in order as far as
+-- the places of `**` allow. If the walk is done, each key whose names they take is a path or is hidden, and over a
+-- readable content these are exactly the paths.
+unfoldable pub FindsTaken : {A : Type 0} → (known : Option Content) → MatchOptions → (pattern : Text) → End → Answers A → Type 0
+FindsTaken known o pattern end answers =
+    (c : Content) → IsTold known c → IsTrue (is_plain pattern)
+    → ReachesTexts c pattern (taken_goal c o pattern) (end ≡ Done) (given_items answers)
+    × (IsTrue (is_readable c pattern) → end ≡ Done → GivesTexts (taken_goal c o pattern) (given_items answers))
+    × IsOrderly pattern (paths (given_items answers))

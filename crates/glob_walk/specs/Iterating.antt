@@ -2,8 +2,7 @@
 use Rattle.std.specs.Prelude.{◌≡◌, ℕ, ◌+◌, ◌≤◌, true, false, List, Option}
 use Rattle.glob_tree.specs.Content.{Content}
 use Rattle.glob_tree.specs.Answers.{IsTold}
-use Rattle.glob_walk.specs.Listing.{listing_of}
-use Rattle.glob_walk.specs.Machines.{MachineState, Progress, Saying, Says, Counts, HasGiven, GivesNext}
+use Rattle.glob_walk.specs.Machines.{MachineState, Progress, Saying, Says, Counts, HasGiven, GivesNext, listing_of}
 use Rattle.glob_walk.specs.Marks.{Mark, Item}
 use Rattle.glob_walk.specs.Walks.{LimitAt}
 

@@ -1,17 +1,26 @@
 -- Laws of walks, as statements.
-use Rattle.std.specs.Prelude.{◌≡◌, ℕ, ◌+◌, ◌*◌, ◌≤◌, not, if◌then◌else◌, List, [], ◌∷◌, length, Some, IsTrue, ◌&&◌, Bool, IsPermutation, AllPairs}
+use Rattle.std.specs.Prelude.{◌≡◌, ℕ, ◌+◌, ◌*◌, ◌≤◌, false, not, if◌then◌else◌, List, [], ◌∷◌, length, Some, IsTrue, ◌&&◌, Bool, IsPermutation, AllPairs}
 use Rattle.std.specs.Str.{IsUtf8, is_utf8}
 use Rattle.std.specs.List.{list_all}
 use Rattle.glob_text.specs.Text.{Text}
 use Rattle.glob_tree.specs.Paths.{is_proper}
 use Rattle.glob_tree.specs.Content.{Content, Key, DirEntry, is_content, is_dir_at, is_before, resolve, sorted_entries}
-use Rattle.glob_walk.specs.Components.{begins_recursive, components, is_recursive, matches_name}
+use Rattle.glob_walk.specs.Components.{begins_recursive, components, is_recursive}
 use Rattle.glob_walk.specs.Marks.{Mark, Item, items, cost, paths, IsBeginning}
 use Rattle.glob_walk.specs.Listing.{descent, levels, listing}
-use Rattle.glob_walk.specs.Goal.{is_plain, matches_undivided, text_below, is_readable, goal, taken_goal, IsPlainWalk, IsSensitiveWalk, ReachesTexts, GivesTexts, ReachesGoal, GivesGoal}
-use Rattle.glob_walk.specs.Order.{IsOrderly}
+use Rattle.glob_walk.specs.Goal.{is_plain, matches_undivided, text_below, is_readable, goal, taken_goal, walk_takes, ReachesTexts, GivesTexts, IsOrderly}
 use Rattle.glob_pattern.specs.declared.options.MatchOptions.{MatchOptions}
-use Rattle.glob_pattern.specs.Matching.Components.{takes_names}
+
+-- a plain walk: of a plain pattern over a content
+pub record IsPlainWalk (c : Content) (pattern : Text) : Type 0 where
+  pub content : IsTrue (is_content c)
+  pub text : IsUtf8 pattern
+  pub plain : IsTrue (is_plain pattern)
+
+-- a case-sensitive plain walk
+pub record IsSensitiveWalk (c : Content) (o : MatchOptions) (pattern : Text) : Type 0 where
+  pub plain : IsPlainWalk c pattern
+  pub case : IsTrue o.case_sensitive
 
 -- names that the keys of a content may have
 abbrev pub are_names : List Text → Bool
@@ -23,20 +32,20 @@ abbrev pub PlainMatchesLevels : Type 0
 PlainMatchesLevels =
     (o : MatchOptions) (pattern : Text) → IsUtf8 pattern → IsTrue (is_plain pattern) → IsTrue o.case_sensitive
     → (n : Text) (ns : List Text) → IsTrue (are_names (n ∷ ns))
-    → matches_undivided o pattern (text_below pattern (n ∷ ns)) ≡ takes_names o (matches_name o) (components pattern) (n ∷ ns)
+    → matches_undivided o pattern (text_below pattern (n ∷ ns)) ≡ walk_takes o false (components pattern) (n ∷ ns)
 
 -- in a case-sensitive plain walk, each path in a prefix of the items is a goal, and all items together reach the goal
 abbrev pub SensitiveWalkReaches : Type 0
 SensitiveWalkReaches =
     (c : Content) (o : MatchOptions) (pattern : Text) → IsSensitiveWalk c o pattern
     → (given : List Item) → IsBeginning given (items (listing c o pattern))
-    → ReachesGoal c o pattern (given ≡ items (listing c o pattern)) given
+    → ReachesTexts c pattern (goal c o pattern) (given ≡ items (listing c o pattern)) given
 
 -- over a readable content, the items of a case-sensitive plain walk are exactly the goal
 abbrev pub SensitiveWalkGives : Type 0
 SensitiveWalkGives =
     (c : Content) (o : MatchOptions) (pattern : Text) → IsSensitiveWalk c o pattern → IsTrue (is_readable c pattern)
-    → GivesGoal c o pattern (items (listing c o pattern))
+    → GivesTexts (goal c o pattern) (items (listing c o pattern))
 
 -- case-sensitively or not, the same holds for the keys whose names the components take
 abbrev pub TakenWalkReaches : Type 0

@@ -9,9 +9,6 @@ pub mod Laws
 pub mod Listing
 pub mod Machines
 pub mod Marks
-pub mod Order
 pub mod Private
 pub mod Questions
-pub mod WalkGoals
 pub mod Walks
-pub mod Words

@@ -72,13 +72,9 @@ descent c o each (suc n) path =
     list_directory c path [] (λ name d.
     each (child path name) name d ++ (if is_entered o name d then descent c o each n (child path name) else []))
 
--- the number of names in the longest key
-abbrev pub deepest : Content → ℕ
-deepest c = fold (λ n e. max n (length e.0)) 0 c.kinds
-
--- one level more than that, so a descent meets each key below it
+-- one level more than the longest key has names, so a descent meets each key below it
 abbrev pub levels : Content → ℕ
-levels c = suc (deepest c)
+levels c = suc (fold (λ n e. max n (length e.0)) 0 c.kinds)
 
 module _ (c : Content) (o : MatchOptions) (directories : Bool) where
   unfoldable mutual
@@ -99,21 +95,11 @@ module _ (c : Content) (o : MatchOptions) (directories : Bool) where
     meet [] path name d = if is_entered o name d then Give (Found path) ∷ [] else []
     meet (t ∷ ts) path name d = match_at o (enter ts) t path name d
 
--- what a walk looks for; it never changes
-pub record Aim : Type 0 where
-  pub options : MatchOptions
-  -- it starts at the root, and not in the current directory
-  pub rooted : Bool
-  pub components : List Text
-  -- only directories are given
-  pub directories : Bool
-
--- the whole written listing of a walk that looks for this, over a content
-abbrev pub listing_of : Content → Aim → List Mark
-listing_of c aim = look_up c (λ seen. true) (enter c aim.options aim.directories aim.components)
-    (if aim.rooted then root_dir else cur_dir)
+-- the written listing of these components, from the root or from the current directory
+abbrev pub listing_from : Content → MatchOptions → (rooted directories : Bool) → (components : List Text) → List Mark
+listing_from c o rooted directories ts =
+    look_up c (λ seen. true) (enter c o directories ts) (if rooted then root_dir else cur_dir)
 
 -- the written listing of a pattern
 unfoldable pub listing : Content → MatchOptions → (pattern : Text) → List Mark
-listing c o pattern = listing_of c
-    (record { options = o; rooted = has_root pattern; components = components pattern; directories = wants_directories pattern })
+listing c o pattern = listing_from c o (has_root pattern) (wants_directories pattern) (components pattern)

@@ -4,9 +4,10 @@ use Rattle.std.specs.IoError.{error_kind}
 use Rattle.std.specs.declared.path.buf.PathBuf.{PathBuf}
 use Rattle.glob_text.specs.Text.{Text}
 use Rattle.glob_tree.specs.Content.{Content}
+use Rattle.glob_pattern.specs.declared.options.MatchOptions.{MatchOptions}
 use Rattle.glob_tree.specs.declared.tree.ListError.{ListError}
 use Rattle.glob_tree.specs.declared.tree.ListError.TheVariants.{Read, Memory}
-use Rattle.glob_walk.specs.Listing.{Aim, listing_of}
+use Rattle.glob_walk.specs.Listing.{listing_from}
 use Rattle.glob_walk.specs.Marks.{Mark, Item, Work, Unread, IsUpTo}
 use Rattle.glob_walk.specs.Questions.{Question, IsLook, IsListWith, question_path}
 use Rattle.glob_walk.specs.Walks.{Outcome, Gives, LimitAt, NoMemory, outcome, refusal_end}
@@ -21,6 +22,19 @@ pub record Progress : Type 1 where
   pub State : Type 0
   pub left : Content → State → List Mark
   pub Agrees : Content → State → Type 0
+
+-- what a walk looks for; it never changes
+pub record Aim : Type 0 where
+  pub options : MatchOptions
+  -- it starts at the root, and not in the current directory
+  pub rooted : Bool
+  pub components : List Text
+  -- only directories are given
+  pub directories : Bool
+
+-- the written listing of a walk that looks for this, over a content
+abbrev pub listing_of : Content → Aim → List Mark
+listing_of c aim = listing_from c aim.options aim.rooted aim.directories aim.components
 
 -- what contracts see of a walk that asks its caller
 pub record MachineState (P : Progress) : Type 0 where

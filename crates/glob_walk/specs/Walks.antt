@@ -7,8 +7,7 @@ use Rattle.glob_text.specs.Text.{Text}
 use Rattle.glob_pattern.specs.Grammar.Faults.{Fault}
 use Rattle.glob_pattern.specs.declared.error.PatternRefusal.{PatternRefusal}
 use Rattle.glob_pattern.specs.declared.error.PatternRefusal.TheVariants as refusal
-use Rattle.glob_walk.specs.GlobErrors.{path_of, error_of, cause_of}
-use Rattle.glob_walk.specs.Marks.{Mark, Item, Found, Unread, items, cost, front}
+use Rattle.glob_walk.specs.Marks.{Mark, Item, Found, Unread, IsUpTo, items, cost, front}
 use Rattle.glob_walk.specs.declared.error.GlobCause.{GlobCause}
 use Rattle.glob_walk.specs.declared.error.GlobCause.TheVariants as cause
 use Rattle.glob_walk.specs.declared.error.GlobError.{GlobError}
@@ -27,13 +26,13 @@ pub data Outcome : Type 0 where
   NoMemory : Outcome
 
 abbrev pub error_outcome : {A : Type 0} → GlobCause → GlobError A → Outcome
-error_outcome cause.Read e = Gives (Unread (path_of e) (error_kind (error_of e)))
+error_outcome cause.Read e = Gives (Unread (path_buf_bytes e.path) (error_kind e.error))
 error_outcome cause.Memory e = NoMemory
-error_outcome cause.Limit e = LimitAt (path_of e)
+error_outcome cause.Limit e = LimitAt (path_buf_bytes e.path)
 
 abbrev pub outcome : {A : Type 0} → Result (PathBuf A) (GlobError A) → Outcome
 outcome (Ok path) = Gives (Found (path_buf_bytes path))
-outcome (Err e) = error_outcome (cause_of e) e
+outcome (Err e) = error_outcome e.cause e
 
 -- how a walk ends with this answer, if it does
 abbrev pub refusal_end : Outcome → Option End
@@ -51,12 +50,9 @@ HasNoRefusal answers = (is : List Item) × AreItems answers is
 
 -- What was charged is a prefix of the listing, and its items are these; one more at the end may have been lost.
 pub record IsCutShort (listing : List Mark) (spent : ℕ) (is : List Item) : Type 0 where
-  pub done : List Mark
   pub rest : List Mark
   pub lost : List Item
-  pub whole : listing ≡ done ++ rest
-  pub units : spent ≡ cost done
-  pub given : items done ≡ is ++ lost
+  pub charged : IsUpTo listing spent (is ++ lost) rest
   pub few : length lost ≤ 1
 
 -- A whole walk within a limit, over a tree with a known content and this listing: all of it, with its cost; or the

@@ -125,7 +125,7 @@ impl<A: Allocator> From<GlobError<A>> for io::Error {
 /// The path, and why it could not be read. If the cause is `Read`, the text ends with what the I/O error prints, and
 /// nothing is promised for any of it.
 impl<A: Allocator> fmt::Display for GlobError<A> {
-    ghost use Rattle.glob_walk.specs.Words.{glob_error_words};
+    ghost use Rattle.glob_walk.specs.GlobErrors.{glob_error_words};
 
     ghost output = { glob_error_words };
 

@@ -3,8 +3,8 @@ ghost use Rattle.std.specs.Prelude.{◌≡◌, ◌≤◌, ◌+◌, ℕ, List, []
 ghost use Rattle.std.specs.Path.{root_dir, cur_dir};
 ghost use Rattle.glob_tree.specs.Answers.{IsTold, entry_count};
 ghost use Rattle.glob_tree.specs.Content.{Content};
-ghost use Rattle.glob_walk.specs.Listing.{listing_of, listing};
-ghost use Rattle.glob_walk.specs.Machines.{IsAskedAfter, IsFresh, Says, StepGoes, list_error_outcome, left_of, saying};
+ghost use Rattle.glob_walk.specs.Listing.{listing};
+ghost use Rattle.glob_walk.specs.Machines.{IsAskedAfter, IsFresh, Says, StepGoes, list_error_outcome, left_of, saying, listing_of};
 ghost use Rattle.glob_walk.specs.Components.{walk_fault};
 ghost use Rattle.glob_walk.specs.Walks.{NoMemory, RefusesWith};
 ghost use Rattle.glob_walk.specs.Private.Stacks.{aim_of};
@@ -78,8 +78,7 @@ pub struct WalkMachine<A: Allocator = Global> {
 }
 
 impl<A: Allocator> Model for WalkMachine<A> {
-    ghost use Rattle.glob_walk.specs.Listing.{listing_of};
-    ghost use Rattle.glob_walk.specs.Machines.{MachineState};
+    ghost use Rattle.glob_walk.specs.Machines.{MachineState, listing_of};
     ghost use Rattle.glob_walk.specs.Private.Walkers.{IsGood, Walk};
     ghost use Rattle.glob_walk.specs.Private.Stacks.{aim_of};
     ghost use Rattle.glob_walk.specs.Private.Queries.{question_of};

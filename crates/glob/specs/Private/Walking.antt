@@ -3,13 +3,12 @@ use Rattle.std.specs.Prelude.{◌≡◌, ℕ, ◌+◌, ◌≤◌, false, List, [
 use Rattle.std.specs.declared.path.buf.PathBuf.{PathBuf}
 use Rattle.glob_tree.specs.Content.{Content}
 use Rattle.glob_tree.specs.Answers.{IsTold}
-use Rattle.glob_walk.specs.Listing.{listing_of}
 use Rattle.glob_walk.specs.Marks.{Mark, Item}
 use Rattle.glob_walk.specs.Iterating.{Walking}
 use Rattle.glob_walk.specs.Walks.{HasNoRefusal, IsWalk, IsWalkAsked}
 use Rattle.glob_walk.specs.declared.error.GlobError.{GlobError}
 use Rattle.glob_walk.specs.declared.ending.End.{End}
-use Rattle.glob_walk.specs.Machines.{MachineState, Progress, HasGiven}
+use Rattle.glob_walk.specs.Machines.{MachineState, Progress, HasGiven, listing_of}
 
 -- What is true of a walk over a tree between two items: no question is open, and over the tree's content some items of the
 -- written listing were given.

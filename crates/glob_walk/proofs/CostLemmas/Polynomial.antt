@@ -19,8 +19,8 @@ use Rattle.glob_tree.proofs.ContentLemmas.Directories.{is_dir_at-kind, is_direct
 use Rattle.glob_tree.proofs.ContentLemmas.Sorting.{Contains-sorted_entries}
 use Rattle.glob_walk.specs.Components.{Literal, Recursive, Wild, component_kind, ComponentKind, begins_recursive}
 use Rattle.glob_walk.specs.Components.{is_recursive, components, matches_name, start, wants_directories}
-use Rattle.glob_walk.specs.Goal.{are_plain, is_plain, is_plain_component, start_key, IsPlainWalk}
-use Rattle.glob_walk.specs.Laws.{cost_per_key}
+use Rattle.glob_walk.specs.Goal.{are_plain, is_plain, is_plain_component, start_key}
+use Rattle.glob_walk.specs.Laws.{cost_per_key, IsPlainWalk}
 use Rattle.glob_walk.specs.Listing.{Next, after_listing, by_name, descent, enter, is_entered, levels, list_directory}
 use Rattle.glob_walk.specs.Listing.{listing, match_at, meet}
 use Rattle.glob_walk.specs.Marks.{Mark, Work, Give, Found, Unread, cost}

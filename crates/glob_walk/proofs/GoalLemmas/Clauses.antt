@@ -8,9 +8,8 @@ use Rattle.glob_tree.specs.Content.{Content}
 use Rattle.glob_tree.specs.Answers.{IsTold}
 use Rattle.glob_walk.specs.Marks.{Item, items, front, paths, IsBeginning}
 use Rattle.glob_walk.specs.Listing.{listing}
-use Rattle.glob_walk.specs.Goal.{is_plain, is_readable, taken_goal, IsPlainWalk, IsSensitiveWalk, ReachesTexts}
-use Rattle.glob_walk.specs.Goal.{GivesTexts, ReachesGoal, GivesGoal}
-use Rattle.glob_walk.specs.Order.{IsOrderly}
+use Rattle.glob_walk.specs.Goal.{is_plain, is_readable, taken_goal, ReachesTexts, GivesTexts, IsOrderly, goal}
+use Rattle.glob_walk.specs.Laws.{IsPlainWalk, IsSensitiveWalk}
 use Rattle.glob_pattern.specs.declared.options.MatchOptions.{MatchOptions}
 use Rattle.glob_walk.proofs.ListingLemmas.Marks.{IsBeginning-front}
 use Rattle.glob_walk.proofs.GoalLemmas.ReachedGoals.{taken_walk_reaches, taken_walk_gives, plain_walk_reaches, plain_walk_gives}
@@ -42,12 +41,12 @@ IsBeginning-within c o pattern limit given within =
 module _ (c : Content) (o : MatchOptions) (pattern : Text) (p : IsSensitiveWalk c o pattern) (given : List Item) where
   -- each path is a goal; and if all items were given, each goal is a path or is hidden
   pub reaches_goal : (IsDone : Type 0) → IsBeginning given (items (listing c o pattern)) → (IsDone → given ≡ items
-      (listing c o pattern)) → ReachesGoal c o pattern IsDone given
+      (listing c o pattern)) → ReachesTexts c pattern (goal c o pattern) IsDone given
   reaches_goal IsDone begins done = plain_walk_reaches c o pattern p given begins IsDone done
 
   -- over a readable content, if all items were given, no item is an error, and the paths are exactly the goal
-  pub gives_goal : is_readable c pattern ≡ true → given ≡ items (listing c o pattern) → GivesGoal c o pattern given
-  gives_goal readable whole = subst (GivesGoal c o pattern) (sym whole) (plain_walk_gives c o pattern p readable)
+  pub gives_goal : is_readable c pattern ≡ true → given ≡ items (listing c o pattern) → GivesTexts (goal c o pattern) given
+  gives_goal readable whole = subst (GivesTexts (goal c o pattern)) (sym whole) (plain_walk_gives c o pattern p readable)
 
 -- the same for the keys whose names the components take, case-sensitively or not
 module _ (c : Content) (o : MatchOptions) (pattern : Text) (p : IsPlainWalk c pattern) (given : List Item) where

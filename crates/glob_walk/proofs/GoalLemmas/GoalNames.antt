@@ -13,11 +13,11 @@ use Rattle.glob_tree.proofs.ContentLemmas.Membership.{Contains-filter_map, filte
 use Rattle.glob_tree.proofs.ContentLemmas.Contents.{IsContent, IsContent-from_test, contains_kind_at, kind_at-entry}
 use Rattle.glob_tree.proofs.ContentLemmas.Contents.{names_past-append, names_past_is}
 use Rattle.glob_walk.specs.Components.{without_root, without_end_separator, components, wants_directories, is_recursive}
-use Rattle.glob_walk.specs.Goal.{start_key, text_below, matches_kind, taken_text, taken_goal, walk_takes, IsPlainWalk}
-use Rattle.glob_walk.specs.Laws.{are_names}
+use Rattle.glob_walk.specs.Goal.{start_key, text_below, matches_kind, wanted_text, taken_goal, walk_takes}
+use Rattle.glob_walk.specs.Laws.{are_names, IsPlainWalk}
 use Rattle.glob_pattern.specs.declared.options.MatchOptions.{MatchOptions}
 use Rattle.glob_walk.proofs.GoalLemmas.KeysBelow.{names_at}
-use Rattle.glob_walk.proofs.GoalLemmas.TakenNames.{run-nil, takes-one_none}
+use Rattle.glob_walk.proofs.GoalLemmas.TakenNames.{takes-none}
 use Rattle.glob_walk.proofs.GoalLemmas.FoundIsTaken.{IsTakenAt}
 
 -- components take at least one name
@@ -30,9 +30,7 @@ takes_some o pattern h = no_names (components pattern) (omega (
   where
     no_names : (ts : List Text) → 0 < length ts → walk_takes o false ts [] ≡ true → ⊥
     no_names [] l g = omega arith
-    no_names (t ∷ ts) l g = ⊎_elim
-        (λ r. run-nil o false t ts r g)
-        (λ r. both_ways (walk_takes o false (t ∷ ts) []) (takes-one_none o false t ts r) g) (cases_Bool (is_recursive t))
+    no_names (t ∷ ts) l g = takes-none o false t ts g
 
 -- these are the names of a key below the start that the components take, and its kind is wanted
 abbrev pub IsTaken : Content → MatchOptions → (pattern : Text) → Key → Type 0
@@ -50,6 +48,9 @@ module _ (c : Content) (o : MatchOptions) (pattern : Text) (p : IsPlainWalk c pa
   w : IsContent c
   w = IsContent-from_test c p.content
 
+  abbrev taken : List Text → Bool
+  taken names = walk_takes o false (components pattern) names
+
   -- the test for a goal
   is_wanted : Kind → Text → Key → Bool
   is_wanted kind n ns = matches_kind pattern kind && walk_takes o false (components pattern) (n ∷ ns)
@@ -58,14 +59,14 @@ module _ (c : Content) (o : MatchOptions) (pattern : Text) (p : IsPlainWalk c pa
   unfolding taken_goal is_wanted
   goal_of_taken n ns is =
       let test : is_wanted is.kind n ns ≡ true = and_from (matches_kind pattern is.kind) _ is.allowed is.taken in
-      filter_map-contains (λ e. option_and_then (taken_text o pattern e.1) (names_past (start_key c pattern) e.0))
+      filter_map-contains (λ e. option_and_then (wanted_text pattern taken e.1) (names_past (start_key c pattern) e.0))
       c.kinds (start_key c pattern ++ n ∷ ns, is.kind) (text_below pattern (n ∷ ns))
       (contains_kind_at c (start_key c pattern ++ n ∷ ns) is.kind is.held)
-      (ap (option_and_then (taken_text o pattern is.kind)) (names_past-append (start_key c pattern) (n ∷ ns))
+      (ap (option_and_then (wanted_text pattern taken is.kind)) (names_past-append (start_key c pattern) (n ∷ ns))
       ∙ cond-true (is_wanted is.kind n ns) (Some (text_below pattern (n ∷ ns))) None test)
 
   taken_text_is : (kind : Kind) (names : Key) (text : Text) → kind_at c (start_key c pattern ++ names) ≡ Some kind
-      → taken_text o pattern kind names ≡ Some text → IsGoal c o pattern text
+      → wanted_text pattern taken kind names ≡ Some text → IsGoal c o pattern text
   unfolding is_wanted
   taken_text_is kind [] text held h = absurd (none-some text h)
   taken_text_is kind (n ∷ ns) text held h = by_test (is_wanted kind n ns) refl h
@@ -86,8 +87,8 @@ module _ (c : Content) (o : MatchOptions) (pattern : Text) (p : IsPlainWalk c pa
   pub taken_of_goal : (text : Text) → Contains (taken_goal c o pattern) text → IsGoal c o pattern text
   unfolding taken_goal
   taken_of_goal text h =
-      let (e, in', gives) = Contains-filter_map (λ e. option_and_then (taken_text o pattern e.1)
+      let (e, in', gives) = Contains-filter_map (λ e. option_and_then (wanted_text pattern taken e.1)
       (names_past (start_key c pattern) e.0)) c.kinds text h in
-      option_and_then_some (taken_text o pattern e.1) (names_past (start_key c pattern) e.0) text gives
+      option_and_then_some (wanted_text pattern taken e.1) (names_past (start_key c pattern) e.0) text gives
       (λ names past is. taken_text_is e.1 names text (ap (kind_at c) (sym (names_past_is (start_key c pattern) e.0
       names past)) ∙ kind_at-entry c w e in') is)

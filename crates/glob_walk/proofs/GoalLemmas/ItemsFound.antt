@@ -9,7 +9,8 @@ use Rattle.glob_tree.proofs.ContentLemmas.Directories.{is_directory-look_result,
 use Rattle.glob_walk.specs.Marks.{items}
 use Rattle.glob_walk.specs.Components.{start, components, wants_directories}
 use Rattle.glob_walk.specs.Listing.{enter, listing}
-use Rattle.glob_walk.specs.Goal.{are_plain, is_plain, start_key, IsPlainWalk}
+use Rattle.glob_walk.specs.Goal.{are_plain, is_plain, start_key}
+use Rattle.glob_walk.specs.Laws.{IsPlainWalk}
 use Rattle.glob_pattern.specs.declared.options.MatchOptions.{MatchOptions}
 use Rattle.glob_walk.proofs.GoalLemmas.PatternParts.{components-flat}
 use Rattle.glob_walk.proofs.GoalLemmas.KeysBelow.{Here}

@@ -18,9 +18,8 @@ use Rattle.glob_tree.proofs.ContentLemmas.Contents.{IsContent}
 use Rattle.glob_tree.proofs.ContentLemmas.Directories.{LeadsTo, IsName, IsName-from_proper, step_name}
 use Rattle.glob_tree.proofs.ContentLemmas.Resolving.{resolve_child, pieces-append, pieces_one}
 use Rattle.glob_walk.specs.Components.{has_root, start}
-use Rattle.glob_walk.specs.Goal.{start_key, text_below}
+use Rattle.glob_walk.specs.Goal.{start_key, text_below, names_of}
 use Rattle.glob_walk.specs.Laws.{are_names}
-use Rattle.glob_walk.specs.Order.{names_of}
 use Rattle.glob_walk.proofs.GoalLemmas.Characters.{AllUtf8}
 use Rattle.glob_walk.proofs.GoalLemmas.Finds.{under}
 use Rattle.glob_walk.proofs.GoalLemmas.KeysBelow.{held_above, on_the_way}

@@ -12,7 +12,8 @@ use Rattle.glob_walk.specs.Components.{Literal, Recursive, Wild, component_kind,
 use Rattle.glob_walk.specs.Components.{matches_name, start, components, wants_directories}
 use Rattle.glob_walk.specs.Listing.{is_entered, levels, listing}
 use Rattle.glob_walk.specs.Marks.{Unread, items}
-use Rattle.glob_walk.specs.Goal.{IsPlainWalk, is_readable, is_shut, start_key}
+use Rattle.glob_walk.specs.Goal.{is_readable, is_shut, start_key}
+use Rattle.glob_walk.specs.Laws.{IsPlainWalk}
 use Rattle.glob_pattern.specs.declared.options.MatchOptions.{MatchOptions}
 use Rattle.glob_tree.specs.declared.kind.Kind.{Kind}
 use Rattle.glob_tree.specs.declared.kind.Kind.TheVariants.{Dir, Shut, Other}

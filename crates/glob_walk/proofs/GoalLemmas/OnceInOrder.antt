@@ -17,9 +17,9 @@ use Rattle.glob_tree.specs.Content.{Content, Key}
 use Rattle.glob_walk.specs.Marks.{Item, items, paths, IsBeginning}
 use Rattle.glob_walk.specs.Components.{start, components, wants_directories, begins_recursive, is_recursive}
 use Rattle.glob_walk.specs.Listing.{listing}
-use Rattle.glob_walk.specs.Goal.{IsPlainWalk, start_key}
-use Rattle.glob_walk.specs.Order.{from_first_recursive, after_first_recursive, has_one_recursive, keeps_order, names_of}
-use Rattle.glob_walk.specs.Order.{path_cmp, IsOnce, IsAscending, IsOrderly}
+use Rattle.glob_walk.specs.Goal.{start_key, from_first_recursive, after_first_recursive, has_one_recursive}
+use Rattle.glob_walk.specs.Goal.{keeps_order, names_of, path_cmp, IsOrderly}
+use Rattle.glob_walk.specs.Laws.{IsPlainWalk}
 use Rattle.glob_pattern.specs.declared.options.MatchOptions.{MatchOptions}
 use Rattle.glob_tree.proofs.ContentLemmas.Membership.{Contains-head, Contains-tail, All-from_contains}
 use Rattle.glob_tree.proofs.ContentLemmas.Contents.{IsContent, IsContent-from_test}
@@ -195,7 +195,7 @@ module _ (c : Content) (o : MatchOptions) (pattern : Text) (p : IsPlainWalk c pa
   pub plain_walk_orderly : (given : List Item) → IsBeginning given (items (listing c o pattern)) → IsOrderly pattern (paths given)
   plain_walk_orderly given begins = record { once = once; ascending = ascending }
     where
-      once : has_one_recursive pattern ≡ true → IsOnce (paths given)
+      once : has_one_recursive pattern ≡ true → AllPairs (λ p q. p ≢ q) (paths given)
       once h = given_pairs Differ (λ p q. p ≢ q)
           (ordered_finds c w Differ (record { under = differ-under; first = differ-first }) o
           (wants_directories pattern) (components pattern)
@@ -203,7 +203,7 @@ module _ (c : Content) (o : MatchOptions) (pattern : Text) (p : IsPlainWalk c pa
           (components pattern)) - 1))) (start_key c pattern) true)
           (λ p q r e. r (ap names_of e)) given begins
 
-      ascending : keeps_order pattern ≡ true → IsAscending (paths given)
+      ascending : keeps_order pattern ≡ true → AllPairs (λ p q. path_cmp p q ≡ Less) (paths given)
       ascending h =
           let both = and_parts (has_one_recursive pattern) (nat_le (length (after_first_recursive (components pattern))) 1) h in
           let few : length (after_first_recursive (components pattern)) ≤ 1 = leb-true _ 1 both.1 in

@@ -10,8 +10,8 @@ use Rattle.glob_tree.proofs.ContentLemmas.Contents.{IsContent, IsContent-from_te
 use Rattle.glob_walk.specs.Marks.{Item, Unread, items, paths, IsBeginning}
 use Rattle.glob_walk.specs.Components.{start}
 use Rattle.glob_walk.specs.Listing.{listing}
-use Rattle.glob_walk.specs.Goal.{start_key, is_readable, taken_goal, IsPlainWalk, IsSensitiveWalk, IsHidden}
-use Rattle.glob_walk.specs.Goal.{ReachesTexts, GivesTexts, ReachesGoal, GivesGoal}
+use Rattle.glob_walk.specs.Goal.{start_key, is_readable, taken_goal, IsHidden, ReachesTexts, GivesTexts, goal}
+use Rattle.glob_walk.specs.Laws.{IsPlainWalk, IsSensitiveWalk}
 use Rattle.glob_pattern.specs.declared.options.MatchOptions.{MatchOptions}
 use Rattle.glob_walk.proofs.ListingLemmas.Marks.{paths-append}
 use Rattle.glob_walk.proofs.GoalLemmas.KeysBelow.{names_at}
@@ -105,13 +105,13 @@ taken_walk_gives c o pattern p readable =
 -- Both hold for a case-sensitive plain walk, whose goal is what the undivided pattern matches.
 pub plain_walk_reaches : (c : Content) (o : MatchOptions) (pattern : Text) → IsSensitiveWalk c o pattern →
     (given : List Item) → IsBeginning given (items (listing c o pattern))
-    → (IsWhole : Type 0) → (IsWhole → given ≡ items (listing c o pattern)) → ReachesGoal c o pattern IsWhole given
+    → (IsWhole : Type 0) → (IsWhole → given ≡ items (listing c o pattern)) → ReachesTexts c pattern (goal c o pattern) IsWhole given
 plain_walk_reaches c o pattern p given begins IsWhole whole =
     subst (λ wanted. ReachesTexts c pattern wanted IsWhole given) (goal_is_taken c o pattern p)
     (taken_walk_reaches c o pattern p.plain given begins IsWhole whole)
 
 pub plain_walk_gives : (c : Content) (o : MatchOptions) (pattern : Text) → IsSensitiveWalk c o pattern → is_readable c
-    pattern ≡ true → GivesGoal c o pattern (items (listing c o pattern))
+    pattern ≡ true → GivesTexts (goal c o pattern) (items (listing c o pattern))
 plain_walk_gives c o pattern p readable =
     subst (λ wanted. GivesTexts wanted (items (listing c o pattern))) (goal_is_taken c o pattern p)
     (taken_walk_gives c o pattern p.plain readable)

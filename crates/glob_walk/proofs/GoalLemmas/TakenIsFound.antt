@@ -31,7 +31,7 @@ use Rattle.glob_walk.proofs.GoalLemmas.FoundIsTaken.{IsTakenAt, IsMet, ends-cons
 use Rattle.glob_walk.proofs.GoalLemmas.FoundParts.{flat_map-contains, map-contains}
 use Rattle.glob_pattern.specs.Matching.Components.{is_open}
 use Rattle.glob_walk.proofs.GoalLemmas.KeysBelow.{held_above, on_the_way, Here, Here-dir, held-from_deeper}
-use Rattle.glob_walk.proofs.GoalLemmas.TakenNames.{takes-one, takes-one_none, run-cases, run-nil, run-run}
+use Rattle.glob_walk.proofs.GoalLemmas.TakenNames.{takes-one, takes-none, run-cases, run-run}
 
 -- the key with these names below k is below a shut one, which is a miss
 pub record IsCovered (c : Content) (finds : List Find) (k names : Key) : Type 0 where
@@ -190,8 +190,7 @@ module _ (c : Content) (w : IsContent c) where
         }
 
     found-literal : (t : Text) (ts : List Text) → component_kind t ≡ Literal → Entered ts → Entered (t ∷ ts)
-    found-literal t ts kind next k d at [] is = absurd (both_ways _ (takes-one_none o false t ts
-        (literal_not_recursive t (kind-Literal t kind))) is.taken)
+    found-literal t ts kind next k d at [] is = absurd (takes-none o false t ts is.taken)
     found-literal t ts kind next k d at (n ∷ ns) is =
         let literal = kind-Literal t kind in
         let step = step_of t ts k n ns (literal_not_recursive t literal) is in
@@ -213,7 +212,7 @@ module _ (c : Content) (w : IsContent c) where
     is_directory_here k d at n found held = sym (Here-dir c k d at) ∙ held_above c w k n found held
 
     found-wild : (t : Text) (ts : List Text) → component_kind t ≡ Wild → Entered ts → Entered (t ∷ ts)
-    found-wild t ts kind next k d at [] is = absurd (both_ways _ (takes-one_none o false t ts (kind-Wild t kind).1) is.taken)
+    found-wild t ts kind next k d at [] is = absurd (takes-none o false t ts is.taken)
     found-wild t ts kind next k d at (n ∷ ns) is =
         let step = step_of t ts k n ns (kind-Wild t kind).1 is in
         subst (λ b. FoundOrCovered c (enter_names c o directories (t ∷ ts) k b) k (n ∷ ns))
@@ -229,7 +228,7 @@ module _ (c : Content) (w : IsContent c) where
         → is_dir_at c k ≡ true → levels c ≤ length k + n → IsTakenAt c o directories (t ∷ ts) k names
         → FoundOrCovered c (descent_names c o (meet_names c o directories ts) n k) k names
     unfolding descent_names
-    found-descent t ts r next n k [] d l is = absurd (run-nil o false t ts r is.taken)
+    found-descent t ts r next n k [] d l is = absurd (takes-none o false t ts is.taken)
     found-descent t ts r next zero k (m ∷ ms) d l is = absurd (omega (arith, l, depth c k d))
     found-descent t ts r next (suc n) k (m ∷ ms) d l is =
         let (found, stands) = on_the_way c w k m ms is.kind is.held in
@@ -260,7 +259,7 @@ module _ (c : Content) (w : IsContent c) where
             → FoundOrCovered c (meet_names c o directories ts (k ++ m ∷ []) m (is_dir found) ++
             (cond (is_entered o m (is_dir found)) (descent_names c o (meet_names c o directories ts) n
             (k ++ m ∷ [])) [])) (k ++ m ∷ []) ms
-        from_below found stands deeper on further [] e = absurd (run-nil o false t ts r
+        from_below found stands deeper on further [] e = absurd (takes-none o false t ts
             (subst (λ ls. walk_takes o false (t ∷ ts) ls ≡ true) e on.1))
         from_below found stands deeper on further (l' ∷ ls) e =
             let met : List Find = meet_names c o directories ts (k ++ m ∷ []) m (is_dir found) in
@@ -290,7 +289,7 @@ module _ (c : Content) (w : IsContent c) where
     found-recursive t ts kind next true more k d at names is =
         subst (λ fs. FoundOrCovered c fs k names) (sym (names-run c o directories t ts k d kind more))
         (next.entered k d at names (found-run t ts (kind-Recursive t kind) more k names is))
-    found-recursive t ts kind next false last k d at [] is = absurd (run-nil o false t ts (kind-Recursive t kind) is.taken)
+    found-recursive t ts kind next false last k d at [] is = absurd (takes-none o false t ts is.taken)
     found-recursive t ts kind next false last k d at (n ∷ ns) is =
         let (found, stands) = on_the_way c w k n ns is.kind is.held in
         subst (λ b. FoundOrCovered c (enter_names c o directories (t ∷ ts) k b) k (n ∷ ns)) (sym (is_directory_here k d at n found stands))

@@ -21,7 +21,7 @@ use Rattle.glob_pattern.specs.Computing.Reading.{reading_of}
 use Rattle.glob_pattern.specs.Computing.Deciding.{is_match}
 use Rattle.glob_walk.specs.Components.{has_root, without_root, without_end_separator, components, is_literal}
 use Rattle.glob_walk.specs.Components.{is_recursive, is_current_or_parent, matches_name, first_fault, walk_fault}
-use Rattle.glob_walk.specs.Goal.{is_plain_component, are_plain, is_plain, text_below, goal_options, matches_undivided}
+use Rattle.glob_walk.specs.Goal.{is_plain_component, are_plain, is_plain, text_below, matches_undivided}
 use Rattle.glob_pattern.specs.declared.options.MatchOptions.{MatchOptions}
 use Rattle.glob_pattern.proofs.MatchingLemmas.Computed.{accepted_by_reading}
 use Rattle.glob_pattern.specs.Matching.Components.{is_open, run_to_end, run_before, name_before, takes_names}
@@ -30,6 +30,10 @@ use Rattle.glob_walk.proofs.ComponentLemmas.WholeNames.{is_open-begins}
 use Rattle.glob_walk.proofs.ComponentLemmas.JoinedComponents.{joined_takes, rooted_takes}
 use Rattle.glob_walk.proofs.GoalLemmas.PatternParts.{components-utf8, components-flat, components-joined, without_end-rooted}
 use Rattle.glob_walk.proofs.GoalLemmas.Characters.{dot-chars, recursive-chars, no_slash-chars, AllUtf8, chars-joined, chars-slash}
+
+-- the options by which a walk's pattern matches its goal
+abbrev goal_rules : MatchOptions → MatchOptions
+goal_rules o = record o { case_sensitive = true; require_literal_separator = true }
 
 -- components take the same names by characters as by bytes
 open-chars : (o : MatchOptions) (n : Text) → IsUtf8 n → is_open o (chars n) ≡ is_open o n
@@ -126,7 +130,7 @@ undivided_takes o case pattern utf8 plain n ns names flat =
     (components-utf8 pattern utf8) (components-flat pattern) both.1 nones.1)
   where
     -- if case-sensitive, the goal's options are the walk's with the separator rule
-    ruled : goal_options o ≡ with_separator_rule o
+    ruled : goal_rules o ≡ with_separator_rule o
     ruled = ap (λ b. record o { case_sensitive = b; require_literal_separator = true }) (sym case)
 
     flat-chars : (ns : List Text) → AllUtf8 ns → list_all has_no_slash ns ≡ true → list_all has_no_slash (map chars ns) ≡ true
@@ -138,11 +142,11 @@ undivided_takes o case pattern utf8 plain n ns names flat =
 
     by_root : (t : Text) (ts : List Text) → components pattern ≡ t ∷ ts → AllUtf8 (t ∷ ts) → AreComponents
         (map chars (t ∷ ts)) → (b : Bool) → has_root pattern ≡ b
-        → is_match (goal_options o) (chars (without_end_separator pattern))
+        → is_match (goal_rules o) (chars (without_end_separator pattern))
         (chars (cond b (slash ∷ join_with_byte slash (n ∷ ns)) (join_with_byte slash (n ∷ ns)))) ≡ takes_names o
         (is_match o) (map chars (t ∷ ts)) (map chars (n ∷ ns))
     by_root t ts e all are true root =
-        ap₂ (is_match (goal_options o))
+        ap₂ (is_match (goal_rules o))
         (ap chars (whole pattern root e) ∙ chars-slash (join_with_byte slash (t ∷ ts)) ∙ ap (λ cs. slash ∷ cs) (chars-joined (t ∷ ts) all))
         (chars-slash (join_with_byte slash (n ∷ ns)) ∙ ap (λ cs. slash ∷ cs) (chars-joined (n ∷ ns) names))
         ∙ ap (λ p. is_match p (slash ∷ join_with_byte slash (map chars (t ∷ ts))) (slash ∷ join_with_byte slash (map chars (n ∷ ns)))) ruled
@@ -165,7 +169,7 @@ undivided_takes o case pattern utf8 plain n ns names flat =
             ∙ ap (λ cs. slash ∷ cs) (ap without_end_separator (sym (cond-true (has_root (x ∷ y ∷ xs)) (y ∷ xs)
             (x ∷ y ∷ xs) r)) ∙ sym (components-joined (x ∷ y ∷ xs)) ∙ ap (join_with_byte slash) f)
     by_root t ts e all are false root =
-        ap₂ (is_match (goal_options o))
+        ap₂ (is_match (goal_rules o))
         (ap chars (ap without_end_separator (sym (cond-false (has_root pattern) (drop 1 pattern) pattern root)) ∙ sym
         (components-joined pattern) ∙ ap (join_with_byte slash) e) ∙ chars-joined (t ∷ ts) all)
         (chars-joined (n ∷ ns) names)

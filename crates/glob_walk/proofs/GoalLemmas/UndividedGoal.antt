@@ -14,22 +14,51 @@ use Rattle.glob_tree.proofs.ContentLemmas.Contents.{IsContent, IsContent-from_te
 use Rattle.glob_pattern.specs.declared.options.MatchOptions.{MatchOptions}
 use Rattle.glob_pattern.specs.Matching.Components.{is_open, name_before, run_before, run_to_end, takes_names}
 use Rattle.glob_walk.specs.Components.{components, is_literal, is_recursive, matches_name}
-use Rattle.glob_walk.specs.Goal.{is_plain, start_key, text_below, matches_undivided, matches_kind, goal_text, goal}
-use Rattle.glob_walk.specs.Goal.{taken_text, taken_goal, walk_takes, walk_takes_name, IsSensitiveWalk}
-use Rattle.glob_walk.specs.Laws.{are_names}
+use Rattle.glob_walk.specs.Goal.{is_plain, start_key, text_below, matches_undivided, matches_kind, wanted_text, goal}
+use Rattle.glob_walk.specs.Goal.{taken_goal, walk_takes, walk_takes_name}
+use Rattle.glob_walk.specs.Laws.{are_names, IsSensitiveWalk}
 use Rattle.glob_walk.proofs.GoalLemmas.Characters.{AllUtf8}
 use Rattle.glob_walk.proofs.GoalLemmas.KeysBelow.{names_at}
 use Rattle.glob_walk.proofs.GoalLemmas.LiteralComponents.{own_only, own_name}
 use Rattle.glob_walk.proofs.GoalLemmas.NamedPaths.{AreNames-from, AllUtf8-from, flat-from}
 use Rattle.glob_walk.proofs.GoalLemmas.PatternParts.{components-utf8}
+use Rattle.glob_walk.proofs.GoalLemmas.TakenNames.{takes-one, takes-run}
 use Rattle.glob_walk.proofs.GoalLemmas.Undivided.{undivided_takes}
 
--- the pattern matches the text of names exactly if its components take them
-pub plain_matches_levels : (o : MatchOptions) (pattern : Text) → IsUtf8 pattern → is_plain pattern ≡ true
-    → o.case_sensitive ≡ true → (n : Text) (ns : Key) → are_names (n ∷ ns) ≡ true
-    → matches_undivided o pattern (text_below pattern (n ∷ ns)) ≡ takes_names o (matches_name o) (components pattern) (n ∷ ns)
-plain_matches_levels o pattern utf8 plain case n ns h =
-    undivided_takes o case pattern utf8 plain n ns (AllUtf8-from (n ∷ ns) h) (flat-from (n ∷ ns) (AreNames-from (n ∷ ns) h))
+or_none : (b : Bool) → (b || false) ≡ b
+or_none true = refl
+or_none false = refl
+
+or_again : (x y : Bool) → ((x || y) || x) ≡ (x || y)
+or_again true y = refl
+or_again false y = or_none y
+
+and_yes : (b : Bool) → (b && true) ≡ b
+and_yes true = refl
+and_yes false = refl
+
+module _ (o : MatchOptions) (a : Bool) where
+  -- a last `**` takes all names that are open
+  run_last : (t : Text) → is_recursive t ≡ true → (names : Key) → walk_takes o a (t ∷ []) names ≡ run_to_end o names
+  run_last t r [] = refl
+  run_last t r (n ∷ []) = takes-run o a t [] n [] r ∙ and_yes (is_open o n)
+  run_last t r (n ∷ m ∷ ns) =
+      takes-run o a t [] n (m ∷ ns) r
+      ∙ ap (λ x. is_open o n && x) (or_none (walk_takes o a (t ∷ []) (m ∷ ns)) ∙ run_last t r (m ∷ ns))
+
+  -- any other takes names before those that the components after it take
+  run_same : (t u : Text) (us : List Text) → is_recursive t ≡ true → (follows : Key → Bool)
+      → ((ms : Key) → list_all is_utf8 ms ≡ true → walk_takes o true (u ∷ us) ms ≡ follows ms)
+      → (names : Key) → list_all is_utf8 names ≡ true → walk_takes o a (t ∷ u ∷ us) names ≡ run_before o follows names
+  run_same t u us r follows same [] ok = refl
+  run_same t u us r follows same (n ∷ []) ok =
+      takes-run o a t (u ∷ us) n [] r ∙ ap (λ x. x || (is_open o n && false)) (same (n ∷ []) ok)
+  run_same t u us r follows same (n ∷ m ∷ ms) ok =
+      let both = and_parts (is_utf8 n) (list_all is_utf8 (m ∷ ms)) ok in
+      takes-run o a t (u ∷ us) n (m ∷ ms) r
+      ∙ ap₂ (λ x y. x || (is_open o n && y)) (same (n ∷ m ∷ ms) ok)
+      (ap₂ (λ x y. x || y) (run_same t u us r follows same (m ∷ ms) both.1) (same (m ∷ ms) both.1)
+      ∙ or_again (follows (m ∷ ms)) (is_open o m && run_before o follows ms))
 
 module _ (o : MatchOptions) (case : o.case_sensitive ≡ true) where
   -- a component takes exactly the names that it matches
@@ -49,38 +78,58 @@ module _ (o : MatchOptions) (case : o.case_sensitive ≡ true) where
           by_answers false true f g = (bytes_eq-Decides t n).1 (own_only o case t n e utf8 name g) ∙ sym g
 
   -- and so do all components
-  before_same : (t : Text) (a : Bool) (p q : Key → Bool) → is_utf8 t ≡ true → ((ns : Key) → list_all is_utf8 ns ≡ true → p ns ≡ q ns)
-      → (names : Key) → list_all is_utf8 names ≡ true → name_before (walk_takes_name o a t) p names ≡ name_before (matches_name o t) q names
-  before_same t a p q utf8 same [] ok = refl
-  before_same t a p q utf8 same (n ∷ ns) ok =
-      let both = and_parts (is_utf8 n) (list_all is_utf8 ns) ok in
-      ap₂ (λ x y. x && y) (name_same a t n utf8 both.0) (same ns both.1)
-
-  run_same : (p q : Key → Bool) → ((ns : Key) → list_all is_utf8 ns ≡ true → p ns ≡ q ns)
-      → (names : Key) → list_all is_utf8 names ≡ true → run_before o p names ≡ run_before o q names
-  run_same p q same [] ok = refl
-  run_same p q same (n ∷ ns) ok =
-      let both = and_parts (is_utf8 n) (list_all is_utf8 ns) ok in
-      ap₂ (λ x y. x || (is_open o n && y)) (same (n ∷ ns) ok) (run_same p q same ns both.1)
-
   takes_same : (a : Bool) (ts : List Text) → list_all is_utf8 ts ≡ true → (names : Key) → list_all is_utf8 names ≡ true
       → walk_takes o a ts names ≡ takes_names o (matches_name o) ts names
   takes_same a [] utf8 [] ok = refl
   takes_same a [] utf8 (n ∷ ns) ok = refl
-  takes_same a (t ∷ []) utf8 names ok =
-      ap (cond (is_recursive t) (run_to_end o names))
-      (before_same t a (walk_takes o false []) (takes_names o (matches_name o) []) (and_parts (is_utf8 t) true utf8).0
-      (takes_same false [] refl) names ok)
+  takes_same a (t ∷ []) utf8 names ok = by_test (λ ms all. takes_same false [] refl ms all) (is_recursive t) refl names ok
+    where
+      by_test : ((ms : Key) → list_all is_utf8 ms ≡ true → walk_takes o false [] ms ≡ takes_names o (matches_name o) [] ms)
+          → (b : Bool) → is_recursive t ≡ b → (ms : Key) → list_all is_utf8 ms ≡ true
+          → walk_takes o a (t ∷ []) ms
+          ≡ cond b (run_to_end o ms) (name_before (matches_name o t) (takes_names o (matches_name o) []) ms)
+      by_test same true r ms all = run_last o a t r ms
+      by_test same false r [] all = refl
+      by_test same false r (m ∷ ms) all =
+          let both = and_parts (is_utf8 m) (list_all is_utf8 ms) all in
+          takes-one o a t [] m ms r
+          ∙ ap₂ (λ x y. x && y) (name_same a t m (and_parts (is_utf8 t) true utf8).0 both.0) (same ms both.1)
   takes_same a (t ∷ u ∷ us) utf8 names ok =
-      let both = and_parts (is_utf8 t) (list_all is_utf8 (u ∷ us)) utf8 in
-      let follows = takes_names o (matches_name o) (u ∷ us) in
-      ap₂ (cond (is_recursive t))
-      (run_same (walk_takes o true (u ∷ us)) follows (takes_same true (u ∷ us) both.1) names ok)
-      (before_same t a (walk_takes o false (u ∷ us)) follows both.0 (takes_same false (u ∷ us) both.1) names ok)
+      by_test (λ x ms all. takes_same x (u ∷ us) (and_parts (is_utf8 t) (list_all is_utf8 (u ∷ us)) utf8).1 ms all)
+      (is_recursive t) refl names ok
+    where
+      by_test : ((x : Bool) (ms : Key) → list_all is_utf8 ms ≡ true
+          → walk_takes o x (u ∷ us) ms ≡ takes_names o (matches_name o) (u ∷ us) ms)
+          → (b : Bool) → is_recursive t ≡ b → (ms : Key) → list_all is_utf8 ms ≡ true
+          → walk_takes o a (t ∷ u ∷ us) ms ≡ cond b (run_before o (takes_names o (matches_name o) (u ∷ us)) ms)
+          (name_before (matches_name o t) (takes_names o (matches_name o) (u ∷ us)) ms)
+      by_test same true r ms all = run_same o a t u us r (takes_names o (matches_name o) (u ∷ us)) (same true) ms all
+      by_test same false r [] all = refl
+      by_test same false r (m ∷ ms) all =
+          let both = and_parts (is_utf8 m) (list_all is_utf8 ms) all in
+          takes-one o a t (u ∷ us) m ms r
+          ∙ ap₂ (λ x y. x && y) (name_same a t m (and_parts (is_utf8 t) _ utf8).0 both.0) (same false ms both.1)
 
 all_utf8 : (ts : List Text) → AllUtf8 ts → list_all is_utf8 ts ≡ true
 all_utf8 [] all = refl
 all_utf8 (t ∷ ts) all = and_from (is_utf8 t) (list_all is_utf8 ts) (is_utf8-from_IsUtf8 t all.0) (all_utf8 ts all.1)
+
+-- the pattern matches the text of names exactly if its components take them
+pub plain_matches_levels : (o : MatchOptions) (pattern : Text) → IsUtf8 pattern → is_plain pattern ≡ true
+    → o.case_sensitive ≡ true → (n : Text) (ns : Key) → are_names (n ∷ ns) ≡ true
+    → matches_undivided o pattern (text_below pattern (n ∷ ns)) ≡ walk_takes o false (components pattern) (n ∷ ns)
+plain_matches_levels o pattern utf8 plain case n ns h =
+    let names : AllUtf8 (n ∷ ns) = AllUtf8-from (n ∷ ns) h in
+    undivided_takes o case pattern utf8 plain n ns names (flat-from (n ∷ ns) (AreNames-from (n ∷ ns) h))
+    ∙ sym (takes_same o case false (components pattern) (all_utf8 (components pattern) (components-utf8 pattern utf8))
+    (n ∷ ns) (all_utf8 (n ∷ ns) names))
+
+module _ (o : MatchOptions) (pattern : Text) where
+  abbrev taken_text : Kind → Key → Option Text
+  taken_text kind names = wanted_text pattern (walk_takes o false (components pattern)) kind names
+
+  abbrev goal_text : Kind → Key → Option Text
+  goal_text kind names = wanted_text pattern (λ ns. matches_undivided o pattern (text_below pattern ns)) kind names
 
 -- the goal, if the pattern is plain and the options are case-sensitive
 pub goal_is_taken : (c : Content) (o : MatchOptions) (pattern : Text) → IsSensitiveWalk c o pattern → taken_goal c o
@@ -99,9 +148,7 @@ goal_is_taken c o pattern p = by_entries c.kinds (λ e in'. in')
         let proper = names_at c w (start_key c pattern) (n ∷ ns) e.1 (ap (kind_at c)
         (sym (names_past_is (start_key c pattern) e.0 (n ∷ ns) is)) ∙ kind_at-entry c w e in') in
         ap (λ b. cond (matches_kind pattern e.1 && b) (Some (text_below pattern (n ∷ ns))) None)
-        (takes_same o p.case false (components pattern) (all_utf8 (components pattern)
-        (components-utf8 pattern p.plain.text)) (n ∷ ns) (all_utf8 (n ∷ ns) (AllUtf8-from (n ∷ ns) proper))
-        ∙ sym (plain_matches_levels o pattern p.plain.text p.plain.plain p.case n ns proper))
+        (sym (plain_matches_levels o pattern p.plain.text p.plain.plain p.case n ns proper))
 
     by_entries : (es : List (Key × Kind)) → ((e : Key × Kind) → Contains es e → Contains c.kinds e)
         → filter_map (λ e. option_and_then (taken_text o pattern e.1) (names_past (start_key c pattern) e.0)) es ≡

@@ -10,7 +10,7 @@ use Rattle.glob_tree.specs.Content.{Content, Key, DirEntry, children, list_resul
 use Rattle.glob_walk.specs.Marks.{Mark, Work}
 use Rattle.glob_walk.specs.Components.{Recursive, Literal, Wild, component_kind, begins_recursive}
 use Rattle.glob_walk.specs.Listing.{Next, after_listing, by_name, by_match, list_directory, is_entered, descent}
-use Rattle.glob_walk.specs.Listing.{deepest, levels, enter, meet}
+use Rattle.glob_walk.specs.Listing.{levels, enter, meet}
 use Rattle.glob_pattern.specs.Matching.Components.{is_open}
 use Rattle.glob_pattern.specs.declared.options.MatchOptions.{MatchOptions}
 use Rattle.glob_tree.specs.declared.kind.Kind.{Kind}
@@ -50,6 +50,10 @@ longest n (f ∷ es) e in' = ⊎_elim
     (λ same. omega (arith, longest_from (max n (length f.0)) es, ap (λ g. length g.0) same))
     (λ later. longest (max n (length f.0)) es e later)
     (Contains-cases f es e in')
+
+-- the number of names in the longest key
+abbrev deepest : Content → ℕ
+deepest c = fold (λ n e. max n (length e.0)) 0 c.kinds
 
 -- no directory is deeper than the levels of its content
 pub depth : (c : Content) (k : Key) → is_dir_at c k ≡ true → length k < levels c

@@ -1,5 +1,5 @@
 -- What a limit leaves of a walk.
-use Rattle.std.proofs.Common.{append_assoc, ◌≡◌, ◌∙◌, ℕ, zero, suc, ◌+◌, ◌-◌, ◌≤◌, List, [], ◌∷◌, ◌++◌, replicate, refl, ap, arith}
+use Rattle.std.proofs.Common.{append_assoc, ◌≡◌, ◌∙◌, ℕ, zero, suc, ◌+◌, ◌-◌, ◌≤◌, List, [], ◌∷◌, ◌++◌, replicate, refl, ap, sym, arith}
 use Rattle.glob_text.specs.Text.{Text}
 use Rattle.glob_walk.specs.Marks.{Item, Found, Unread, Mark, Work, Give, items, cost, front, paths, IsBeginning}
 use Rattle.glob_walk.specs.Walks.{IsCutShort}
@@ -47,6 +47,6 @@ paths-append (Unread path kind ∷ is) js = paths-append is js
 pub IsBeginning-cut : (ms : List Mark) (spent : ℕ) (is : List Item) → IsCutShort ms spent is → IsBeginning is (items ms)
 IsBeginning-cut ms spent is cut = (
   cut.lost ++ items cut.rest,
-  ap items cut.whole ∙ items-append cut.done cut.rest ∙ ap (λ js. js ++ items cut.rest) cut.given ∙ append_assoc is
-      cut.lost (items cut.rest),
+  ap items cut.charged.whole ∙ items-append cut.charged.done cut.rest
+      ∙ ap (λ js. js ++ items cut.rest) (sym cut.charged.same) ∙ append_assoc is cut.lost (items cut.rest),
 )

@@ -1,12 +1,11 @@
 -- What a step does to what was given.
-use Rattle.std.proofs.Common.{◌≡◌, ℕ, suc, false, ◌+◌, ◌-◌, ◌<◌, List, [], ◌∷◌, ◌++◌, refl, ap, sym, ◌∙◌, arith, append_assoc}
+use Rattle.std.proofs.Common.{◌≡◌, ℕ, suc, false, ◌+◌, ◌-◌, ◌<◌, List, [], ◌∷◌, ◌++◌, refl, ap, sym, subst, ◌∙◌, arith, append_assoc}
 use Rattle.std.proofs.lemmas.List.{append-nil}
 use Rattle.glob_text.specs.Text.{Text}
 use Rattle.glob_tree.specs.Content.{Content}
-use Rattle.glob_walk.specs.Listing.{listing_of}
 use Rattle.glob_walk.specs.Marks.{Mark, Work, Give, Item, IsUpTo, items, cost, front}
 use Rattle.glob_walk.specs.Questions.{question_path}
-use Rattle.glob_walk.specs.Machines.{MachineState, Progress, IsFresh, Saying, AsksLook, AsksList, Says, Ends}
+use Rattle.glob_walk.specs.Machines.{MachineState, Progress, IsFresh, Saying, AsksLook, AsksList, Says, Ends, listing_of}
 use Rattle.glob_walk.specs.Machines.{StepCounts, HasGiven, GivesNext, AsksNext, Agrees, left_of, step_units}
 use Rattle.glob_walk.specs.Private.Turns.{Charges, TakesStep, works}
 use Rattle.glob_walk.specs.Walks.{Gives, LimitAt, NoMemory, IsCutShort}
@@ -56,13 +55,9 @@ module _ (listing : List Mark) (spent : ℕ) (given : List Item) where
   -- what was charged is a prefix of the listing
   pub upto_cut : (rest : List Mark) → IsUpTo listing spent given rest → IsCutShort listing spent given
   upto_cut rest u = record {
-    done = u.done;
     rest = rest;
     lost = [];
-    whole = u.whole;
-    units = u.units;
-    given =
-        sym u.same ∙ sym (append-nil given);
+    charged = subst (λ is. IsUpTo listing spent is rest) (sym (append-nil given)) u;
     few = omega arith;
   }
 

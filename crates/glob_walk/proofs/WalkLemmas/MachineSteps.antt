@@ -8,9 +8,9 @@ use Rattle.std.proofs.lemmas.List.Elements.{All-from_recursion}
 use Rattle.std.proofs.lemmas.Bool.{both_ways}
 use Rattle.glob_text.specs.Text.{Text}
 use Rattle.glob_tree.specs.Content.{Content}
-use Rattle.glob_walk.specs.Listing.{listing_of, look_up, enter}
+use Rattle.glob_walk.specs.Listing.{look_up, enter}
 use Rattle.glob_walk.specs.Questions.{Question, LookAt, ListAt, IsSomeContent}
-use Rattle.glob_walk.specs.Machines.{MachineState, Saying, AsksLook, AsksList, IsAskedAfter, IsCharged, StepCounts}
+use Rattle.glob_walk.specs.Machines.{MachineState, Saying, AsksLook, AsksList, IsAskedAfter, IsCharged, StepCounts, listing_of}
 use Rattle.glob_walk.specs.Machines.{StepGoes, Says, Ends, is_last, item_number}
 use Rattle.glob_walk.specs.Walks.{Outcome, Gives, LimitAt, NoMemory}
 use Rattle.glob_walk.specs.declared.frame.Frame.{Frame}

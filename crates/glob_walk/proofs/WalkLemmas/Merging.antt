@@ -10,7 +10,8 @@ use Rattle.glob_tree.specs.Content.{Content}
 use Rattle.glob_walk.specs.Components.{ComponentKind, Literal, Recursive, Wild, component_kind, components, is_literal}
 use Rattle.glob_walk.specs.Components.{is_recursive, begins_recursive, has_root, start, wants_directories}
 use Rattle.std.specs.Path.{root_dir, cur_dir}
-use Rattle.glob_walk.specs.Listing.{listing_of, by_name, by_match, descent, levels, enter, meet, match_at, look_up, listing}
+use Rattle.glob_walk.specs.Listing.{by_name, by_match, descent, levels, enter, meet, match_at, look_up, listing}
+use Rattle.glob_walk.specs.Machines.{listing_of}
 use Rattle.glob_walk.specs.declared.plan.Plan.{Plan}
 use Rattle.glob_walk.specs.Private.Stacks.{aim_of}
 use Rattle.glob_walk.specs.Private.Merging.{merged, merged_after, are_merged}

@@ -1,7 +1,7 @@
 -- What a walk still has to do, as a part of the written listing.
 use Rattle.std.specs.Prelude.{ℕ, ◌+◌, ◌*◌, List, ◌++◌, reverse, flat_map, Option, Some, None, sum_by}
 use Rattle.std.specs.List.{All}
-use Rattle.glob_walk.specs.Listing.{Aim}
+use Rattle.glob_walk.specs.Machines.{Aim}
 use Rattle.glob_walk.specs.Marks.{Mark}
 use Rattle.glob_tree.specs.Content.{Content}
 use Rattle.glob_walk.specs.declared.plan.Plan.{Plan}

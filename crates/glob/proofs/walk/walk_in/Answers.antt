@@ -1,5 +1,5 @@
 use Rattle.glob_walk.specs.Listing.{listing}
-use Rattle.glob_walk.specs.WalkGoals.{WalksSensitively, FindsGoal, FindsExactly, FindsTaken}
+use Rattle.glob_walk.specs.Goal.{FindsGoal, FindsExactly, FindsTaken}
 use Rattle.glob_walk.proofs.GoalLemmas.Clauses.{plain_walk}
 use Rattle.glob.proofs.WalkClauses.{walk_reaches_goal, walk_gives_goal, walk_finds_taken}
 use Rattle.glob.proofs.Beginning.{if_ok, if_err, of_ok, of_err, begun_within, begun_asked, begun_told, begun_walk}
@@ -41,21 +41,21 @@ returns-clause-walk g c = λ t told. if_ok _ _ c.walked.result (λ w b. begun_wa
     (of_ok _ c.glob_in.result b.0 b.1 (c.glob_in.ensures.listing t))) c.walked.ensures.whole
 
 pub returns-clause-goal : goal.returns-clause-goal
-unfolding FindsGoal WalksSensitively
-returns-clause-goal g c = if_ok _ _ c.walked.result (λ w b t plain. walk_reaches_goal t c.args.options
-    c.args.pattern.now c.args.limit _ _ (plain_walk _ t c.args.options c.args.pattern.now plain.0 c.utf8.pattern
-    plain.1 plain.2) _ (begun_walk g.T.Tree.asks g.T.Tree.tells b.0 w.end w.spent w.items.items w.tree b.2 c.args.tree
+unfolding FindsGoal
+returns-clause-goal g c = if_ok _ _ c.walked.result (λ w b t told plain case. walk_reaches_goal t c.args.options
+    c.args.pattern.now c.args.limit _ _ (plain_walk _ t c.args.options c.args.pattern.now told c.utf8.pattern
+    plain case) _ (begun_walk g.T.Tree.asks g.T.Tree.tells b.0 w.end w.spent w.items.items w.tree b.2 c.args.tree
     c.args.limit (of_ok _ c.glob_in.result b.0 b.1 c.glob_in.ensures.tree) (of_ok _ c.glob_in.result b.0 b.1
-    c.glob_in.ensures.fresh) t plain.0 (listing t c.args.options c.args.pattern.now) (of_ok _ c.glob_in.result b.0 b.1
+    c.glob_in.ensures.fresh) t told (listing t c.args.options c.args.pattern.now) (of_ok _ c.glob_in.result b.0 b.1
     (c.glob_in.ensures.listing t)))) c.walked.ensures.whole
 
 pub returns-clause-exact : goal.returns-clause-exact
-unfolding FindsExactly WalksSensitively
-returns-clause-exact g c = if_ok _ _ c.walked.result (λ w b t plain readable done. walk_gives_goal t c.args.options
-    c.args.pattern.now c.args.limit _ _ (plain_walk _ t c.args.options c.args.pattern.now plain.0 c.utf8.pattern
-    plain.1 plain.2) _ (begun_walk g.T.Tree.asks g.T.Tree.tells b.0 w.end w.spent w.items.items w.tree b.2 c.args.tree
+unfolding FindsExactly
+returns-clause-exact g c = if_ok _ _ c.walked.result (λ w b t told plain case readable done. walk_gives_goal t c.args.options
+    c.args.pattern.now c.args.limit _ _ (plain_walk _ t c.args.options c.args.pattern.now told c.utf8.pattern
+    plain case) _ (begun_walk g.T.Tree.asks g.T.Tree.tells b.0 w.end w.spent w.items.items w.tree b.2 c.args.tree
     c.args.limit (of_ok _ c.glob_in.result b.0 b.1 c.glob_in.ensures.tree) (of_ok _ c.glob_in.result b.0 b.1
-    c.glob_in.ensures.fresh) t plain.0 (listing t c.args.options c.args.pattern.now) (of_ok _ c.glob_in.result b.0 b.1
+    c.glob_in.ensures.fresh) t told (listing t c.args.options c.args.pattern.now) (of_ok _ c.glob_in.result b.0 b.1
     (c.glob_in.ensures.listing t))) readable done) c.walked.ensures.whole
 
 pub returns-clause-taken : goal.returns-clause-taken

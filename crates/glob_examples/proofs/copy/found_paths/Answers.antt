@@ -3,7 +3,7 @@ use Rattle.std.proofs.lemmas.List.{map-append}
 use Rattle.std.specs.Path.{path_buf_bytes}
 use Rattle.glob.specs.Answers.{IsTold}
 use Rattle.glob.specs.Content.{Content}
-use Rattle.glob.specs.Goal.{IsSensitiveWalk}
+use Rattle.glob.specs.WalkLaws.{IsSensitiveWalk}
 use Rattle.glob.specs.Listing.{listing}
 use Rattle.glob.specs.Matching.Options.{new_options}
 use Rattle.glob.specs.Text.{Text}

@@ -8,7 +8,7 @@ use Rattle.glob.specs.Types.{End, PatternRefusal}
 use Rattle.glob.specs.Variants.End.{Done, Limit}
 use Rattle.glob.specs.Variants.End as end
 use Rattle.glob.specs.Variants.PatternRefusal.{Syntax, Memory}
-use Rattle.glob.specs.WalkGoals.{Answers}
+use Rattle.glob.specs.Goal.{Answers}
 use Rattle.glob.specs.Walks.{AreItems, IsWalk, RefusesWith}
 use Rattle.glob.proofs.Computing.{computed}
 use Rattle.glob.proofs.WalkLemmas.{done_walk, limited_walk}

@@ -6,12 +6,11 @@ use Rattle.std.specs.Path.{path_buf_bytes}
 use Rattle.glob.specs.Listing.{listing}
 use Rattle.glob.specs.Marks.{items, paths}
 use Rattle.glob.specs.Matching.Options.{new_options}
-use Rattle.glob.specs.Order.{IsOrderly}
+use Rattle.glob.specs.Goal.{IsOrderly, given_items, FindsGoal}
 use Rattle.glob.specs.Variants.End.{Done, Limit}
-use Rattle.glob.specs.WalkGoals.{given_items, WalksSensitively, FindsGoal}
 use Rattle.glob.specs.Walks.{IsWalk}
 use Rattle.glob.proofs.FoundPaths.{AreFound-more, found_items, given_items-are, given_items-found, goal-found, paths-found, paths-listed}
-use Rattle.glob.proofs.WalkLemmas.{walks_sensitively, found_goal, found_in_order, done_walk, limited_walk}
+use Rattle.glob.proofs.WalkLemmas.{found_goal, found_in_order, done_walk, limited_walk}
 use Rattle.glob_examples.specs.WalkFaults.{IsPatternFault}
 use Rattle.glob_walk.proofs.WalkLemmas.Reading.{IfErr-from_known}
 use Rattle.glob_examples.proofs.WalkFaults.{IsMet-answer, IsMet-pattern, IsWalkFault-error, IsWalkFault-pattern}
@@ -72,13 +71,11 @@ returns-clause-files g c = λ content told.
     ap given_items (sym whole) ∙ given_items-found c.loop-item.yielded files c.loop-item.invariant in
     let finds : FindsGoal (g.T.Tree.tells c.args.tree) new_options c.args.pattern.now c.in_ok-walk.walk.end answers =
     subst (λ o. FindsGoal (g.T.Tree.tells c.args.tree) o c.args.pattern.now c.in_ok-walk.walk.end answers) c.new.ensures c.in_ok-walk.ensures.goal in
-    let plain : WalksSensitively (g.T.Tree.tells c.args.tree) content new_options c.args.pattern.now =
-    walks_sensitively _ content new_options c.args.pattern.now told c.in_ok-check_plain.ensures.plain refl in
     let walk : IsWalk ms c.args.limit Done c.in_ok-walk.walk.spent answers =
     rw (c.new.ensures, c.in-Done.is) at (c.in_ok-walk.ensures.walk content told) in
     record {
       exact = goal-found content new_options c.args.pattern.now _ files (c.in_ok-walk.walk.end ≡ Done) given c.in-Done.is
-          (found_goal _ _ _ _ _ finds content plain);
+          (found_goal _ _ _ _ _ finds content told c.in_ok-check_plain.ensures.plain refl);
       orderly = subst (IsOrderly c.args.pattern.now) (ap paths given ∙ paths-found files)
           (found_in_order _ _ _ _ _ c.in_ok-walk.ensures.taken content told c.in_ok-check_plain.ensures.plain);
       listed = paths-listed files ms

@@ -1,5 +1,5 @@
 use Rattle.std.proofs.Common.{[], refl}
-use Rattle.glob_walk.specs.Listing.{listing_of}
+use Rattle.glob_walk.specs.Machines.{listing_of}
 use Rattle.glob_walk.proofs.WalkLemmas.Giving.{given_fresh}
 use Rattle.glob.proofs.paths.Paths.new.Goals as goal
 

@@ -1,6 +1,5 @@
 use Rattle.std.proofs.Common.{◌++◌, refl, ap, sym, ◌∙◌}
-use Rattle.glob_walk.specs.Listing.{listing_of}
-use Rattle.glob_walk.specs.Machines.{left_of}
+use Rattle.glob_walk.specs.Machines.{left_of, listing_of}
 use Rattle.glob_walk.specs.Marks.{items}
 use Rattle.glob_walk.proofs.ListingLemmas.Marks.{items-append}
 use Rattle.glob_walk.proofs.WalkLemmas.Giving.{given_fresh}

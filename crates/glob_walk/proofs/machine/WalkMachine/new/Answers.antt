@@ -1,5 +1,5 @@
 use Rattle.std.proofs.Common.{ap, ◌∙◌}
-use Rattle.glob_walk.specs.Listing.{listing_of}
+use Rattle.glob_walk.specs.Machines.{listing_of}
 use Rattle.glob_walk.proofs.WalkLemmas.Merging.{aim_listing}
 use Rattle.glob_walk.proofs.machine.WalkMachine.new.Goals as goal
 
