@@ -12,6 +12,16 @@
 //! ```
 //!
 //! [`Reason`] has the kinds of lines that are refused, and the error has the number of the first.
+//! [`IgnoreList::lenient`] passes over them, as for a file of somebody else, and has an error for each:
+//!
+//! ```
+//! use cadmiumdove::ignore::IgnoreList;
+//!
+//! let (list, refused) = IgnoreList::lenient("*.o\n[é]\ntarget/\n");
+//! assert!(list.is_ignored("a.o", false) && list.is_ignored("target", true));
+//! assert_eq!(refused[0].to_string(), IgnoreList::new("*.o\n[é]\ntarget/\n").unwrap_err().to_string());
+//! assert_eq!(list.deciding_rule("target", true).map(|rule| rule.line), Some(3));
+//! ```
 //!
 //! Threads and walks share a list by a reference or an `Arc`; a clone is independent:
 //!
@@ -35,39 +45,5 @@ pub use crate::proved::glob_rules::{IgnoreList, Reason, Rule, RuleRefusal};
 impl Default for IgnoreList {
     fn default() -> Self {
         IgnoreList::new("").expect("no line is refused")
-    }
-}
-
-impl IgnoreList {
-    /// The rules of a text without the lines that are refused, and why each of those is, for a file that is not yours.
-    ///
-    /// ```
-    /// use cadmiumdove::ignore::IgnoreList;
-    ///
-    /// let (list, refused) = IgnoreList::lenient("*.o\n[é]\ntarget/\n");
-    /// assert!(list.is_ignored("a.o", false) && list.is_ignored("target", true));
-    /// assert_eq!(refused[0].to_string(), IgnoreList::new("*.o\n[é]\ntarget/\n").unwrap_err().to_string());
-    /// assert_eq!(list.deciding_rule("target", true).map(|rule| rule.line), Some(3));
-    /// ```
-    ///
-    /// <details><summary>Tested</summary>
-    ///
-    /// `refused_lines_are_passed_over` in `tests/beside.rs`.
-    ///
-    /// </details>
-    pub fn lenient(text: &str) -> (Self, Vec<RuleRefusal>) {
-        let (mut kept, mut refused) = (String::new(), Vec::new());
-        for (number, line) in text.split_inclusive('\n').enumerate() {
-            // A byte order mark is passed over only at the start of the text.
-            let alone = if number > 0 { format!("\n{line}") } else { line.to_owned() };
-            match IgnoreList::new(&alone) {
-                Ok(_) => kept.push_str(line),
-                Err(RuleRefusal::Line(_, reason)) => {
-                    refused.push(RuleRefusal::Line(number + 1, reason));
-                    kept.push('\n');
-                }
-            }
-        }
-        (IgnoreList::new(&kept).expect("each line was read"), refused)
     }
 }

@@ -2,7 +2,7 @@
 ghost use Rattle.std.specs.Prelude.{◌≡◌, ◌<◌, ◌≤◌, length, IfOk, IfErr, IfSome, IsOk, OnOk, Bool};
 ghost use Rattle.glob_set.specs.Sets.{AreShort};
 ghost use Rattle.glob_rules.specs.Deciding.{names, last_naming, last_named, naming_rule, ignores, deciding, deciding_rule, is_ignored};
-ghost use Rattle.glob_rules.specs.Lists.{rules_of, RefusesText, AreTaken, rule_options};
+ghost use Rattle.glob_rules.specs.Lists.{refusals_of, rules_of, RefusesText, AreTaken, rule_options};
 
 use crate::error::RuleRefusal;
 use crate::rule::Rule;
@@ -57,9 +57,25 @@ impl<A: Allocator + Copy> IgnoreList<A> {
         ensures taken { IfOk result (λ _. AreTaken text.now) }
         ensures refused { IfErr result (RefusesText text.now) }
     {
-        let (lines, rules, patterns) = Rules::read(alloc, text)?.into_parts();
+        let (list, refusals) = Self::lenient(alloc, text)?;
+        match refusals.into_iter().next() {
+            Some(refusal) => Err(refusal),
+            None => Ok(list),
+        }
+    }
+
+    /// The rules of a text without the lines that are refused, and why each of these is, as for a file of somebody
+    /// else. The lines that are left keep their numbers: of `*.o`, `[é]` and `target/` the last is line 3.
+    ///
+    /// The refusals are [`Line`](RuleRefusal::Line), in the order of lines. The error is a failed allocation.
+    #[tactic(auto, unfolding(crate::specs::Lists::rules_of, crate::specs::Lists::refusals_of))]
+    pub fn lenient(alloc: A, text: &str) -> Result<(Self, Vec<RuleRefusal, A>), AllocError>
+        ensures rules { IfOk result (λ read. read.0 ≡ rules_of text.now) }
+        ensures refusals { IfOk result (λ read. read.1.items ≡ refusals_of text.now) }
+    {
+        let (lines, rules, patterns, refusals) = Rules::read(alloc, text)?.into_parts();
         let set = PatternSet::new(alloc, patterns, rule_options())?;
-        Ok(IgnoreList { lines, rules, set })
+        Ok((IgnoreList { lines, rules, set }, refusals))
     }
 
     /// Whether the list ignores a path, where `is_directory` says that it is a directory. A symbolic link is none. Of

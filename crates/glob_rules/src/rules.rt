@@ -1,49 +1,48 @@
 //! The rules of a text, line by line.
-ghost use Rattle.std.specs.Prelude.{◌≡◌, IfOk, IfErr, OnOk};
-ghost use Rattle.glob_rules.specs.Lines.{line_of};
-ghost use Rattle.glob_rules.specs.Lists.{with_rule, add_line, next_line, rules_of, IsTaken, AreTaken, IsNoPattern, RefusesPattern, RefusesLine, RefusesText, begins_with_mark, without_byte_order_mark};
+ghost use Rattle.std.specs.Prelude.{◌≡◌, if◌then◌else◌, Some, None, IfOk, OnOk};
+ghost use Rattle.glob_rules.specs.Lists.{after_line, begins_with_mark, is_pattern, read_line, settled, text_read, with_refusal, without_byte_order_mark};
+ghost use Rattle.glob_rules.specs.declared.reading.Outcome.TheVariants.{Named, Refused};
 
 use crate::error::{Reason, RuleRefusal};
 use crate::lines::{Line, has};
 use crate::reading::Outcome;
 use crate::rule::Rule;
 use glob_pattern::{Pattern, PatternRefusal};
-use std::alloc::Allocator;
+use std::alloc::{AllocError, Allocator};
 use std::marker::Model;
 use std::str;
 
-/// The rules so far, and their patterns.
+/// The rules so far, their patterns, and a refusal for each line that is refused.
 #[derive(Drop)]
 pub struct Rules<A: Allocator> {
     lines: usize,
     rules: Vec<Rule, A>,
     patterns: Vec<Pattern<A>, A>,
+    refusals: Vec<RuleRefusal, A>,
 }
 
 impl<A: Allocator> Model for Rules<A> {
-    ghost use Rattle.glob_rules.specs.Lists.{Ignores};
+    ghost use Rattle.glob_rules.specs.Lists.{TextRead};
 
-    ghost Value = { Ignores };
+    ghost Value = { TextRead };
 
     ghost view = { λ r. record {
-      lines = r.lines;
-      rules = r.rules.items;
-      patterns = r.patterns.items;
+      list = record { lines = r.lines; rules = r.rules.items; patterns = r.patterns.items };
+      refusals = r.refusals.items;
     } };
 }
 
 impl<A: Allocator + Copy> Rules<A> {
     /// Reads the rules of a text.
-    #[tactic(auto, unfolding(crate::specs::Lists::rules_of))]
-    pub fn read(alloc: A, text: &str) -> Result<Self, RuleRefusal>
-        ensures rules { IfOk result (λ rules. rules ≡ rules_of text.now) }
-        ensures taken { IfOk result (λ _. AreTaken text.now) }
-        ensures refused { IfErr result (RefusesText text.now) }
+    #[tactic(auto, unfolding(crate::specs::Lists::text_read))]
+    pub fn read(alloc: A, text: &str) -> Result<Self, AllocError>
+        ensures { IfOk result (λ rules. rules ≡ text_read text.now) }
     {
         let mut rules = Rules {
             lines: 0,
             rules: Vec::new(alloc),
             patterns: Vec::new(alloc),
+            refusals: Vec::new(alloc),
         };
         let lines = without_byte_order_mark(text);
         for line in lines.split('\n') {
@@ -52,30 +51,28 @@ impl<A: Allocator + Copy> Rules<A> {
         Ok(rules)
     }
 
-    /// Adds the rule of a line, if it has one.
-    #[tactic(auto, unfolding(crate::specs::Lists::add_line))]
-    fn add_line(&mut self, alloc: A, text: &[u8]) -> Result<(), RuleRefusal>
-        ensures rules { OnOk result (self.new ≡ add_line self.old text.now) }
-        ensures taken { OnOk result (IsTaken (line_of text.now)) }
-        ensures refused { IfErr result
-            (RefusesLine (next_line self.old.lines) (line_of text.now)) }
+    /// Adds the rule of a line, if it has one, or its refusal.
+    #[tactic(auto, unfolding(crate::specs::Lists::read_line))]
+    fn add_line(&mut self, alloc: A, text: &[u8]) -> Result<(), AllocError>
+        ensures { OnOk result (self.new ≡ read_line self.old text.now) }
     {
         self.lines = self.lines.saturating_add(1);
         let line = Line::read(alloc, text)?;
         match line.outcome() {
             Outcome::Nothing => Ok(()),
-            Outcome::Refused(reason) => Err(RuleRefusal::Line(self.lines, reason)),
+            Outcome::Refused(reason) => self.refuse(reason),
             Outcome::Named => self.add_rule(alloc, &line),
         }
     }
 
-    /// Adds the rule of the last line.
-    fn add_rule(&mut self, alloc: A, line: &Line<A>) -> Result<(), RuleRefusal>
-        ensures rules { OnOk result (self.new ≡ with_rule self.old.lines self.old line.now) }
-        ensures accepted { OnOk result (¬ (IsNoPattern line.now.glob)) }
-        ensures refused { IfErr result (RefusesPattern self.old.lines line.now.glob) }
+    /// Adds the rule of the last line, or its refusal.
+    fn add_rule(&mut self, alloc: A, line: &Line<A>) -> Result<(), AllocError>
+        ensures { OnOk result (self.new
+            ≡ after_line self.old.list.lines self.old line.now (settled line.now.glob Named)) }
     {
-        let pattern = pattern_of(alloc, line.glob(), self.lines)?;
+        let Some(pattern) = pattern_of(alloc, line.glob())? else {
+            return self.refuse(Reason::Pattern);
+        };
         self.patterns.push(pattern)?;
         self.rules.push(Rule {
             line: self.lines,
@@ -85,31 +82,40 @@ impl<A: Allocator + Copy> Rules<A> {
         Ok(())
     }
 
-    /// Takes it apart: the number of lines, the rules, and their patterns.
-    pub fn into_parts(self) -> (usize, Vec<Rule, A>, Vec<Pattern<A>, A>)
-        ensures lines { result.0 ≡ self.lines }
-        ensures rules { result.1.items ≡ self.rules }
-        ensures patterns { result.2.items ≡ self.patterns }
+    /// Adds the refusal of the last line.
+    fn refuse(&mut self, reason: Reason) -> Result<(), AllocError>
+        ensures list { self.new.list ≡ self.old.list }
+        ensures refusals { OnOk result (self.new.refusals
+            ≡ with_refusal self.old.list.lines self.old.refusals (Refused reason)) }
     {
-        (self.lines, self.rules, self.patterns)
+        self.refusals.push(RuleRefusal::Line(self.lines, reason))?;
+        Ok(())
+    }
+
+    /// Takes it apart: the number of lines, the rules, their patterns, and the refusals.
+    pub fn into_parts(self) -> (usize, Vec<Rule, A>, Vec<Pattern<A>, A>, Vec<RuleRefusal, A>)
+        ensures lines { result.0 ≡ self.list.lines }
+        ensures rules { result.1.items ≡ self.list.rules }
+        ensures patterns { result.2.items ≡ self.list.patterns }
+        ensures refusals { result.3.items ≡ self.refusals }
+    {
+        (self.lines, self.rules, self.patterns, self.refusals)
     }
 }
 
-/// The pattern of the rule in this line.
-fn pattern_of<A: Allocator + Copy>(
-    alloc: A,
-    glob: &[u8],
-    line: usize,
-) -> Result<Pattern<A>, RuleRefusal>
-    ensures pattern { IfOk result (λ p. p ≡ glob.now) }
-    ensures accepted { IfOk result (λ _. ¬ (IsNoPattern glob.now)) }
-    ensures refused { IfErr result (RefusesPattern line glob.now) }
+/// The pattern of the rule in this line, if it is valid.
+fn pattern_of<A: Allocator + Copy>(alloc: A, glob: &[u8]) -> Result<Option<Pattern<A>>, AllocError>
+    ensures { IfOk result (λ pattern.
+        pattern ≡ (if is_pattern glob.now then Some glob.now else None)) }
 {
-    let text = str::from_utf8(glob).map_err(|_| RuleRefusal::Line(line, Reason::Pattern))?;
-    Pattern::new(alloc, text).map_err(|refusal| match refusal {
-        PatternRefusal::Syntax(_) => RuleRefusal::Line(line, Reason::Pattern),
-        PatternRefusal::Memory => RuleRefusal::Memory,
-    })
+    let Ok(text) = str::from_utf8(glob) else {
+        return Ok(None);
+    };
+    match Pattern::new(alloc, text) {
+        Ok(pattern) => Ok(Some(pattern)),
+        Err(PatternRefusal::Syntax(_)) => Ok(None),
+        Err(PatternRefusal::Memory) => Err(AllocError),
+    }
 }
 
 /// The text without its byte order mark.

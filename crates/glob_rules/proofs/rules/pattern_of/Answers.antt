@@ -1,38 +1,22 @@
-use Rattle.std.proofs.Common.{◌≡◌, ℕ, Result, Ok, Err, IfOk, MatchResult, chars, refl, rules}
-use Rattle.glob_text.specs.Text.{Text}
-use Rattle.glob_pattern.specs.Grammar.Faults.{Refuses}
-use Rattle.glob_pattern.specs.declared.error.PatternError.{PatternError}
-use Rattle.glob_pattern.specs.declared.error.PatternRefusal.{PatternRefusal}
-use Rattle.glob_pattern.specs.declared.error.PatternRefusal.TheVariants as pattern
-use Rattle.glob_rules.specs.Lists.{RefusesPattern}
-use Rattle.glob_rules.specs.declared.error.Reason.TheVariants as reasons
-use Rattle.glob_rules.specs.declared.error.RuleRefusal.{RuleRefusal}
-use Rattle.glob_rules.specs.declared.error.RuleRefusal.TheVariants as refusals
-use Rattle.glob_set.proofs.MappedErrors.{IfErr-mapped, IfOk-mapped}
-use Rattle.glob_rules.proofs.LineLemmas.{IsNoPattern-fault}
+use Rattle.std.proofs.Common.{◌≡◌, Some, true, false, ap, refl, ◌∙◌}
+use Rattle.glob_rules.specs.Lists.{is_pattern}
+use Rattle.glob_rules.proofs.LineLemmas.{is_pattern-accepted, is_pattern-fault, is_pattern-none}
 use Rattle.glob_rules.proofs.rules.pattern_of.Goals as goal
 
--- what is said of an answer in both cases, in the first
-IfOk-of : {T E : Type 0} (r : Result T E) (P R : T → Type 0) (Q : E → Type 0) → ((x : T) → P x → R x) → MatchResult r P Q → IfOk r R
-IfOk-of (Ok x) P R Q first h = first x h
-IfOk-of (Err e) P R Q first h = tt
+pub returns-in_default : goal.returns-in_default
+returns-in_default g c =
+    let no : is_pattern c.args.glob.now ≡ false = is_pattern-none c.args.glob.now c.in_default.ensures.cases.0 in rw no refl
 
--- a line is refused as its translation is
-RefusesPattern-of : (line : ℕ) (glob text : Text) (refused : PatternRefusal) (refusal : RuleRefusal) → text ≡ glob
-    → Refuses (chars text) refused
-    → ((e : PatternError) → refused ≡ pattern.Syntax e → refusal ≡ refusals.Line line reasons.Pattern) →
-    (refused ≡ pattern.Memory → refusal ≡ refusals.Memory)
-    → RefusesPattern line glob refusal
-RefusesPattern-of line glob text (pattern.Syntax e) refusal same fault syntax memory =
-    rw (syntax e refl) (refl, refl, IsNoPattern-fault glob text _ same fault)
-RefusesPattern-of line glob text pattern.Memory refusal same fault syntax memory = rw (memory refl) tt
+pub returns-in-Ok-new : goal.returns-in-Ok-new
+returns-in-Ok-new g c =
+    let (same, utf8) = c.in-Ok.ensures.cases in
+    let yes : is_pattern c.args.glob.now ≡ true =
+    is_pattern-accepted c.args.glob.now c.in-Ok.text.now same utf8 c.in-Ok-new.ensures.accepted in
+    rw yes (ap Some (c.in-Ok-new.ensures.text ∙ same))
 
-pub returns-clause-refused : goal.returns-clause-refused
-returns-clause-refused g c =
-    let glob = c.args.glob.now in
-    let text = c.in_ok-text.text.now in
-    let same : text ≡ glob = IfOk-mapped c.from_utf8.result _ (λ e d. ⊥) (λ read. read.now ≡ glob)
-    c.in_ok-text.ensures.cases (IfOk-of c.from_utf8.result _ _ _ (λ read h. h.0) c.from_utf8.ensures.cases) in
-    IfErr-mapped c.new.result c.map_err-2.result _ (Refuses (chars text)) (RefusesPattern c.args.line glob)
-    c.map_err-2.ensures.cases c.new.ensures.refused
-    (λ e d fault made. RefusesPattern-of c.args.line glob text e d same fault (λ error is. search rules) (λ is. search rules))
+pub returns-in-Err-Syntax : goal.returns-in-Err-Syntax
+returns-in-Err-Syntax g c =
+    let fault = rw c.in-Err-Syntax.field-0-is at c.in-Err-Syntax.ensures.refused in
+    let no : is_pattern c.args.glob.now ≡ false =
+    is_pattern-fault c.args.glob.now c.in-Ok.text.now _ c.in-Ok.ensures.cases.0 fault in
+    rw no refl
