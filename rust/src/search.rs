@@ -16,8 +16,8 @@
 //! something in it may still be found: the search above lists `.`, and what is below `src`. A pattern of names alone,
 //! as `src/lib.rs`, is looked up, and lists nothing. A `*` takes no `/`, and `**` takes any number of names.
 //!
-//! A directory that cannot be listed, an ignore file that cannot be read or is refused, and a name that is not UTF-8 are
-//! items with a [`SearchError`]. What cannot be looked up counts as missing.
+//! A directory that cannot be listed, an ignore file that cannot be read, a line of one that is refused, and a name that
+//! is not UTF-8 are items with a [`SearchError`]. What cannot be looked up counts as missing.
 //!
 //! With [`git`](Search::git) and [`Wanted::Others`], a search of `**/*` finds the files that
 //! `git ls-files -co --exclude-standard` prints, if no tracked file is ignored or missing, no repository lies within,
@@ -37,7 +37,7 @@ use std::path::{Path, PathBuf};
 use crate::ignore::IgnoreList;
 pub use crate::proved::glob_search::{NoRuleTexts, RuleTexts, Wanted};
 use crate::proved::glob_search::{Search as Engine, Settings};
-use crate::search_errors::error_of;
+use crate::search_errors::errors_of;
 pub use crate::search_errors::{SearchError, SearchRefusal};
 use crate::set::{braces, strs_of, BraceSetRefusal, SetRefusal};
 use crate::walk::{Disk, Entry, Look, Tree};
@@ -323,8 +323,8 @@ impl Search {
     }
 
     /// Reads the files of these names in each directory that is entered, and leaves out what their rules ignore. The
-    /// deepest file that names a path decides, and in one directory the last of these names. A file with a line that is
-    /// refused is an error in its place, and has no rules.
+    /// deepest file that names a path decides, and in one directory the last of these names. Each line that is refused is
+    /// an error in the place of its file, and has no rule.
     ///
     /// ```
     /// use cadmiumdove::search::Search;
@@ -546,16 +546,16 @@ impl<T: Tree, R: RuleTexts> Iterator for Searching<T, R> {
         if let Some(item) = self.ready.pop_front() {
             return Some(item);
         }
-        let item = self.engine.next(&mut self.tree, &mut self.guide).map(|item| {
-            let found = item.map_err(error_of)?;
-            Ok(Found { path: found.path.into(), is_dir: found.is_dir.unwrap_or(false) })
-        });
+        let item = self.engine.next(&mut self.tree, &mut self.guide);
         // The directories that were listed for this item come before it.
         self.ready.extend((self.passed_over)(&mut self.tree).into_iter().map(Err));
-        if self.ready.is_empty() {
-            return item;
+        match item {
+            Some(Ok(found)) => {
+                self.ready.push_back(Ok(Found { path: found.path.into(), is_dir: found.is_dir.unwrap_or(false) }))
+            }
+            Some(Err(fault)) => self.ready.extend(errors_of(fault).into_iter().map(Err)),
+            None => {}
         }
-        self.ready.extend(item);
         self.ready.pop_front()
     }
 }
