@@ -17,8 +17,8 @@
 //! wildcards, such as `src/lib.rs`, is looked up, and lists nothing. A `*` takes no `/`, and `**` takes any number of
 //! names.
 //!
-//! A path that cannot be looked up, a directory that cannot be listed, an ignore file that cannot be read or is refused,
-//! and a name that is not UTF-8 give items with a [`SearchError`].
+//! A path that cannot be looked up, a directory that cannot be listed, an ignore file that cannot be read, a refused line
+//! of one, and a name that is not UTF-8 give items with a [`SearchError`].
 //!
 //! With [`git`](Search::git) and [`Wanted::Others`], a search of `**/*` finds the files that `git ls-files -co
 //! --exclude-standard` prints, if no tracked file is ignored or missing, there is no repository within, each name is
@@ -342,8 +342,8 @@ impl Search {
     }
 
     /// Reads the files with these names in each directory that is entered, and leaves out what their rules ignore. The
-    /// deepest file that names a path decides, and within one directory the last of these names. A file with a refused
-    /// line gives an error in its place, and has no rules.
+    /// deepest file that names a path decides, and within one directory the last of these names. Each refused line
+    /// gives an error in the place of its file, and is no rule.
     ///
     /// ```
     /// use cadmiumdove::search::Search;

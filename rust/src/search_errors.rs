@@ -5,7 +5,7 @@ use std::fmt;
 use std::io;
 use std::path::{Path, PathBuf};
 
-use crate::ignore::Reason;
+use crate::ignore::{Reason, RuleRefusal};
 use crate::proved::glob_search::SearchFault as Fault;
 use crate::set::{BraceSetRefusal, SetRefusal};
 
@@ -36,7 +36,8 @@ pub enum SearchError {
     Unread(PathBuf, io::Error),
     /// The file with rules at the path could not be read, so its rules do not apply.
     UnreadRules(PathBuf, io::Error),
-    /// A line of the file with rules at the path is refused, so none of its rules applies. Lines are counted from 1.
+    /// A line of the file with rules at the path is refused, so it is no rule; the other lines count. Lines are counted
+    /// from 1.
     RefusedRules(PathBuf, usize, Reason),
     /// The next unit of work does not fit the limit. The search has ended.
     Limit,
@@ -100,13 +101,16 @@ impl Error for SearchError {
     }
 }
 
-/// The error of a search for the fault of the proved one.
-pub(crate) fn error_of(fault: Fault) -> SearchError {
+/// The errors of a search for the fault of the proved one: of a file with rules, one for each line that is refused.
+pub(crate) fn errors_of(fault: Fault) -> Vec<SearchError> {
     match fault {
-        Fault::Unread(path, error) => SearchError::Unread(path.into(), error),
-        Fault::UnreadRules(path, error) => SearchError::UnreadRules(path.into(), error),
-        Fault::RefusedRules(path, line, reason) => SearchError::RefusedRules(path.into(), line, reason),
-        Fault::Limit => SearchError::Limit,
+        Fault::Unread(path, error) => vec![SearchError::Unread(path.into(), error)],
+        Fault::UnreadRules(path, error) => vec![SearchError::UnreadRules(path.into(), error)],
+        Fault::RefusedRules(path, refusals) => refusals
+            .into_iter()
+            .map(|RuleRefusal::Line(line, reason)| SearchError::RefusedRules(path.clone().into(), line, reason))
+            .collect(),
+        Fault::Limit => vec![SearchError::Limit],
     }
 }
 

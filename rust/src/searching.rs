@@ -12,7 +12,7 @@ use std::path::{Path, PathBuf};
 
 use crate::proved::glob_search::{RuleTexts, Search as Engine};
 use crate::search::{Found, SearchError};
-use crate::search_errors::error_of;
+use crate::search_errors::errors_of;
 use crate::walk::{Disk, Entry, Look, Tree};
 
 /// The function that says what is left out.
@@ -82,15 +82,17 @@ impl<T: Tree, R: RuleTexts> Iterator for Searching<T, R> {
 
     fn next(&mut self) -> Option<Self::Item> {
         while self.ready.is_empty() {
-            let item = self.engine.next(&mut self.tree, &mut self.guide).map(|item| {
-                let found = item.map_err(error_of)?;
-                Ok(Found { path: found.path.into(), is_dir: found.is_dir.unwrap_or(false) })
-            });
+            let item = self.engine.next(&mut self.tree, &mut self.guide);
             // The directories that were listed for this item come before it.
             self.ready.extend((self.passed_over)(&mut self.tree).into_iter().map(Err));
             match item {
-                Some(Ok(found)) if !(self.keeps)(&self.tree, &found) => {}
-                Some(item) => self.ready.push_back(item),
+                Some(Ok(found)) => {
+                    let found = Found { path: found.path.into(), is_dir: found.is_dir.unwrap_or(false) };
+                    if (self.keeps)(&self.tree, &found) {
+                        self.ready.push_back(Ok(found));
+                    }
+                }
+                Some(Err(fault)) => self.ready.extend(errors_of(fault).into_iter().map(Err)),
                 None => break,
             }
         }

@@ -221,7 +221,8 @@ fn a_start_that_is_no_directory_is_an_error() {
 /// Errors name paths from the start directory on, and the search goes on after them.
 #[test]
 fn paths_of_errors_are_from_the_start_directory() {
-    let scratch = Scratch::with("paths", &[b"d/e/f", b"g/\xff", b"h/.i", b"h/j"]);
+    let scratch = Scratch::with("paths", &[b"d/e/f", b"g/\xff", b"h/.i", b"h/j", b"h/k"]);
+    // The line that is not refused counts.
     fs::write(scratch.0.join("h/.i"), "j\n[\u{e9}]\n").unwrap();
     // A file of rules that is a directory cannot be read.
     fs::create_dir(scratch.0.join("d/.i")).unwrap();
@@ -237,7 +238,7 @@ fn paths_of_errors_are_from_the_start_directory() {
             }
         }
     }
-    let expected: [&[u8]; 8] = [b"!/d/.i", b"d/.i", b"d/e", b"d/e/f", b"!/g/\xff", b"!/h/.i", b"h/.i", b"h/j"];
+    let expected: [&[u8]; 8] = [b"!/d/.i", b"d/.i", b"d/e", b"d/e/f", b"!/g/\xff", b"!/h/.i", b"h/.i", b"h/k"];
     assert_eq!(paths, expected.map(path));
 }
 

@@ -1,11 +1,12 @@
 -- What a search is asked for: of its patterns, its settings, and the texts of the files with rules.
-use Rattle.std.specs.Prelude.{◌≡◌, Bool, true, not, IsTrue, List, [], ◌∷◌, ◌++◌, map, filter_map, Contains, Option}
+use Rattle.std.specs.Prelude.{◌≡◌, ◌≢◌, Bool, true, not, IsTrue, List, [], ◌∷◌, ◌++◌, map, filter_map, Contains, Option}
 use Rattle.std.specs.Prelude.{Some, IsSome, option_map, string_bytes, fold}
 use Rattle.std.specs.List.{join_with_byte}
 use Rattle.std.specs.Path.{cur_dir}
 use Rattle.glob_text.specs.Characters.{dot, slash}
 use Rattle.glob_text.specs.Text.{Text}
-use Rattle.glob_rules.specs.Lists.{Ignores, rules_of}
+use Rattle.glob_rules.specs.Lists.{Ignores, refusals_of, rules_of}
+use Rattle.glob_rules.specs.declared.error.RuleRefusal.{RuleRefusal}
 use Rattle.glob_tree.specs.Content.{Content, Key, is_dir, is_dir_at, kind_at}
 use Rattle.glob_tree.specs.Paths.{child}
 use Rattle.glob_search.specs.Searching.{Aim}
@@ -55,3 +56,14 @@ pub record AreTextsOf (c : Content) (a : Aim) (files : List Text) (known : Text 
   pub rules : (directory : Key) → a.rules_in directory ≡ rules_from known files directory
   pub held : (directory : Key) (file : Text) → IsTrue (is_dir_at c (c.current ++ directory)) → Contains files file
       → IsSome (known (path_of (directory ++ file ∷ []))) → IsSome (kind_at c (c.current ++ (directory ++ file ∷ [])))
+
+-- These are the refusals of lines, and there are some, of the text of a file with rules at this path.
+pub record AreRefused (known : Text → Option Text) (files : List Text) (path : Text) (refusals : List RuleRefusal) : Type 0 where
+  pub directory : Key
+  pub file : Text
+  pub named : Contains files file
+  pub at : path ≡ path_of (directory ++ file ∷ [])
+  pub text : Text
+  pub held : known path ≡ Some text
+  pub all : refusals ≡ refusals_of text
+  pub some : refusals ≢ []

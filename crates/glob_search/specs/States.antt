@@ -6,7 +6,8 @@ use Rattle.std.specs.Option.{ForSome}
 use Rattle.std.specs.declared.cmp.Ordering.TheVariants.{Less}
 use Rattle.glob_text.specs.Text.{Text}
 use Rattle.glob_tree.specs.Content.{Content, Key, is_dir_at}
-use Rattle.glob_search.specs.Aims.{path_down, path_of}
+use Rattle.glob_rules.specs.declared.error.RuleRefusal.{RuleRefusal}
+use Rattle.glob_search.specs.Aims.{AreRefused, path_down, path_of}
 use Rattle.glob_search.specs.Laws.{key_cmp}
 use Rattle.glob_search.specs.Searching.{Aim}
 use Rattle.glob_search.specs.Visiting.{Gift, Found, Unread}
@@ -15,12 +16,12 @@ use Rattle.glob_search.specs.declared.fault.SearchFault.TheVariants as fault
 use Rattle.glob_search.specs.declared.found.Found.{Found as FoundPath}
 
 -- How far a search has come is its own affair, of a type of its own. What a caller knows of it is what is left of the
--- gifts over a content, and whether the answers so far agree with that content. Over any tree, each path that is still
+-- gifts over a content, and whether the answers so far agree with that content and the known texts of files. Over any tree, each path that is still
 -- to be found comes after the names that the search is past.
 pub record Progress : Type 1 where
   pub State : Type 0
   pub left : Content → Aim → State → List Gift
-  pub Agrees : Content → Aim → State → Type 0
+  pub Agrees : Content → Aim → (known : Text → Option Text) → State → Type 0
   pub IsPast : Key → State → Type 0
 
 -- what contracts see of a search
@@ -45,37 +46,46 @@ pub record IsBegun {P : Progress} (limit depth : ℕ) (names : List Text) (s : S
   pub levels : s.levels ≡ 0
   pub files : s.files ≡ names
 
--- Over a content that has answered so: these gifts were given, and the others of all gifts are left.
-pub record HasGiven {P : Progress} (all : List Gift) (c : Content) (a : Aim) (given : List Gift) (s : SearchState P) : Type 0 where
-  pub agrees : P.Agrees c a s.state
+-- Over a content and texts that have answered so: these gifts were given, and the others of all gifts are left.
+pub record HasGiven {P : Progress} (all : List Gift) (c : Content) (a : Aim) (known : Text → Option Text) (given : List Gift)
+    (s : SearchState P) : Type 0 where
+  pub agrees : P.Agrees c a known s.state
   pub upto : all ≡ given ++ P.left c a s.state
 
 -- The path is that of the next gift, and its kind the content's, if it was learned.
-pub record GivesFound {A : Type 0} {P : Progress} (all : List Gift) (c : Content) (a : Aim) (given : List Gift)
-    (found : FoundPath A) (s : SearchState P) : Type 0 where
+pub record GivesFound {A : Type 0} {P : Progress} (all : List Gift) (c : Content) (a : Aim) (known : Text → Option Text)
+    (given : List Gift) (found : FoundPath A) (s : SearchState P) : Type 0 where
   pub names : Key
   pub path : string_bytes found.path ≡ path_of names
   pub kind : ForSome found.is_dir (λ d. d ≡ is_dir_at c (c.current ++ names))
-  pub goes : HasGiven all c a (given ++ Found names ∷ []) s
+  pub goes : HasGiven all c a known (given ++ Found names ∷ []) s
 
 -- The next gift is a directory that cannot be listed, with its error.
-pub record GivesUnread {P : Progress} (all : List Gift) (c : Content) (a : Aim) (given : List Gift) (text : Text)
-    (kind : ErrorKind) (s : SearchState P) : Type 0 where
+pub record GivesUnread {P : Progress} (all : List Gift) (c : Content) (a : Aim) (known : Text → Option Text)
+    (given : List Gift) (text : Text) (kind : ErrorKind) (s : SearchState P) : Type 0 where
   pub names : Key
   pub path : text ≡ path_of names
-  pub goes : HasGiven all c a (given ++ Unread names kind ∷ []) s
+  pub goes : HasGiven all c a known (given ++ Unread names kind ∷ []) s
 
--- What a further call makes of it: nothing is left, or the next gift is given. After a fault of a file with rules the
--- search goes on by other rules, and at the limit or out of memory it ends.
-abbrev pub GivesNext : {A : Type 0} {P : Progress} → (all : List Gift) → Content → Aim → (given : List Gift)
-    → Option (Result (FoundPath A) (SearchFault A)) → SearchState P → Type 0
-GivesNext all c a given None s = all ≡ given
-GivesNext all c a given (Some (Ok found)) s = GivesFound all c a given found s
-GivesNext all c a given (Some (Err (fault.Unread path e))) s = GivesUnread all c a given (string_bytes path) (error_kind e) s
-GivesNext all c a given (Some (Err (fault.UnreadRules path e))) s = ⊤
-GivesNext all c a given (Some (Err (fault.RefusedRules path line reason))) s = ⊤
-GivesNext all c a given (Some (Err fault.Limit)) s = ⊤
-GivesNext all c a given (Some (Err fault.Memory)) s = ⊤
+-- Lines of a file with rules are refused. The search goes on by the rules of the others.
+pub record GivesRefused {P : Progress} (all : List Gift) (c : Content) (a : Aim) (known : Text → Option Text)
+    (given : List Gift) (path : Text) (refusals : List RuleRefusal) (s : SearchState P) : Type 0 where
+  pub refused : AreRefused known s.files path refusals
+  pub goes : HasGiven all c a known given s
+
+-- What a further call makes of it: nothing is left, the next gift is given, or lines of a file with rules are refused.
+-- At the limit or out of memory the search ends. Each file with rules can be read, since its text is known.
+abbrev pub GivesNext : {A : Type 0} {P : Progress} → (all : List Gift) → Content → Aim → (known : Text → Option Text)
+    → (given : List Gift) → Option (Result (FoundPath A) (SearchFault A)) → SearchState P → Type 0
+GivesNext all c a known given None s = all ≡ given
+GivesNext all c a known given (Some (Ok found)) s = GivesFound all c a known given found s
+GivesNext all c a known given (Some (Err (fault.Unread path e))) s =
+    GivesUnread all c a known given (string_bytes path) (error_kind e) s
+GivesNext all c a known given (Some (Err (fault.UnreadRules path e))) s = ⊥
+GivesNext all c a known given (Some (Err (fault.RefusedRules path refusals))) s =
+    GivesRefused all c a known given (string_bytes path) refusals.items s
+GivesNext all c a known given (Some (Err fault.Limit)) s = ⊤
+GivesNext all c a known given (Some (Err fault.Memory)) s = ⊤
 
 -- each path that is still to be found comes after these names
 abbrev pub IsPast : {P : Progress} → (past : Key) → SearchState P → Type 0

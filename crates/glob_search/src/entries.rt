@@ -1,11 +1,11 @@
 //! What a directory has.
-ghost use Rattle.std.specs.Prelude.{◌≡◌, ℕ, ◌+◌, ◌≤◌, ◌++◌, List, IfOk, IfErr, OnOk, IsTrue, IsPermutation, IsSome, if◌then◌else◌, false, is_some, map, option_map, string_bytes, vec_len};
+ghost use Rattle.std.specs.Prelude.{◌≡◌, ℕ, ◌+◌, ◌≤◌, ◌++◌, List, IfOk, IfErr, OnOk, IsTrue, IsPermutation, IsSome, if◌then◌else◌, true, false, is_some, map, option_map, string_bytes, vec_len};
 ghost use Rattle.std.specs.Option.{ForSome};
 ghost use Rattle.glob_tree.specs.Answers.{IsListError, IsTold, entries_of, names_of};
 ghost use Rattle.glob_tree.specs.Content.{Content, Key, children, is_content, is_dir_at, list_result, look_result};
 ghost use Rattle.glob_search.specs.Aims.{path_of};
 ghost use Rattle.glob_search.specs.Searching.{Aim, is_listed};
-ghost use Rattle.glob_search.specs.Private.Faults.{is_unread};
+ghost use Rattle.glob_search.specs.Private.Faults.{is_last};
 ghost use Rattle.glob_search.specs.Private.Listings.{AreFalling, AreLookedUp, IsListed, IsSourceAnswer, looked, names_down};
 ghost use Rattle.glob_search.specs.Private.Nodes.{AreAlive, AreBeginnings};
 
@@ -28,7 +28,7 @@ pub fn look_at<A: Allocator + Copy, T: Tree<Alloc = A>>(
     ensures content { T.tells tree.new ≡ T.tells tree.old }
     ensures seen { (c : Content) → IsTold (T.tells tree.old) c
         → IfOk result (λ seen. seen ≡ look_result c path.now) }
-    ensures other { IfErr result (λ fault. is_unread fault ≡ false) }
+    ensures last { IfErr result (λ fault. is_last fault ≡ true) }
 {
     meter.charge(1)?;
     Ok(tree.look(path)?)
@@ -53,7 +53,7 @@ pub fn look_up<A: Allocator + Copy, T: Tree<Alloc = A>>(
         → AreAlive beginnings.now names opening.now.alive.items → is_listed a names ≡ false
         → IfOk result (λ entries. AreLookedUp c a names (entries_of entries.items)) }
     ensures falls { IfOk result (λ entries. AreFalling entries.items) }
-    ensures other { IfErr result (λ fault. is_unread fault ≡ false) }
+    ensures last { IfErr result (λ fault. is_last fault ≡ true) }
 {
     let mut names = beginnings.literal_names(opening.alive.as_slice())?;
     let mut entries = Vec::new(alloc);
@@ -83,7 +83,7 @@ fn entry_at<A: Allocator + Copy, T: Tree<Alloc = A>>(
         → IfOk result (λ entry.
         option_map (λ e. (e.name, e.is_dir)) entry ≡ looked c names name.now) }
     ensures named { IfOk result (λ entry. ForSome entry (λ e. e.name ≡ name.now)) }
-    ensures other { IfErr result (λ fault. is_unread fault ≡ false) }
+    ensures last { IfErr result (λ fault. is_last fault ≡ true) }
 {
     let Ok(name) = Name::new(String::from_str(alloc, name)?) else {
         return Ok(None);

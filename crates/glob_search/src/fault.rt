@@ -2,7 +2,7 @@
 ghost use Rattle.std.specs.Prelude.{◌≡◌, None};
 
 use crate::meter::OverLimit;
-use glob_rules::Reason;
+use glob_rules::RuleRefusal;
 use std::alloc::{AllocError, AllocFailed, Allocator, Global};
 use std::error::Error;
 use std::{fmt, io};
@@ -15,8 +15,9 @@ pub enum SearchFault<A: Allocator = Global> {
     Unread(String<A>, io::Error),
     /// The file with rules at the path could not be read, so its rules are not heard.
     UnreadRules(String<A>, io::Error),
-    /// A line of the file with rules at the path is refused, so none of its rules is heard.
-    RefusedRules(String<A>, usize, Reason),
+    /// Lines of the file with rules at the path are refused: these are their refusals. The rules of its other lines are
+    /// heard.
+    RefusedRules(String<A>, Vec<RuleRefusal, A>),
     /// The next unit of work does not fit the limit. The search has ended.
     Limit,
     /// Out of memory: an allocation failed. The search has ended.
@@ -47,8 +48,13 @@ impl<A: Allocator> fmt::Display for SearchFault<A> {
             SearchFault::Unread(path, error) | SearchFault::UnreadRules(path, error) => {
                 write!(f, "{path}: {error}")
             }
-            SearchFault::RefusedRules(path, line, reason) => {
-                write!(f, "{path}: line {line}: {reason}")
+            SearchFault::RefusedRules(path, refusals) => {
+                f.write_str(path.as_str())?;
+                for (number, refusal) in refusals.iter().enumerate() {
+                    f.write_str(if number == 0 { ": " } else { "; " })?;
+                    write!(f, "{refusal}")?;
+                }
+                Ok(())
             }
             SearchFault::Limit => f.write_str("search limit reached"),
             SearchFault::Memory => f.write_str("out of memory"),

@@ -1,5 +1,6 @@
 //! Where the texts of ignore files come from.
-ghost use Rattle.std.specs.Prelude.{◌≡◌, ℕ, List, Option, None, Some, IfOk, false, option_map, string_bytes};
+ghost use Rattle.std.specs.Prelude.{◌≡◌, ℕ, List, Option, None, Some, IfOk, IfErr, false, option_map, string_bytes};
+ghost use Rattle.glob_tree.specs.declared.tree.ListError.TheVariants.{Memory};
 
 use glob_tree::ListError;
 use std::alloc::{AllocError, Allocator, Global};
@@ -13,11 +14,13 @@ pub trait RuleTexts: Drop {
     ghost texts: { Self → Option (List ℕ → Option (List ℕ)) };
 
     /// The text of the file at a path, as `src/.gitignore`, or `None` where there is no file. The error says why it
-    /// cannot be read.
+    /// cannot be read. Where the texts are known, each can be.
     fn text(&mut self, path: &str) -> Result<Option<String<Self::Alloc>>, ListError>
         ensures kept { texts self.new ≡ texts self.old }
         ensures text { (known : List ℕ → Option (List ℕ)) → texts self.old ≡ Some known
-            → IfOk result (λ text. option_map (λ t. string_bytes t) text ≡ known path.now) };
+            → IfOk result (λ text. option_map (λ t. string_bytes t) text ≡ known path.now) }
+        ensures fails { (known : List ℕ → Option (List ℕ)) → texts self.old ≡ Some known
+            → IfErr result (λ e. e ≡ Memory) };
 
     /// Whether a path is left out, and all below it, that no rule ignores. It is asked for each path that is found or
     /// entered. `is_dir` is `false` where the kind was not learned, which happens only without

@@ -50,7 +50,7 @@ impl<A: Allocator + Copy> Search<A> {
         ensures fresh { IfOk result (λ search. (c : Content) (known : Text → Option Text)
             → IsTrue (is_content c)
             → let a = aim_of (map (λ p. p.now) patterns.now) settings known in
-            HasGiven (gifts c a) c a [] search) }
+            HasGiven (gifts c a) c a known [] search) }
         ensures past { IfOk result (λ search. IsPast [] search) }
     {
         let searcher = Searcher::new(alloc, patterns, settings)?;
@@ -61,7 +61,8 @@ impl<A: Allocator + Copy> Search<A> {
     ///
     /// Where the content of the tree and the texts of the files with rules are known, the paths and the directories that
     /// cannot be listed are exactly those that the search has to give, one after another, and `None` comes after the last.
-    /// After a file with rules that cannot be read or is refused the search goes on by other rules.
+    /// Where lines of a file with rules are refused, the search goes on by its other lines, and after a file that cannot
+    /// be read by other files.
     pub fn next<T: Tree<Alloc = A>, R: RuleTexts<Alloc = A>>(
         &mut self,
         tree: &mut T,
@@ -77,8 +78,8 @@ impl<A: Allocator + Copy> Search<A> {
         ensures gives { (c : Content) (a : Aim) (known : Text → Option Text)
             → IsTold (T.tells tree.old) c → R.texts texts.old ≡ Some known
             → AreTextsOf c a self.old.files known
-            → (all given : List Gift) → HasGiven all c a given self.old
-            → GivesNext all c a given result self.new }
+            → (all given : List Gift) → HasGiven all c a known given self.old
+            → GivesNext all c a known given result self.new }
         ensures ascends { (past : Key) → IsPast past self.old → GoesAfter past result self.new }
     {
         self.searcher.next(tree, texts)

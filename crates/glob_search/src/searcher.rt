@@ -6,7 +6,7 @@ ghost use Rattle.std.specs.Prelude.{◌≡◌, ℕ, suc, ◌+◌, ◌≤◌, ◌
 ghost use Rattle.std.specs.Option.{ForSome};
 ghost use Rattle.std.specs.List.{list_all};
 ghost use Rattle.glob_text.specs.Text.{Text};
-ghost use Rattle.glob_rules.specs.Lists.{rules_of};
+ghost use Rattle.glob_rules.specs.Lists.{refusals_of, rules_of};
 ghost use Rattle.glob_tree.specs.Answers.{IsTold};
 ghost use Rattle.glob_tree.specs.Content.{Content, Key, is_content, is_dir, kind_found};
 ghost use Rattle.glob_tree.specs.Paths.{is_proper};
@@ -15,7 +15,7 @@ ghost use Rattle.glob_search.specs.Aims.{AreTextsOf, aim_of, files_of, path_of, 
 ghost use Rattle.glob_search.specs.Searching.{Aim, is_ignored};
 ghost use Rattle.glob_search.specs.Visiting.{Gift, gifts};
 ghost use Rattle.glob_search.specs.Private.Engine.{AreAnswers, GoesOn, HasWork, IsKindless, IsReading, Turns, file_names, found_if, work_left};
-ghost use Rattle.glob_search.specs.Private.Faults.{is_last, is_unread};
+ghost use Rattle.glob_search.specs.Private.Faults.{is_last};
 ghost use Rattle.glob_search.specs.Private.Hearing.{Hears};
 ghost use Rattle.glob_search.specs.Private.Order.{IsPastSearch, IsPastWork, TurnsLater};
 ghost use Rattle.glob_search.specs.Private.Steps.{MayEnter};
@@ -65,7 +65,7 @@ impl<A: Allocator + Copy> Searcher<A> {
         ensures fresh { IfOk result (λ s. (c : Content) (known : Text → Option Text)
             → IsTrue (is_content c)
             → let a = aim_of (map (λ p. p.now) patterns.now) settings known in
-            HasGiven (gifts c a) c a [] (state_of s)) }
+            HasGiven (gifts c a) c a known [] (state_of s)) }
         ensures past { IfOk result (λ s. IsPastSearch [] s) }
     {
         let Settings {
@@ -118,8 +118,8 @@ impl<A: Allocator + Copy> Searcher<A> {
         ensures texts { R.texts texts.new ≡ R.texts texts.old }
         ensures gives { (c : Content) (a : Aim) (known : Text → Option Text)
             → AreAnswers (T.tells tree.old) (R.texts texts.old) (file_names self.old) c a known
-            → (all given : List Gift) → HasGiven all c a given (state_of self.old)
-            → GivesNext all c a given result (state_of self.new) }
+            → (all given : List Gift) → HasGiven all c a known given (state_of self.old)
+            → GivesNext all c a known given result (state_of self.new) }
         ensures ascends { (past : Key) → IsPastSearch past self.old
             → GoesAfter past result (state_of self.new) }
     {
@@ -252,7 +252,7 @@ impl<A: Allocator + Copy> Searcher<A> {
             → IfOk result (λ learned. ForSome learned (λ d. d ≡ is_dir kind)) }
         ensures matters { IfOk result
             (λ learned. learned ≡ None → (goes_on ≡ false) × IsKindless self.old) }
-        ensures other { IfErr result (λ fault. is_unread fault ≡ false) }
+        ensures last { IfErr result (λ fault. is_last fault ≡ true) }
     {
         if known.is_some() || (!goes_on && !self.needs_kinds()) {
             return Ok(known);
@@ -296,7 +296,6 @@ impl<A: Allocator + Copy> Searcher<A> {
             (string_bytes path) alive.items self.old.way self.new.way) }
         ensures finds { IfOk result (λ found. found ≡ found_if
             (is_found && wants self.old.wanted (unwrap_or is_dir false)) path is_dir) }
-        ensures other { IfErr result (λ fault. is_unread fault ≡ false) }
         ensures last { IfErr result (λ fault. is_last fault ≡ true) }
     {
         let enters = is_dir.unwrap_or(false);
@@ -342,33 +341,39 @@ impl<A: Allocator + Copy> Searcher<A> {
         };
         let path = child(self.alloc, frame.path.as_str(), name.as_str())?;
         let above = path.len().saturating_sub(name.len());
-        if let Some(list) = read_list(self.alloc, texts, path)? {
-            self.heard.files.push(FileRules { above, list })?;
+        let Some((list, refusals)) = read_list(self.alloc, texts, path.as_str())? else {
+            return Ok(());
+        };
+        self.heard.files.push(FileRules { above, list })?;
+        if refusals.is_empty() {
+            return Ok(());
         }
-        Ok(())
+        Err(SearchFault::RefusedRules(path, refusals))
     }
 }
 
-/// The rules of the file at a path, if there is one.
+/// The rules of the file at a path, if there is one, and the refusals of its lines.
 fn read_list<A: Allocator + Copy, R: RuleTexts<Alloc = A>>(
     alloc: A,
     texts: &mut R,
-    path: String<A>,
-) -> Result<Option<IgnoreList<A>>, SearchFault<A>>
+    path: &str,
+) -> Result<Option<(IgnoreList<A>, Vec<RuleRefusal, A>)>, SearchFault<A>>
     ensures texts { R.texts texts.new ≡ R.texts texts.old }
     ensures list { (known : Text → Option Text) → R.texts texts.old ≡ Some known
-        → IfOk result (λ list. list ≡ option_map rules_of (known (string_bytes path))) }
-    ensures other { IfErr result (λ fault. is_unread fault ≡ false) }
+        → IfOk result (λ read. option_map (λ r. r.0) read ≡ option_map rules_of (known path.now)) }
+    ensures refusals { (known : Text → Option Text) → R.texts texts.old ≡ Some known
+        → IfOk result
+        (λ read. option_map (λ r. r.1.items) read ≡ option_map refusals_of (known path.now)) }
+    ensures last { (known : Text → Option Text) → R.texts texts.old ≡ Some known
+        → IfErr result (λ fault. is_last fault ≡ true) }
 {
-    let text = match texts.text(path.as_str()) {
+    let text = match texts.text(path) {
         Ok(Some(text)) => text,
         Ok(None) => return Ok(None),
-        Err(ListError::Read(error)) => return Err(SearchFault::UnreadRules(path, error)),
+        Err(ListError::Read(error)) => {
+            return Err(SearchFault::UnreadRules(String::from_str(alloc, path)?, error));
+        }
         Err(ListError::Memory) => return Err(SearchFault::Memory),
     };
-    match IgnoreList::new(alloc, text.as_str()) {
-        Ok(list) => Ok(Some(list)),
-        Err(RuleRefusal::Line(line, reason)) => Err(SearchFault::RefusedRules(path, line, reason)),
-        Err(RuleRefusal::Memory) => Err(SearchFault::Memory),
-    }
+    Ok(Some(IgnoreList::lenient(alloc, text.as_str())?))
 }

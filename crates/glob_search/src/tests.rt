@@ -191,7 +191,7 @@ fn found_by(alloc: Global, row: &Row, tree: &mut Counted) -> Result<String, Allo
             Ok(hit) => found.push_str(hit.path.as_str())?,
             Err(SearchFault::Unread(path, _))
             | Err(SearchFault::UnreadRules(path, _))
-            | Err(SearchFault::RefusedRules(path, _, _)) => {
+            | Err(SearchFault::RefusedRules(path, _)) => {
                 found.push('!')?;
                 found.push_str(path.as_str())?;
             }

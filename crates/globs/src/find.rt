@@ -230,13 +230,11 @@ where
         }
     };
     let end = options.settings.end;
-    let status = run_search(
-        alloc, search, &mut tree, &mut texts, heeds, end, output, errors,
-    );
+    let status = run_search(alloc, search, &mut tree, &mut texts, end, output, errors);
     if has_fault { FAULT } else { status }
 }
 
-/// A search that has not begun, and whether some of its last rules could not be read.
+/// A search that has not begun, and whether some of its last rules could not be read or are refused.
 fn begin<'a, A, X, E>(
     alloc: A,
     texts: &mut X,
@@ -254,9 +252,9 @@ where
     ensures fault { IfOk result (λ begun. options.now.settings.is_git ≡ false
         → begun.1 ≡ false) }
     ensures fresh { (c : Content) (text_at : Text → Option Text) → is_content c ≡ true
-        → X.texts texts.old ≡ Some text_at → IfOk result (λ begun. begun.1 ≡ false
-        → let a = aim options.now list (map (λ p. p.now) patterns.now) text_at in
-        HasGiven (gifts c a) c a [] begun.0) }
+        → X.texts texts.old ≡ Some text_at → IfOk result (λ begun.
+        let a = aim options.now list (map (λ p. p.now) patterns.now) text_at in
+        HasGiven (gifts c a) c a text_at [] begun.0) }
 {
     let LastRules { lists, has_fault } = last_rules(alloc, options.settings.is_git, texts, errors)?;
     let settings = settings_of(alloc, options, list, lists)?;

@@ -94,8 +94,8 @@ component, . or .., is refused.
 
 Nothing is skipped by default: neither names that begin with a . (see -d), nor what .gitignore
 names (--git), nor .git (-x .git). Rules of -x and --ignore come before those of --ignore-files and
---git: -x '!a.o' finds a.o. A file of these two that cannot be read or has a refused line is
-reported, and the search goes on without its rules.
+--git: -x '!a.o' finds a.o. A file of these two that cannot be read is reported, and so is each of
+its lines that is refused. The search goes on by all other lines.
 
 Each path that one of the patterns matches is written once, in ascending byte order of its names.
 A directory is listed only where something in it may still be found: 'src/*.c' 'lib/**' lists src,
@@ -108,7 +108,7 @@ Status:
   1         no path was found
   2         a fault, a directory that could not be listed, a path that could not be looked up, a
             name that is not UTF-8, ignored or not, a link that leads back, a file of rules that
-            could not be read or is refused, or the limit
+            could not be read or has a line that is refused, or the limit
 ";
 
 /// The page of `match`.

@@ -2,10 +2,9 @@
 use Rattle.std.proofs.Common.{◌≡◌, ◌≢◌, Bool, true, false, not, ◌&&◌, ⊎_elim, List, [], ◌∷◌, ◌++◌, flat_map, map}
 use Rattle.std.proofs.Common.{Option, Some, None, Result, Ok, Err, refl, ap, sym, subst, ◌∙◌, arith}
 use Rattle.std.specs.Prelude.{Contains, IfErr, IfOk, Vec, filter_map, option_map, reverse}
-use Rattle.std.specs.List.{All, list_all, list_any}
-use Rattle.std.specs.Option.{ForSome}
+use Rattle.std.specs.List.{list_all, list_any}
 use Rattle.std.specs.Str.{chars, IsUtf8}
-use Rattle.std.proofs.lemmas.Bool.{and_parts, and_right, both_ways, false_from_ne_true, not-false, not-true}
+use Rattle.std.proofs.lemmas.Bool.{and_parts, and_right, false_from_ne_true, not-false, not-true}
 use Rattle.std.proofs.lemmas.List.{append_assoc, reverse-reverse}
 use Rattle.std.proofs.lemmas.List.Elements.{All-contains}
 use Rattle.std.proofs.lemmas.Option.{same_Some}
@@ -17,19 +16,18 @@ use Rattle.glob_pattern.specs.Grammar.Characters.{is_wildcard}
 use Rattle.glob_tree.specs.Answers.{entries_of, names_of}
 use Rattle.glob_tree.specs.Content.{Content, DirEntry, Key, children, is_dir, is_dir_at, kind_at, sorted_entries}
 use Rattle.glob_tree.specs.declared.kind.Kind.{Kind}
-use Rattle.glob_tree.specs.declared.kind.Kind.TheVariants.{Dir, Shut}
 use Rattle.glob_tree.specs.declared.tree.Entry.{Entry}
 use Rattle.glob_tree.proofs.ContentLemmas.Contents.{IsContent, IsChild-list_result, listed_child}
 use Rattle.glob_tree.proofs.ContentLemmas.Membership.{All-from_contains, Contains-cases, Contains-filter_map}
-use Rattle.glob_tree.proofs.ContentLemmas.Membership.{Contains-head, Contains-nil, Contains-tail, filter_map-contains}
+use Rattle.glob_tree.proofs.ContentLemmas.Membership.{Contains-nil, Contains-tail, filter_map-contains}
 use Rattle.glob_tree.proofs.ContentLemmas.Membership.{list_all-contains}
 use Rattle.glob_tree.proofs.ContentLemmas.Sorting.{Contains-sorted_entries, IsRising-sorted_entries, children_apart}
 use Rattle.glob_tree.proofs.ContentLemmas.Sorting.{sorted_entries-contains}
-use Rattle.glob_search.specs.Searching.{Aim, alive, beginnings_from, components, ends_recursive, takes, is_closed}
+use Rattle.glob_search.specs.Searching.{Aim, alive, beginnings_from, components, ends_recursive, takes}
 use Rattle.glob_search.specs.Searching.{is_listed, is_named, is_shut}
 use Rattle.glob_search.specs.Private.Engine.{AreEntries, EntriesGive, FitsSource}
-use Rattle.glob_search.specs.Private.Faults.{is_unread}
-use Rattle.glob_search.specs.Private.Listings.{AreListed, AreLookedUp, IsEntry, IsListed, looked, names_down}
+use Rattle.glob_search.specs.Private.Faults.{is_last}
+use Rattle.glob_search.specs.Private.Listings.{AreLookedUp, IsEntry, IsListed, looked}
 use Rattle.glob_search.specs.Private.Nodes.{AreBeginnings, AreNames, folded}
 use Rattle.glob_search.specs.Private.Ways.{entries_left, met, visited}
 use Rattle.glob_search.specs.declared.beginnings.Beginnings.{Beginnings}
@@ -41,7 +39,7 @@ use Rattle.glob_search.proofs.BeginningLemmas.Keys.{literal-folded}
 use Rattle.glob_search.proofs.EngineLemmas.Lasts.{map-reverse}
 use Rattle.glob_search.proofs.EngineLemmas.LookedUp.{filter_map-reverse, rises-kept, some-give}
 use Rattle.glob_search.proofs.EngineLemmas.Ordered.{names-back}
-use Rattle.glob_search.proofs.EngineLemmas.Rising.{Rises, rises-from_pairs, rises-names}
+use Rattle.glob_search.proofs.EngineLemmas.Rising.{rises-from_pairs, rises-names}
 use Rattle.glob_search.proofs.EngineLemmas.Visits.{visited-entries, visited-shut}
 use Rattle.glob_search.proofs.OrderLemmas.Named.{only_named_give}
 use Rattle.glob_search.proofs.OrderLemmas.Parts.{Contains-filter, Contains-flat_map, Contains-map, list_any-some, map-contains}
@@ -105,8 +103,8 @@ module _ (c : Content) (w : IsContent c) (a : Aim) (names : Key) (there : is_dir
       listed LookedUp known fits = absurd (known refl)
       listed Listed known fits = fits
       listed Named known fits = fits
-  gives-listed source path (Err (fault.UnreadRules text e)) known fits l = tt
-  gives-listed source path (Err (fault.RefusedRules text line reason)) known fits l = tt
+  gives-listed source path (Err (fault.UnreadRules text e)) known fits l = absurd l
+  gives-listed source path (Err (fault.RefusedRules text refusals)) known fits l = absurd l
   gives-listed source path (Err fault.Limit) known fits l = tt
   gives-listed source path (Err fault.Memory) known fits l = tt
 
@@ -186,12 +184,12 @@ module _ (c : Content) (w : IsContent c) (a : Aim) (names : Key) (there : is_dir
 pub found-looked_up : {A : Type 0} (c : Content) → IsContent c → (a : Aim) (names : Key) → is_dir_at c
     (c.current ++ names) ≡ true → (b : Beginnings A) → AreBeginnings a.options a.patterns b
     → is_listed a names ≡ false → (path : Text) (r : Result (Vec (Entry A) A) (SearchFault A)) → IfOk r
-    (λ es. AreLookedUp c a names (entries_of es.items)) → IfErr r (λ f. is_unread f ≡ false)
+    (λ es. AreLookedUp c a names (entries_of es.items)) → IfErr r (λ f. is_last f ≡ true)
     → EntriesGive c a names LookedUp path r
 found-looked_up c w a names there b begins unlisted path (Ok es) found other = gives-looked_up c w a names there b
     begins unlisted found.texts found.all es.items found.seen
 found-looked_up c w a names there b begins unlisted path (Err (fault.Unread text e)) found other = absurd (cc)
-found-looked_up c w a names there b begins unlisted path (Err (fault.UnreadRules text e)) found other = tt
-found-looked_up c w a names there b begins unlisted path (Err (fault.RefusedRules text line reason)) found other = tt
+found-looked_up c w a names there b begins unlisted path (Err (fault.UnreadRules text e)) found other = absurd (cc)
+found-looked_up c w a names there b begins unlisted path (Err (fault.RefusedRules text refusals)) found other = absurd (cc)
 found-looked_up c w a names there b begins unlisted path (Err fault.Limit) found other = tt
 found-looked_up c w a names there b begins unlisted path (Err fault.Memory) found other = tt

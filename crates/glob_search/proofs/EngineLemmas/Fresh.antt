@@ -1,6 +1,6 @@
 -- A search that has asked nothing has all gifts left.
-use Rattle.std.proofs.Common.{◌≡◌, ◌<◌, Bool, true, false, cond, List, [], ◌∷◌, ◌++◌, flat_map, length, Option, Some}
-use Rattle.std.proofs.Common.{None, refl, ap, ap₂, sym, subst, ◌∙◌, arith}
+use Rattle.std.proofs.Common.{◌≡◌, ◌<◌, true, cond, [], ◌++◌, flat_map, length, Option, Some}
+use Rattle.std.proofs.Common.{None, ap, sym, subst, ◌∙◌}
 use Rattle.std.specs.Prelude.{nat_lt, reverse, string_bytes}
 use Rattle.std.specs.Option.{ForSome}
 use Rattle.std.specs.Path.{cur_dir}
@@ -8,14 +8,13 @@ use Rattle.std.proofs.lemmas.Bool.{cond-true, lt-ltb}
 use Rattle.std.proofs.lemmas.List.{append-nil}
 use Rattle.std.proofs.lemmas.Option.{same_Some}
 use Rattle.glob_text.specs.Text.{Text}
-use Rattle.glob_tree.specs.Content.{Content, Key, is_content, is_dir_at}
-use Rattle.glob_tree.specs.declared.kind.Kind.{Kind}
-use Rattle.glob_tree.proofs.ContentLemmas.Contents.{IsContent, IsContent-from_test}
+use Rattle.glob_tree.specs.Content.{Content, is_content, is_dir_at}
+use Rattle.glob_tree.proofs.ContentLemmas.Contents.{IsContent-from_test}
 use Rattle.glob_search.specs.Aims.{path_of}
 use Rattle.glob_search.specs.Searching.{Aim}
 use Rattle.glob_search.specs.States.{HasGiven}
-use Rattle.glob_search.specs.Visiting.{Gift, gifts}
-use Rattle.glob_search.specs.Private.Engine.{AreFrames, IsBelow, IsFor, IsOpening, IsReady, file_names, lists_of}
+use Rattle.glob_search.specs.Visiting.{gifts}
+use Rattle.glob_search.specs.Private.Engine.{AreFrames, IsBelow, IsFor, IsOpening, IsReady, Ready, file_names, lists_of}
 use Rattle.glob_search.specs.Private.Finding.{Find, state_of}
 use Rattle.glob_search.specs.Private.Hearing.{after, heard_of}
 use Rattle.glob_search.specs.Private.Nodes.{AreAlive}
@@ -24,8 +23,8 @@ use Rattle.glob_search.specs.declared.frame.Opening.{Opening}
 use Rattle.glob_search.specs.declared.searcher.Searcher.{Searcher}
 use Rattle.glob_search.proofs.EngineLemmas.Visits.{gifts-visited}
 
-module _ {A : Type 0} (c : Content) (content : is_content c ≡ true) (a : Aim) (s : Searcher A) (for : IsFor a s)
-    (heard : heard_of s.heard.files.items ≡ after 0 a.last) (none : s.way.frames.items ≡ []) where
+module _ {A : Type 0} (c : Content) (content : is_content c ≡ true) (known : Text → Option Text) (a : Aim) (s : Searcher A)
+    (for : IsFor a s) (heard : heard_of s.heard.files.items ≡ after 0 a.last) (none : s.way.frames.items ≡ []) where
   no-frames : reverse s.way.frames.items ≡ []
   no-frames = ap reverse none
 
@@ -43,7 +42,7 @@ module _ {A : Type 0} (c : Content) (content : is_content c ≡ true) (a : Aim) 
 
   -- the start is entered next
   pub fresh-start : (o : Opening A) → s.way.entering ≡ Some o → string_bytes o.path ≡ cur_dir → AreAlive s.beginnings
-      [] o.alive.items → 0 < s.depth → HasGiven {P = Find A} (gifts c a) c a [] (state_of s)
+      [] o.alive.items → 0 < s.depth → HasGiven {P = Find A} (gifts c a) c a known [] (state_of s)
   fresh-start o is named living deep =
       let w = IsContent-from_test c content in
       let names : names_in (string_bytes o.path) ≡ [] = ap names_in named in
@@ -56,8 +55,8 @@ module _ {A : Type 0} (c : Content) (content : is_content c ≡ true) (a : Aim) 
         below = subst (IsBelow (names_in (string_bytes o.path))) (sym no-frames) names;
       } in
       record {
-        agrees = begun (subst (λ e. ForSome e (IsOpening c s.beginnings (reverse s.way.frames.items))) (sym is)
-            (λ d h. subst (IsOpening c s.beginnings (reverse s.way.frames.items)) (same_Some o d h) opening));
+        agrees = Ready (begun (subst (λ e. ForSome e (IsOpening c s.beginnings (reverse s.way.frames.items))) (sym is)
+            (λ d h. subst (IsOpening c s.beginnings (reverse s.way.frames.items)) (same_Some o d h) opening)));
         upto = gifts-visited c a
             ∙ cond-true (nat_lt 0 a.depth) (visited c a []) [] (lt-ltb 0 a.depth (subst (λ n. 0 < n) (sym for.depth) deep))
             ∙ ap (visited c a) (sym names)
@@ -65,9 +64,9 @@ module _ {A : Type 0} (c : Content) (content : is_content c ≡ true) (a : Aim) 
       }
 
   -- nothing is
-  pub fresh-none : s.way.entering ≡ None → s.depth ≡ 0 → HasGiven {P = Find A} (gifts c a) c a [] (state_of s)
+  pub fresh-none : s.way.entering ≡ None → s.depth ≡ 0 → HasGiven {P = Find A} (gifts c a) c a known [] (state_of s)
   fresh-none is flat = record {
-    agrees = begun (subst (λ e. ForSome e (IsOpening c s.beginnings (reverse s.way.frames.items))) (sym is) (λ d h. absurd (cc)));
+    agrees = Ready (begun (subst (λ e. ForSome e (IsOpening c s.beginnings (reverse s.way.frames.items))) (sym is) (λ d h. absurd (cc))));
     upto = gifts-visited c a
         ∙ ap (λ n. cond (nat_lt 0 n) (visited c a []) []) (for.depth ∙ flat)
         ∙ sym (left-of ∙ ap (opening_left c a) is);

@@ -1,7 +1,6 @@
 -- What a listing of a directory of the content says.
-use Rattle.std.proofs.Common.{◌≡◌, true, List, [], ◌∷◌, ◌++◌, map, Option, Some, None, refl, ap, sym, subst, ◌∙◌, arith}
-use Rattle.std.specs.Prelude.{Contains, string_bytes}
-use Rattle.std.specs.List.{All}
+use Rattle.std.proofs.Common.{◌≡◌, true, List, [], ◌∷◌, ◌++◌, Some, refl, ap, sym, subst, ◌∙◌}
+use Rattle.std.specs.Prelude.{Contains}
 use Rattle.std.specs.List.Sorted.{IsPermutation}
 use Rattle.std.specs.Option.{ForSome}
 use Rattle.std.specs.declared.io.ErrorKind.{ErrorKind}
@@ -9,12 +8,11 @@ use Rattle.std.proofs.lemmas.List.{append_assoc}
 use Rattle.std.proofs.lemmas.List.Sorted.{Contains-permutation, IsPermutation-map, IsPermutation-sym}
 use Rattle.glob_text.specs.Text.{Text}
 use Rattle.glob_tree.specs.Answers.{IsListFault, entries_of, names_of}
-use Rattle.glob_tree.specs.Content.{Content, DirEntry, Key, ListAnswer, Entries, Fails, children, is_dir, is_dir_at, kind_at, list_result}
-use Rattle.glob_tree.specs.declared.kind.Kind.{Kind}
-use Rattle.glob_tree.specs.declared.kind.Kind.TheVariants.{Dir, Shut}
+use Rattle.glob_tree.specs.Content.{Content, DirEntry, Key, Entries, Fails, children, is_dir_at, kind_at, list_result}
+use Rattle.glob_tree.specs.declared.kind.Kind.TheVariants.{Shut}
 use Rattle.glob_tree.specs.declared.tree.Entry.{Entry}
 use Rattle.glob_tree.proofs.ContentLemmas.Contents.{IsContent, IsChild, IsChild-list_result}
-use Rattle.glob_tree.proofs.ContentLemmas.Directories.{ListsAs, Read, Unreadable, ListsAs-from_leads, LeadsTo}
+use Rattle.glob_tree.proofs.ContentLemmas.Directories.{Read, Unreadable, ListsAs-from_leads, LeadsTo}
 use Rattle.glob_tree.proofs.ContentLemmas.Membership.{All-from_contains}
 use Rattle.glob_search.specs.Aims.{path_of}
 use Rattle.glob_search.specs.Private.Listings.{AreListed, IsEntry, IsSourceAnswer, known_kind, names_down}

@@ -6,7 +6,7 @@ use Rattle.std.proofs.lemmas.Bool.{and_parts, both_ways}
 use Rattle.std.proofs.lemmas.List.{map-append}
 use Rattle.glob_text.specs.Text.{Text}
 use Rattle.glob_tree.specs.Answers.{entries_of}
-use Rattle.glob_tree.specs.Content.{Content, DirEntry, Key, is_dir, is_dir_at, kind_at, kind_found, look_of, look_result, resolve}
+use Rattle.glob_tree.specs.Content.{Content, DirEntry, Key, is_dir, is_dir_at, kind_at, kind_found, look_of, look_result}
 use Rattle.glob_tree.specs.Looks.{is_directory}
 use Rattle.glob_tree.specs.Paths.{child, is_proper}
 use Rattle.glob_tree.specs.declared.kind.Kind.{Kind}

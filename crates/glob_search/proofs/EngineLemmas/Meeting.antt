@@ -1,5 +1,5 @@
 -- What comes of an entry that is met.
-use Rattle.std.proofs.Common.{◌≡◌, ℕ, ◌+◌, ◌<◌, ◌≤◌, Bool, true, false, cond, not, ◌&&◌, List, [], ◌∷◌, ◌++◌, flat_map}
+use Rattle.std.proofs.Common.{◌≡◌, ℕ, ◌<◌, ◌≤◌, Bool, true, false, cond, ◌&&◌, List, [], ◌∷◌, ◌++◌, flat_map}
 use Rattle.std.proofs.Common.{length, Option, Some, None, Result, Ok, Err, refl, ap, ap₂, sym, subst, ◌∙◌, arith}
 use Rattle.std.specs.Prelude.{IfErr, IfOk, OnOk, String, nat_lt, reverse, string_bytes, unwrap_or}
 use Rattle.std.specs.Option.{ForSome}
@@ -15,11 +15,11 @@ use Rattle.glob_tree.proofs.ContentLemmas.Directories.{is_dir_at-kind}
 use Rattle.glob_search.specs.Aims.{path_of, wants}
 use Rattle.glob_search.specs.Searching.{Aim, goes_on, is_ignored, is_taken}
 use Rattle.glob_search.specs.Visiting.{Gift, Found, found_at, meet}
-use Rattle.glob_search.specs.Private.Engine.{AreFrames, GivesPath, IsBelow, IsFor, IsFrame, IsKindless, IsMet}
-use Rattle.glob_search.specs.Private.Engine.{IsOpening, IsReady, IsSound, Keeps, Ready, Turns, file_names, found_if}
+use Rattle.glob_search.specs.Private.Engine.{AreFrames, IsBelow, IsFrame, IsKindless, IsMet}
+use Rattle.glob_search.specs.Private.Engine.{IsOpening, IsReady, Keeps, Ready, Turns, file_names, found_if}
 use Rattle.glob_search.specs.Private.Engine.{frame_names, lists_of, met_in}
-use Rattle.glob_search.specs.Private.Faults.{is_unread}
-use Rattle.glob_search.specs.Private.Hearing.{Hears, lists_at}
+use Rattle.glob_search.specs.Private.Faults.{is_last}
+use Rattle.glob_search.specs.Private.Hearing.{Hears}
 use Rattle.glob_search.specs.Private.Listings.{IsEntry}
 use Rattle.glob_search.specs.Private.Nodes.{AreAlive}
 use Rattle.glob_search.specs.Private.Steps.{MayEnter}
@@ -30,8 +30,8 @@ use Rattle.glob_search.specs.declared.frame.Frame.{Frame}
 use Rattle.glob_search.specs.declared.meter.Meter.{Meter}
 use Rattle.glob_search.specs.declared.searcher.Searcher.{Searcher}
 use Rattle.glob_search.specs.declared.way.Way.{Way}
-use Rattle.glob_search.proofs.EngineLemmas.Paths.{directory-proper, names_in-path_of, names-proper}
-use Rattle.glob_search.proofs.EngineLemmas.Stepping.{left-charged, other-gives, ready-charged}
+use Rattle.glob_search.proofs.EngineLemmas.Paths.{names_in-path_of, names-proper}
+use Rattle.glob_search.proofs.EngineLemmas.Stepping.{left-charged, last-gives, ready-charged}
 
 -- as many names as directories
 pub level : {A : Type 0} (c : Content) (a : Aim) (s : Searcher A) (files : ℕ) (fs : List (Frame A)) (names : Key)
@@ -204,10 +204,10 @@ module _ {A : Type 0} (c : Content) (w : IsContent c) (a : Aim) (known : Text �
       → t ≡ record s { meter = t.meter; way = t.way }
       → OnOk r (MayEnter (on && unwrap_or d false) (string_bytes path) alive s.way t.way)
       → IfOk r (λ o. o ≡ found_if (found && wants s.wanted (unwrap_or d false)) path d)
-      → IfErr r (λ x. is_unread x ≡ false)
+      → IfErr r (λ x. is_last x ≡ true)
       → Turns c a known before r t
   takes t (Err x) path alive d on found named living taken goes kept' learned matters same enters finds other =
-      other-gives c a before x t other
+      last-gives c a known before x t other
   takes t (Ok o) path alive d on found named living taken goes kept' learned matters same enters finds other =
       by_found o (found && wants s.wanted (unwrap_or d false)) test finds
     where

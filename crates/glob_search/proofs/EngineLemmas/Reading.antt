@@ -1,25 +1,32 @@
 -- A file with rules is read.
-use Rattle.std.proofs.Common.{◌≡◌, ℕ, zero, suc, ◌+◌, ◌-◌, ◌<◌, List, [], ◌∷◌, ◌++◌, get_or, length, map, take, Option}
+use Rattle.std.proofs.Common.{◌≡◌, ◌≢◌, ℕ, zero, suc, ◌+◌, ◌-◌, ◌<◌, List, [], ◌∷◌, ◌++◌, get_or, length, map, take, Option}
 use Rattle.std.proofs.Common.{Some, None, refl, ap, ap₂, sym, subst, ◌∙◌, arith}
-use Rattle.std.specs.Prelude.{Vec, option_map, reverse, slice_get, string_bytes}
+use Rattle.std.specs.Prelude.{Contains, Vec, option_map, reverse, slice_get}
 use Rattle.std.specs.List.{cons_option, join_with_byte}
-use Rattle.std.proofs.lemmas.List.{append-nil, append_assoc, length-append, map-append, reverse-append, reverse-reverse, length-reverse}
+use Rattle.std.proofs.lemmas.List.{append-nil, append_assoc, length-append, map-append, reverse-append, reverse-reverse}
+use Rattle.std.proofs.lemmas.Option.{same_Some}
 use Rattle.glob_text.specs.Characters.{slash}
 use Rattle.glob_text.specs.Text.{Text}
-use Rattle.glob_rules.specs.Lists.{Ignores, rules_of}
+use Rattle.glob_rules.specs.Lists.{Ignores, refusals_of, rules_of}
+use Rattle.glob_rules.specs.declared.error.RuleRefusal.{RuleRefusal}
 use Rattle.glob_tree.specs.Content.{Content, Key}
 use Rattle.glob_tree.specs.Paths.{child}
-use Rattle.glob_search.specs.Aims.{path_of, rules_from}
+use Rattle.glob_search.specs.Aims.{AreRefused, path_of, rules_from}
 use Rattle.glob_search.specs.Searching.{Aim}
 use Rattle.glob_search.specs.Private.Engine.{IsReading, IsSound, Keeps, Reading, file_names, frame_names, lists_up_to}
 use Rattle.glob_search.specs.Private.Hearing.{above_of, after, heard_of, lists_above}
 use Rattle.glob_search.specs.Private.Ways.{search_left}
-use Rattle.glob_search.specs.declared.frame.Frame.{Frame}
 use Rattle.glob_search.specs.declared.heard.FileRules.{FileRules}
 use Rattle.glob_search.specs.declared.meter.Meter.{Meter}
 use Rattle.glob_search.specs.declared.searcher.Searcher.{Searcher}
 use Rattle.glob_search.proofs.EngineLemmas.Paths.{AreProper, join-more, path_of-child}
-use Rattle.glob_search.proofs.EngineLemmas.Working.{rules-next}
+use Rattle.glob_search.proofs.EngineLemmas.Working.{get_or_within, rules-next}
+
+-- the text of a file that was read
+text-of : (o : Option Text) (list : Ignores) (refusals : List RuleRefusal) → Some list ≡ option_map rules_of o
+    → Some refusals ≡ option_map refusals_of o → (text : Text) × (o ≡ Some text) × (refusals ≡ refusals_of text)
+text-of None list refusals is are = absurd (cc)
+text-of (Some text) list refusals is are = (text, refl, same_Some refusals (refusals_of text) are)
 
 get-last : {X : Type 0} (zs : List X) (x : X) → slice_get (zs ++ x ∷ []) (length zs) ≡ Some x
 get-last [] x = refl
@@ -88,6 +95,23 @@ module _ {A : Type 0} (c : Content) (a : Aim) (known : Text → Option Text) (s 
       record {
         sound = subst (IsSound c a known) (sym same) (Reading (suc n) reading now);
         rest = ap (search_left c a) (sym same);
+      }
+
+  -- lines of it are refused
+  pub refused-at : (t : Searcher A) → file_names t ≡ file_names s → (path : Text) → path ≡ path_of (names ++ name ∷ [])
+      → (list : Ignores) (refusals : List RuleRefusal) → Some list ≡ option_map rules_of (known path)
+      → Some refusals ≡ option_map refusals_of (known path) → refusals ≢ [] → AreRefused known (file_names t) path refusals
+  refused-at t same path at list refusals is are some =
+      let (text, held, all) = text-of (known path) list refusals is are in
+      record {
+        directory = names;
+        file = name;
+        named = subst (λ fs. Contains fs name) (sym same) (n, within, get_or_within (file_names s) n name [] within ∙ named);
+        at = at;
+        text = text;
+        held = held;
+        all = all;
+        some = some;
       }
 
 pub read-same : {A : Type 0} (s t : Searcher A) (m : Meter) (v : Vec (FileRules A) A) → t ≡ record s {

@@ -1,21 +1,20 @@
 -- A name that a binary search over all names of a directory does not find is not there.
-use Rattle.std.proofs.Common.{◌≡◌, ◌≢◌, ℕ, zero, suc, ◌⊎◌, ◌+◌, ◌-◌, ◌<◌, ◌≤◌, ⊎_elim, false, List, [], ◌∷◌, ◌++◌}
-use Rattle.std.proofs.Common.{length, get_or, map, Option, Some, None, Result, Ok, Err, refl, ap, sym, subst, ◌∙◌}
+use Rattle.std.proofs.Common.{◌≡◌, ◌≢◌, ℕ, zero, suc, ◌⊎◌, ◌-◌, ◌<◌, ◌≤◌, ⊎_elim, false, List, [], ◌∷◌, ◌++◌}
+use Rattle.std.proofs.Common.{length, get_or, Option, Some, None, Result, Ok, Err, refl, ap, sym, subst, ◌∙◌}
 use Rattle.std.proofs.Common.{arith}
-use Rattle.std.specs.Prelude.{AllPairs, Contains, IsTrue, reverse, is_ok}
+use Rattle.std.specs.Prelude.{Contains, IsTrue, reverse, is_ok}
 use Rattle.std.specs.Cmp.Lexicographic.{slice_cmp}
 use Rattle.std.specs.List.Sorted.{IsBinarySearchResult, IsNonDecreasingBy}
-use Rattle.std.specs.Ordering.{is_le, nat_cmp, ordering_index}
+use Rattle.std.specs.Ordering.{nat_cmp, ordering_index}
 use Rattle.std.specs.declared.cmp.Ordering.{Ordering}
 use Rattle.std.specs.declared.cmp.Ordering.TheVariants.{Less, Equal, Greater}
-use Rattle.std.specs.BTreeMap.Comparable.{le_lt_trans}
 use Rattle.std.proofs.Math.Nat.{eq-or-lt_of_le}
 use Rattle.std.proofs.lemmas.Bool.{cases_lt}
 use Rattle.std.proofs.lemmas.Cmp.{nat_list_cmp_total}
-use Rattle.std.proofs.lemmas.List.{get_or-map, get_or-reverse, length-map, length-reverse}
+use Rattle.std.proofs.lemmas.List.{get_or-reverse, length-map, length-reverse}
 use Rattle.glob_text.specs.Text.{Text}
 use Rattle.glob_tree.specs.Answers.{entries_of, names_of}
-use Rattle.glob_tree.specs.Content.{Content, DirEntry, Key, children, is_content, is_dir, kind_at, sorted_entries}
+use Rattle.glob_tree.specs.Content.{Content, Key, children, is_content, is_dir, kind_at, sorted_entries}
 use Rattle.glob_tree.specs.declared.kind.Kind.{Kind}
 use Rattle.glob_tree.specs.declared.tree.Entry.{Entry}
 use Rattle.glob_tree.proofs.ContentLemmas.Contents.{IsContent-from_test, listed_child}
@@ -25,7 +24,7 @@ use Rattle.glob_search.specs.Private.Steps.{IsAbsent}
 use Rattle.glob_search.specs.declared.frame.Frame.{Frame}
 use Rattle.glob_search.specs.declared.frame.Source.{Source}
 use Rattle.glob_search.specs.declared.frame.Source.TheVariants.{LookedUp, Listed, Named}
-use Rattle.glob_search.proofs.EngineLemmas.Rising.{IsLess, Rises, equal-same, greater-from_less, pairs-from_rises}
+use Rattle.glob_search.proofs.EngineLemmas.Rising.{IsLess, Rises, equal-same, pairs-from_rises}
 use Rattle.glob_search.proofs.EngineLemmas.Rising.{rises-names, same-from_equal}
 use Rattle.glob_search.proofs.OrderLemmas.Parts.{map-contains}
 use Rattle.std.proofs.lemmas.List.{append_assoc}

@@ -1,6 +1,6 @@
 -- A directory is put on the way.
-use Rattle.std.proofs.Common.{◌≡◌, ℕ, ◌<◌, ◌⊎◌, inl, inr, ⊎_elim, true, false, List, [], ◌∷◌, ◌++◌, flat_map, length}
-use Rattle.std.proofs.Common.{map, take, Option, Some, None, Result, Ok, Err, refl, ap, ap₂, sym, subst, ◌∙◌, arith}
+use Rattle.std.proofs.Common.{◌≡◌, ℕ, ◌<◌, ⊎_elim, true, List, [], ◌∷◌, ◌++◌, flat_map, length}
+use Rattle.std.proofs.Common.{Option, None, Result, Ok, Err, refl, ap, ap₂, sym, subst, ◌∙◌, arith}
 use Rattle.std.specs.Prelude.{IfErr, OnOk, Vec, reverse, string_bytes, vec_len}
 use Rattle.std.specs.IoError.{error_kind}
 use Rattle.std.proofs.Math.Nat.{eq-zero-or-pos}
@@ -8,14 +8,13 @@ use Rattle.std.proofs.lemmas.List.{append-nil}
 use Rattle.glob_text.specs.Text.{Text}
 use Rattle.glob_tree.specs.Content.{Content, Key}
 use Rattle.glob_tree.specs.declared.tree.Entry.{Entry}
-use Rattle.glob_search.specs.Aims.{path_of}
 use Rattle.glob_search.specs.Searching.{Aim}
 use Rattle.glob_search.specs.Visiting.{Gift, Unread}
-use Rattle.glob_search.specs.Private.Engine.{AreEntries, EntriesGive, FaultGives, GivesShut, GoesOn, IsBelow, IsFor}
-use Rattle.glob_search.specs.Private.Engine.{IsFrame, IsOpening, IsReading, IsReady, IsSound, Keeps, Reading, Ready}
-use Rattle.glob_search.specs.Private.Engine.{StepsInto, file_names, frame_names, lists_of, lists_up_to, opening_names}
-use Rattle.glob_search.specs.Private.Faults.{is_unread}
-use Rattle.glob_search.specs.Private.Hearing.{after, above_of, heard_of, lists_above, lists_at}
+use Rattle.glob_search.specs.Private.Engine.{AreEntries, EntriesGive, FaultGives, GoesOn, IsBelow}
+use Rattle.glob_search.specs.Private.Engine.{IsOpening, IsReading, IsReady, IsSound, Keeps, Reading, Ready}
+use Rattle.glob_search.specs.Private.Engine.{StepsInto, frame_names, lists_of, opening_names}
+use Rattle.glob_search.specs.Private.Faults.{is_last}
+use Rattle.glob_search.specs.Private.Hearing.{heard_of, lists_above}
 use Rattle.glob_search.specs.Private.Ways.{entries_left, frame_left, opening_left, search_left, visited}
 use Rattle.glob_search.specs.declared.fault.SearchFault.{SearchFault}
 use Rattle.glob_search.specs.declared.fault.SearchFault.TheVariants as fault
@@ -42,13 +41,13 @@ pub lists-below : {A : Type 0} (a : Aim) (names : Key) (fs : List (Frame A)) →
 lists-below a names [] below = ap (lists_above a) (sym below)
 lists-below a names (f ∷ fs) (n, is) = sym (ap (lists_above a) is ∙ lists_above-child a (frame_names f) n)
 
-pub other-gives : {A : Type 0} (c : Content) (a : Aim) (before : List Gift) (f : SearchFault A) (s : Searcher A)
-    → is_unread f ≡ false → FaultGives c a before f s
-other-gives c a before (fault.Unread text e) s h = absurd (cc)
-other-gives c a before (fault.UnreadRules text e) s h = tt
-other-gives c a before (fault.RefusedRules text line reason) s h = tt
-other-gives c a before fault.Limit s h = tt
-other-gives c a before fault.Memory s h = tt
+pub last-gives : {A : Type 0} (c : Content) (a : Aim) (known : Text → Option Text) (before : List Gift) (f : SearchFault A)
+    (s : Searcher A) → is_last f ≡ true → FaultGives c a known before f s
+last-gives c a known before (fault.Unread text e) s h = absurd (cc)
+last-gives c a known before (fault.UnreadRules text e) s h = absurd (cc)
+last-gives c a known before (fault.RefusedRules text refusals) s h = absurd (cc)
+last-gives c a known before fault.Limit s h = tt
+last-gives c a known before fault.Memory s h = tt
 
 -- what is charged does not matter
 pub ready-charged : {A : Type 0} (c : Content) (a : Aim) (s t : Searcher A) → t ≡ record s { meter = t.meter }
@@ -75,15 +74,15 @@ module _ {A : Type 0} (c : Content) (a : Aim) (known : Text → Option Text) (s 
   -- the directory cannot be listed
   pub shut-gives : (t : Searcher A) → t ≡ record s { meter = t.meter } → (source : Source) (f : SearchFault A)
       → EntriesGive {A = A} c a names source (string_bytes o.path) (Err f)
-      → FaultGives c a (visited c a names ++ search_left c a s) f t
+      → FaultGives c a known (visited c a names ++ search_left c a s) f t
   shut-gives t same source (fault.Unread text e) (path, gives) = record {
     names = names;
     path = path ∙ opening.directory.path;
     ready = ready-charged c a s t same ready;
     rest = ap (λ gs. gs ++ search_left c a s) gives ∙ ap (λ gs. Unread names (error_kind e) ∷ gs) (left-charged c a s t same);
   }
-  shut-gives t same source (fault.UnreadRules text e) gives = tt
-  shut-gives t same source (fault.RefusedRules text line reason) gives = tt
+  shut-gives t same source (fault.UnreadRules text e) gives = absurd gives
+  shut-gives t same source (fault.RefusedRules text refusals) gives = absurd gives
   shut-gives t same source fault.Limit gives = tt
   shut-gives t same source fault.Memory gives = tt
 
@@ -148,8 +147,8 @@ module _ {A : Type 0} (c : Content) (a : Aim) (known : Text → Option Text) (s 
       (es : Vec (Entry A) A) (source : Source)
       → AreEntries c a names source es.items → (vec_len es ≡ 0 → t.way ≡ u.way) → (r : Result B (SearchFault A))
       → OnOk r (0 < vec_len es → StepsInto o source es u t)
-      → IfErr r (λ f. is_unread f ≡ false) → GoesOn c a known (visited c a names ++ search_left c a s) r t
-  enters u t same-u same-t es source g none (Err f) steps other = other-gives c a _ f t other
+      → IfErr r (λ f. is_last f ≡ true) → GoesOn c a known (visited c a names ++ search_left c a s) r t
+  enters u t same-u same-t es source g none (Err f) steps other = last-gives c a known _ f t other
   enters u t same-u same-t es source g none (Ok done) steps other = ⊎_elim
       (λ zero. empty-keeps t same es source g zero (none zero ∙ ap (λ x. x.way) same-u))
       (λ some.

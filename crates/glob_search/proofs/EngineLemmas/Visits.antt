@@ -1,22 +1,20 @@
 -- What comes of a directory, by its names alone: the levels that are left do not matter.
-use Rattle.std.proofs.Common.{◌≡◌, ℕ, zero, suc, ◌+◌, ◌-◌, ◌<◌, Bool, true, false, cond, not, ◌&&◌, List, [], ◌∷◌, ◌++◌}
-use Rattle.std.proofs.Common.{length, flat_map, Option, Some, None, refl, ap, ap₂, sym, ◌∙◌, arith}
-use Rattle.std.specs.Prelude.{Contains, nat_lt, bytes_eq, unwrap_or, option_map}
-use Rattle.std.specs.Path.{cur_dir}
+use Rattle.std.proofs.Common.{◌≡◌, ℕ, suc, ◌-◌, Bool, true, false, cond, ◌&&◌, List, [], ◌∷◌, ◌++◌}
+use Rattle.std.proofs.Common.{length, flat_map, Some, refl, ap, ap₂, sym, ◌∙◌, arith}
+use Rattle.std.specs.Prelude.{Contains, nat_lt}
 use Rattle.std.specs.declared.io.ErrorKind.{ErrorKind}
-use Rattle.std.proofs.lemmas.Bool.{cond-true, cond-false, both_ways, false≢true}
-use Rattle.std.proofs.lemmas.List.{append_assoc, append-nil, length-append}
+use Rattle.std.proofs.lemmas.Bool.{cond-true}
+use Rattle.std.proofs.lemmas.List.{append_assoc, length-append}
 use Rattle.std.proofs.lemmas.List.Folds.{flat_map-map}
 use Rattle.glob_text.specs.Text.{Text}
 use Rattle.glob_tree.specs.Answers.{names_of}
-use Rattle.glob_tree.specs.Content.{Content, DirEntry, Key, children, is_dir, is_dir_at, kind_at, sorted_entries}
-use Rattle.glob_tree.specs.declared.kind.Kind.{Kind}
-use Rattle.glob_tree.specs.declared.kind.Kind.TheVariants.{Dir, Shut, Other}
+use Rattle.glob_tree.specs.Content.{Content, DirEntry, Key, children, is_dir_at, kind_at, sorted_entries}
+use Rattle.glob_tree.specs.declared.kind.Kind.TheVariants.{Shut}
 use Rattle.glob_tree.proofs.ContentLemmas.Contents.{IsContent, IsChild, IsChild-list_result}
 use Rattle.glob_tree.proofs.ContentLemmas.Directories.{directory_kind, is_dir_at-kind}
 use Rattle.glob_tree.proofs.ContentLemmas.Membership.{Contains-head, Contains-tail}
 use Rattle.glob_tree.proofs.ContentLemmas.Sorting.{Contains-sorted_entries}
-use Rattle.glob_search.specs.Searching.{Aim, goes_on, is_closed, is_ignored, is_listed, is_taken}
+use Rattle.glob_search.specs.Searching.{Aim, goes_on, is_closed, is_ignored, is_listed}
 use Rattle.glob_search.specs.Visiting.{Gift, Unread, found_at, gifts, inside, levels, meet, visit}
 use Rattle.glob_search.specs.Private.Ways.{met, visited}
 use Rattle.glob_search.proofs.OrderLemmas.Ways.{inside-entries, within-levels}

@@ -1,29 +1,27 @@
 -- What is left once the next work was taken from the way.
-use Rattle.std.proofs.Common.{◌≡◌, ◌≢◌, ℕ, zero, suc, ◌+◌, ◌-◌, ◌<◌, ◌≤◌, ⊎_elim, true, false, List, [], ◌∷◌, ◌++◌}
+use Rattle.std.proofs.Common.{◌≡◌, ◌≢◌, ℕ, zero, suc, ◌+◌, ◌-◌, ◌<◌, ◌≤◌, ⊎_elim, true, List, [], ◌∷◌, ◌++◌}
 use Rattle.std.proofs.Common.{flat_map, get_or, length, map, take, Option, Some, None, refl, ap, ap₂, sym, subst, ◌∙◌}
 use Rattle.std.proofs.Common.{arith}
-use Rattle.std.specs.Prelude.{Contains, IsSome, is_some, IsTrue, filter_map, option_map, reverse, string_bytes, Vec}
+use Rattle.std.specs.Prelude.{IsSome, is_some, filter_map, option_map, reverse, string_bytes, Vec}
 use Rattle.std.specs.List.{All, cons_option}
 use Rattle.std.specs.Option.{ForSome}
-use Rattle.std.proofs.Math.Nat.{eq-or-lt_of_le}
 use Rattle.std.proofs.lemmas.Bool.{both_ways, cases_lt}
-use Rattle.std.proofs.lemmas.List.{append-nil, append_assoc, map-append, take_all, take_at, take_more}
+use Rattle.std.proofs.lemmas.List.{append-nil, append_assoc, take_all, take_at, take_more}
 use Rattle.std.proofs.lemmas.List.Elements.{filter_map-append}
 use Rattle.glob_text.specs.Text.{Text}
 use Rattle.glob_rules.specs.Lists.{Ignores, rules_of}
 use Rattle.glob_tree.specs.Answers.{entries_of, names_of}
 use Rattle.glob_tree.specs.Content.{Content, Key, is_content, is_dir_at, kind_at}
-use Rattle.glob_tree.specs.declared.kind.Kind.{Kind}
 use Rattle.glob_tree.specs.declared.tree.Entry.{Entry}
 use Rattle.glob_search.specs.Aims.{AreTextsOf, path_of, rules_from}
 use Rattle.glob_search.specs.Searching.{Aim}
 use Rattle.glob_search.specs.Visiting.{Gift}
-use Rattle.glob_search.specs.Private.Engine.{AreFrames, HasWork, IsBelow, IsFor, IsFrame, IsLeft, IsOpening, IsReading}
+use Rattle.glob_search.specs.Private.Engine.{AreFrames, HasWork, IsFor, IsFrame, IsLeft, IsOpening, IsReading}
 use Rattle.glob_search.specs.Private.Engine.{IsMet, IsReady, IsSound, Keeps, Reading, Ready, file_names, frame_names}
 use Rattle.glob_search.specs.Private.Engine.{lists_of, lists_up_to, met_in, work_left}
 use Rattle.glob_search.specs.Private.Hearing.{above_of, after, heard_of, lists_above, lists_at, lists_in}
 use Rattle.glob_search.specs.Private.Listings.{IsEntry, names_down}
-use Rattle.glob_search.specs.Private.Steps.{IsAbsent, MeetsNext, LeavesNext, MayEnter, NextFile, NextWork, Passes, ReadsNext}
+use Rattle.glob_search.specs.Private.Steps.{IsAbsent, MeetsNext, LeavesNext, MayEnter, NextWork, Passes, ReadsNext}
 use Rattle.glob_search.specs.Private.Ways.{IsDone, entries_left, frame_left, met, opening_left, search_left, way_left}
 use Rattle.glob_search.specs.declared.frame.Frame.{Frame}
 use Rattle.glob_search.specs.declared.heard.FileRules.{FileRules}
@@ -37,7 +35,8 @@ use Rattle.glob_search.proofs.EngineLemmas.Lasts.{All-before, All-last, reverse-
 use Rattle.glob_search.proofs.EngineLemmas.Passing.{no-items}
 use Rattle.glob_search.proofs.EngineLemmas.Stepping.{lists-below}
 
-get_or_within : (xs : List Text) (k : ℕ) (d e : Text) → k < length xs → get_or xs k d ≡ get_or xs k e
+-- what is within does not depend on what stands for what is not
+pub get_or_within : (xs : List Text) (k : ℕ) (d e : Text) → k < length xs → get_or xs k d ≡ get_or xs k e
 get_or_within [] k d e h = absurd (omega (arith, h))
 get_or_within (x ∷ xs) zero d e h = refl
 get_or_within (x ∷ xs) (suc k) d e h = get_or_within xs k d e (omega (arith, h))

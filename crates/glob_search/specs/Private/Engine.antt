@@ -9,10 +9,11 @@ use Rattle.std.specs.declared.io.ErrorKind.{ErrorKind}
 use Rattle.glob_text.specs.Text.{Text}
 use Rattle.glob_tree.specs.Answers.{IsTold, entries_of, names_of}
 use Rattle.glob_rules.specs.Lists.{Ignores}
+use Rattle.glob_rules.specs.declared.error.RuleRefusal.{RuleRefusal}
 use Rattle.glob_tree.specs.Content.{Content, Key, is_dir, is_dir_at}
 use Rattle.glob_tree.specs.declared.kind.Kind.{Kind}
 use Rattle.glob_tree.specs.declared.tree.Entry.{Entry}
-use Rattle.glob_search.specs.Aims.{AreTextsOf, path_of, rules_from, wants}
+use Rattle.glob_search.specs.Aims.{AreRefused, AreTextsOf, path_of, rules_from, wants}
 use Rattle.glob_search.specs.Searching.{Aim, is_ignored, is_listed}
 use Rattle.glob_search.specs.Visiting.{Gift, Found, Unread}
 use Rattle.glob_search.specs.Private.Hearing.{Hears, above_of, after, heard_of, lists_above, lists_at}
@@ -156,13 +157,26 @@ pub record GivesShut {A : Type 0} (c : Content) (a : Aim) (before : List Gift) (
   pub ready : IsReady c a s
   pub rest : before ≡ Unread names kind ∷ search_left c a s
 
+-- what was left before is left
+pub record Keeps {A : Type 0} (c : Content) (a : Aim) (known : Text → Option Text) (before : List Gift) (s : Searcher A) : Type 0 where
+  pub sound : IsSound c a known s
+  pub rest : before ≡ search_left c a s
+
+-- Lines of a file with rules are refused, and what was left before is left.
+pub record GivesRefusals {A : Type 0} (c : Content) (a : Aim) (known : Text → Option Text) (before : List Gift) (path : Text)
+    (refusals : List RuleRefusal) (s : Searcher A) : Type 0 where
+  pub refused : AreRefused known (file_names s) path refusals
+  pub keeps : Keeps c a known before s
+
 -- what a fault says of what was left before
-abbrev pub FaultGives : {A : Type 0} → Content → Aim → (before : List Gift) → SearchFault A → Searcher A → Type 0
-FaultGives c a before (fault.Unread path e) s = GivesShut c a before (string_bytes path) (error_kind e) s
-FaultGives c a before (fault.UnreadRules path e) s = ⊤
-FaultGives c a before (fault.RefusedRules path line reason) s = ⊤
-FaultGives c a before fault.Limit s = ⊤
-FaultGives c a before fault.Memory s = ⊤
+abbrev pub FaultGives : {A : Type 0} → Content → Aim → (known : Text → Option Text) → (before : List Gift) → SearchFault A
+    → Searcher A → Type 0
+FaultGives c a known before (fault.Unread path e) s = GivesShut c a before (string_bytes path) (error_kind e) s
+FaultGives c a known before (fault.UnreadRules path e) s = ⊥
+FaultGives c a known before (fault.RefusedRules path refusals) s =
+    GivesRefusals c a known before (string_bytes path) refusals.items s
+FaultGives c a known before fault.Limit s = ⊤
+FaultGives c a known before fault.Memory s = ⊤
 
 -- The path is the next gift.
 pub record GivesPath {A : Type 0} (c : Content) (a : Aim) (before : List Gift) (found : FoundPath A) (s : Searcher A) : Type 0 where
@@ -172,23 +186,18 @@ pub record GivesPath {A : Type 0} (c : Content) (a : Aim) (before : List Gift) (
   pub ready : IsReady c a s
   pub rest : before ≡ Found names ∷ search_left c a s
 
--- what was left before is left
-pub record Keeps {A : Type 0} (c : Content) (a : Aim) (known : Text → Option Text) (before : List Gift) (s : Searcher A) : Type 0 where
-  pub sound : IsSound c a known s
-  pub rest : before ≡ search_left c a s
-
 -- what a turn makes of what was left before
 abbrev pub Turns : {A : Type 0} → Content → Aim → (known : Text → Option Text) → (before : List Gift)
     → Result (Option (FoundPath A)) (SearchFault A) → Searcher A → Type 0
 Turns c a known before (Ok None) s = Keeps c a known before s
 Turns c a known before (Ok (Some found)) s = GivesPath c a before found s
-Turns c a known before (Err f) s = FaultGives c a before f s
+Turns c a known before (Err f) s = FaultGives c a known before f s
 
 -- the same of a turn that gives no path
 abbrev pub GoesOn : {A B : Type 0} → Content → Aim → (known : Text → Option Text) → (before : List Gift)
     → Result B (SearchFault A) → Searcher A → Type 0
 GoesOn c a known before (Ok done) s = Keeps c a known before s
-GoesOn c a known before (Err f) s = FaultGives c a before f s
+GoesOn c a known before (Err f) s = FaultGives c a known before f s
 
 -- What is in a directory was found out: what comes of these entries is what comes of it.
 pub record AreEntries {A : Type 0} (c : Content) (a : Aim) (names : Key) (source : Source) (entries : List (Entry A)) : Type 0 where
@@ -202,8 +211,8 @@ abbrev pub EntriesGive : {A : Type 0} → Content → Aim → (names : Key) → 
 EntriesGive c a names source path (Ok entries) = AreEntries c a names source entries.items
 EntriesGive c a names source path (Err (fault.Unread text e)) =
     (string_bytes text ≡ path) × (visited c a names ≡ Unread names (error_kind e) ∷ [])
-EntriesGive c a names source path (Err (fault.UnreadRules text e)) = ⊤
-EntriesGive c a names source path (Err (fault.RefusedRules text line reason)) = ⊤
+EntriesGive c a names source path (Err (fault.UnreadRules text e)) = ⊥
+EntriesGive c a names source path (Err (fault.RefusedRules text refusals)) = ⊥
 EntriesGive c a names source path (Err fault.Limit) = ⊤
 EntriesGive c a names source path (Err fault.Memory) = ⊤
 

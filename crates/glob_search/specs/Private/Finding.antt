@@ -1,14 +1,14 @@
 -- What contracts see of a search.
 use Rattle.std.specs.Prelude.{vec_len}
 use Rattle.glob_search.specs.States.{Progress, SearchState}
-use Rattle.glob_search.specs.Private.Engine.{IsReady, file_names}
+use Rattle.glob_search.specs.Private.Engine.{IsSound, file_names}
 use Rattle.glob_search.specs.Private.Order.{IsPastSearch}
 use Rattle.glob_search.specs.Private.Ways.{search_left}
 use Rattle.glob_search.specs.declared.searcher.Searcher.{Searcher}
 
 -- what contracts know of a searcher
 abbrev pub Find : Type 0 → Progress
-Find A = record { State = Searcher A; left = search_left; Agrees = IsReady; IsPast = IsPastSearch }
+Find A = record { State = Searcher A; left = search_left; Agrees = IsSound; IsPast = IsPastSearch }
 
 -- what contracts see of a search
 abbrev pub state_of : {A : Type 0} → Searcher A → SearchState (Find A)

@@ -63,8 +63,8 @@ abbrev pub IsListed : {A : Type 0} → Content → (names : Key) → Source → 
 IsListed c names source path (Ok entries) = AreListed c names source entries.items
 IsListed c names source path (Err (fault.Unread text e)) =
     (string_bytes text ≡ path) × (kind_at c (c.current ++ names) ≡ Some (Shut (error_kind e)))
-IsListed c names source path (Err (fault.UnreadRules text e)) = ⊤
-IsListed c names source path (Err (fault.RefusedRules text line reason)) = ⊤
+IsListed c names source path (Err (fault.UnreadRules text e)) = ⊥
+IsListed c names source path (Err (fault.RefusedRules text refusals)) = ⊥
 IsListed c names source path (Err fault.Limit) = ⊤
 IsListed c names source path (Err fault.Memory) = ⊤
 

@@ -6,7 +6,7 @@ ghost use Rattle.glob_tree.specs.Content.{Content, Key, is_dir_at};
 ghost use Rattle.glob_search.specs.Aims.{path_of};
 ghost use Rattle.glob_search.specs.Searching.{Aim};
 ghost use Rattle.glob_search.specs.Private.Engine.{EntriesGive, FitsSource, GoesOn, HasWork, StepsInto};
-ghost use Rattle.glob_search.specs.Private.Faults.{is_last, is_unread};
+ghost use Rattle.glob_search.specs.Private.Faults.{is_last};
 ghost use Rattle.glob_search.specs.Private.Listings.{AreFalling};
 ghost use Rattle.glob_search.specs.Private.Nodes.{AreAlive, AreBeginnings};
 ghost use Rattle.glob_search.specs.Private.Order.{IsPastWork, StaysPast};
@@ -60,7 +60,6 @@ impl<A: Allocator + Copy> Searcher<A> {
             ≤ way_weight self.old.way + (2 * vec_len entries + 1) }
         ensures some { OnOk result (0 < vec_len entries
             → StepsInto opening source entries self.old self.new) }
-        ensures other { IfErr result (λ fault. is_unread fault ≡ false) }
         ensures last { IfErr result (λ fault. is_last fault ≡ true) }
     {
         if entries.is_empty() {

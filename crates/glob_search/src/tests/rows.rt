@@ -5,7 +5,7 @@ pub const SOURCE: &str =
     "src/ src/a.c src/b.h src/sub/ src/sub/c.c lib/ lib/d.h doc/ doc/e.txt .git/ .git/f.c";
 
 /// Keys, patterns, letters, rules, names of files with rules, their texts, what is found, listings, lookups.
-pub static ROWS: [&str; 23] = [
+pub static ROWS: [&str; 26] = [
     "SOURCE|src/*.c lib/*.h|||||lib/d.h src/a.c|2|2",
     "SOURCE|src/*.c lib/*.h|i||||lib/d.h src/a.c|3|2",
     "SOURCE|**/*.c|||||.git/f.c src/a.c src/sub/c.c|6|0",
@@ -28,5 +28,8 @@ pub static ROWS: [&str; 23] = [
     "a/ a/.ignore a/b|a/b|||.ignore|a/.ignore:b||0|2",
     "a/ a/.ignore a/b|**/b|||.ignore|a/.ignore:!!|!a/.ignore a/b|2|0",
     "a/ a/.ignore a/b|**/b|||.ignore|a/.ignore:[é]|!a/.ignore a/b|2|0",
+    "a/ a/.ignore a/b a/c|**/[bc]|||.ignore|a/.ignore:[é] b|!a/.ignore a/c|2|0",
+    "a/ a/.i a/.j a/b a/c|**/[bc]|||.i .j|a/.i:b [é] c [é];a/.j:!b|!a/.i a/b|2|0",
+    "a/ a/b .i .j b|**/b|||.i .j|.i:[é];.j:[[:x:]] a/|!.i !.j b|1|0",
     "a/ a/.ignore a/b/ a/b/x b/ b/y .ignore|**/[xy]|||.ignore|.ignore:b/;a/.ignore:!b|a/b/x|3|0",
 ];

@@ -22,7 +22,7 @@ unfoldable pub FindsPaths : (known : Option Content) → (texts : Option (Text �
 FindsPaths known texts o list patterns old new status =
     (c : Content) (text_at : Text → Option Text) → IsTold known c → heeded (heeds (rule_files o)) texts ≡ Some text_at
     → let a = aim o list patterns text_at in AreTextsOf c a (rule_files o) text_at
-    → WritesGifts o.settings.end (heeds (rule_files o)) (gifts c a) old new status
+    → WritesGifts o.settings.end (gifts c a) old new status
 
 -- Either the words are refused, or their alternatives are searched for. Then, unless the status is 2, each alternative is
 -- a valid pattern that matches only below the directory.

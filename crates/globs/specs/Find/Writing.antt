@@ -1,5 +1,5 @@
 -- What a search writes of what it gives.
-use Rattle.std.specs.Prelude.{◌≡◌, ◌≢◌, ℕ, Bool, true, false, not, if◌then◌else◌, List, [], ◌∷◌, Option, Result, Ok, Err, filter_map, map, string_bytes}
+use Rattle.std.specs.Prelude.{◌≡◌, ◌≢◌, ℕ, Bool, true, false, if◌then◌else◌, List, [], ◌∷◌, Option, Result, Ok, Err, filter_map, map, string_bytes}
 use Rattle.std.specs.Io.KnownBytes.{Appends}
 use Rattle.glob_console.specs.FoundPaths.{has_any}
 use Rattle.glob_lines.specs.Lines.{AppendsFront, ended_record, with_ends}
@@ -27,12 +27,11 @@ abbrev pub search_status : List Gift → ℕ
 search_status gifts = if has_unread gifts then 2 else (if has_any (found_paths gifts) then 0 else 1)
 
 -- With a status other than 2, exactly the paths that are found were written, a record each, in order, and the status says
--- whether there is one. With the status 2, the first bytes of these were, perhaps all, unless the search heeds files with
--- rules: one that cannot be read, or has a line that is refused, has no rules.
-unfoldable pub WritesGifts : (end : ℕ) → (heeds : Bool) → List Gift → (old new : Option (List ℕ)) → (status : ℕ) → Type 0
-WritesGifts end heeds gifts old new status =
+-- whether there is one. With the status 2, the first bytes of these were, perhaps all.
+unfoldable pub WritesGifts : (end : ℕ) → List Gift → (old new : Option (List ℕ)) → (status : ℕ) → Type 0
+WritesGifts end gifts old new status =
     (status ≢ 2 → Appends old new (with_ends end (found_paths gifts)) × (status ≡ search_status gifts))
-    × (status ≡ 2 → heeds ≡ false → AppendsFront old new (with_ends end (found_paths gifts)))
+    × (status ≡ 2 → AppendsFront old new (with_ends end (found_paths gifts)))
 
 -- the status of what was found
 abbrev pub status_of : Findings → ℕ
@@ -48,15 +47,15 @@ abbrev pub noting : {A : Type 0} → Findings → Result (FoundPath A) (SearchFa
 noting findings (Ok found) = record findings { has_path = true }
 noting findings (Err e) = record findings { has_fault = true }
 
--- the search ends with this fault; one of a file with rules comes only if it heeds such files
-abbrev pub is_end : {A : Type 0} → (heeds : Bool) → SearchFault A → Bool
-is_end heeds (fault.Unread path e) = false
-is_end heeds (fault.UnreadRules path e) = not heeds
-is_end heeds (fault.RefusedRules path line reason) = not heeds
-is_end heeds fault.Limit = true
-is_end heeds fault.Memory = true
+-- the search ends with this fault
+abbrev pub is_end : {A : Type 0} → SearchFault A → Bool
+is_end (fault.Unread path e) = false
+is_end (fault.UnreadRules path e) = false
+is_end (fault.RefusedRules path refusals) = false
+is_end fault.Limit = true
+is_end fault.Memory = true
 
 -- it ends with this item
-abbrev pub is_last : {A : Type 0} → (heeds : Bool) → Result (FoundPath A) (SearchFault A) → Bool
-is_last heeds (Ok found) = false
-is_last heeds (Err e) = is_end heeds e
+abbrev pub is_last : {A : Type 0} → Result (FoundPath A) (SearchFault A) → Bool
+is_last (Ok found) = false
+is_last (Err e) = is_end e

@@ -4,11 +4,12 @@ ghost use Rattle.glob_rules.specs.Lists.{rules_of};
 ghost use Rattle.glob_text.specs.Text.{Text};
 ghost use Rattle.globs.specs.Find.Aiming.{IgnoresByList, IsAsked, depth_of, first_lists, git_lists, git_names, heeds, is_ruled, last_lists, lists_of, rule_files, wanted_of};
 
-use crate::find::fault::report_search;
+use crate::find::fault::report_refusals;
+use crate::ignoring::RulesFault;
 use crate::options::{Kind, Options};
 use glob_console::ErrorLines;
-use glob_rules::{IgnoreList, RuleRefusal};
-use glob_search::{RuleTexts, SearchFault, Settings, Wanted};
+use glob_rules::IgnoreList;
+use glob_search::{RuleTexts, Settings, Wanted};
 use glob_tree::ListError;
 use std::alloc::{AllocError, Allocator};
 use std::io::Write;
@@ -22,11 +23,24 @@ const GITIGNORE: &str = ".gitignore";
 /// The rule for what git keeps to itself.
 const GIT: &str = ".git";
 
-/// Rules that come after those of files in directories, and whether some of them could not be read.
+/// Rules that come after those of files in directories, and whether some of them could not be read or are refused.
 #[derive(Drop)]
 pub struct LastRules<A: Allocator> {
     pub lists: Vec<IgnoreList<A>, A>,
     pub has_fault: bool,
+}
+
+impl<A: Allocator> LastRules<A> {
+    /// No rules.
+    fn none(alloc: A, has_fault: bool) -> Self
+        ensures lists { result.lists.items ≡ [] }
+        ensures fault { result.has_fault ≡ has_fault }
+    {
+        LastRules {
+            lists: Vec::new(alloc),
+            has_fault,
+        }
+    }
 }
 
 /// What a search is asked for by the options, where `list` has the rules of the command line, and `last` those that come
@@ -163,8 +177,8 @@ fn git_lists<A: Allocator + Copy>(
     Ok(lists)
 }
 
-/// The rules that come after those of files in directories. Where they cannot be read there are none, and a line of
-/// `errors` says so.
+/// The rules that come after those of files in directories. Where they cannot be read there are none, and lines of
+/// `errors` say so, and which of their lines are refused.
 pub fn last_rules<A: Allocator + Copy, X: RuleTexts<Alloc = A>, E: Write>(
     alloc: A,
     is_git: bool,
@@ -173,59 +187,42 @@ pub fn last_rules<A: Allocator + Copy, X: RuleTexts<Alloc = A>, E: Write>(
 ) -> Result<LastRules<A>, AllocError>
     ensures kept { X.texts texts.new ≡ X.texts texts.old }
     ensures lists { (known : Text → Option Text) → X.texts texts.old ≡ Some known
-        → IfOk result (λ last. last.has_fault ≡ false
-        → last.lists.items ≡ last_lists is_git known) }
+        → IfOk result (λ last. last.lists.items ≡ last_lists is_git known) }
     ensures fault { IfOk result (λ last. is_git ≡ false → last.has_fault ≡ false) }
 {
-    if !is_git {
-        return Ok(LastRules {
-            lists: Vec::new(alloc),
-            has_fault: false,
-        });
-    }
-    match exclude_lists(alloc, texts) {
-        Ok(lists) => Ok(LastRules {
-            lists,
-            has_fault: false,
-        }),
-        Err(fault) => {
-            report_search(fault, true, errors);
-            Ok(LastRules {
-                lists: Vec::new(alloc),
-                has_fault: true,
-            })
-        }
+    if is_git {
+        exclude_rules(alloc, texts, errors)
+    } else {
+        Ok(LastRules::none(alloc, false))
     }
 }
 
-/// The list of the rules that git heeds beside the files of each directory, if there are any.
-fn exclude_lists<A: Allocator + Copy, X: RuleTexts<Alloc = A>>(
+/// The rules that git heeds beside the files of each directory, if there are any.
+fn exclude_rules<A: Allocator + Copy, X: RuleTexts<Alloc = A>, E: Write>(
     alloc: A,
     texts: &mut X,
-) -> Result<Vec<IgnoreList<A>, A>, SearchFault<A>>
+    errors: &mut ErrorLines<'_, A, E>,
+) -> Result<LastRules<A>, AllocError>
     ensures kept { X.texts texts.new ≡ X.texts texts.old }
     ensures lists { (known : Text → Option Text) → X.texts texts.old ≡ Some known
-        → IfOk result (λ lists. lists.items
+        → IfOk result (λ last. last.lists.items
         ≡ lists_of (option_map rules_of (known (codes ".git/info/exclude")))) }
 {
-    let mut lists = Vec::new(alloc);
     let text = match texts.text(EXCLUDE) {
         Ok(Some(text)) => text,
-        Ok(None) => return Ok(lists),
+        Ok(None) => return Ok(LastRules::none(alloc, false)),
         Err(ListError::Read(error)) => {
-            return Err(SearchFault::UnreadRules(String::from_str(alloc, EXCLUDE)?, error));
+            errors.write(&RulesFault::unread(EXCLUDE, error));
+            return Ok(LastRules::none(alloc, true));
         }
-        Err(ListError::Memory) => return Err(SearchFault::Memory),
+        Err(ListError::Memory) => return Err(AllocError),
     };
-    match IgnoreList::new(alloc, text.as_str()) {
-        Ok(list) => {
-            lists.push(list)?;
-            Ok(lists)
-        }
-        Err(RuleRefusal::Line(line, reason)) => {
-            let path = String::from_str(alloc, EXCLUDE)?;
-            Err(SearchFault::RefusedRules(path, line, reason))
-        }
-        Err(RuleRefusal::Memory) => Err(SearchFault::Memory),
-    }
+    let (list, refusals) = IgnoreList::lenient(alloc, text.as_str())?;
+    report_refusals(EXCLUDE, refusals.as_slice(), errors);
+    let mut lists = Vec::new(alloc);
+    lists.push(list)?;
+    Ok(LastRules {
+        lists,
+        has_fault: !refusals.is_empty(),
+    })
 }

@@ -5,6 +5,7 @@ ghost use Rattle.globs.specs.Find.Writing.{is_end};
 use crate::find::strays::UnsettledLine;
 use crate::ignoring::RulesFault;
 use glob_console::ErrorLines;
+use glob_rules::RuleRefusal;
 use glob_search::SearchFault;
 use std::alloc::{AllocError, AllocFailed, Allocator};
 use std::io::{self, Write};
@@ -51,14 +52,12 @@ impl FindFault {
     }
 }
 
-/// Writes the line about what a search could not do. Returns whether the search ends with that, as it would with a fault
-/// of a file with rules if it heeded none.
+/// Writes the lines about what a search could not do. Returns whether the search ends with that.
 pub fn report_search<A: Allocator + Copy, E: Write>(
     fault: SearchFault<A>,
-    heeds: bool,
     errors: &mut ErrorLines<'_, A, E>,
 ) -> bool
-    ensures { result ≡ is_end heeds fault }
+    ensures { result ≡ is_end fault }
 {
     match fault {
         SearchFault::Unread(path, error) => {
@@ -70,11 +69,11 @@ pub fn report_search<A: Allocator + Copy, E: Write>(
         }
         SearchFault::UnreadRules(path, error) => {
             errors.write(&RulesFault::unread(path.as_str(), error));
-            !heeds
+            false
         }
-        SearchFault::RefusedRules(path, line, reason) => {
-            errors.write(&RulesFault::Refused(path.as_str(), line, reason));
-            !heeds
+        SearchFault::RefusedRules(path, refusals) => {
+            report_refusals(path.as_str(), refusals.as_slice(), errors);
+            false
         }
         SearchFault::Limit => {
             errors.write(&"the limit of -n is reached: the output is incomplete");
@@ -83,6 +82,22 @@ pub fn report_search<A: Allocator + Copy, E: Write>(
         SearchFault::Memory => {
             errors.write(&"out of memory");
             true
+        }
+    }
+}
+
+/// Writes a line about each line that is refused of the file with rules at a path.
+pub fn report_refusals<A: Allocator + Copy, E: Write>(
+    path: &str,
+    refusals: &[RuleRefusal],
+    errors: &mut ErrorLines<'_, A, E>,
+) {
+    for refusal in refusals {
+        match refusal {
+            RuleRefusal::Line(line, reason) => {
+                errors.write(&RulesFault::Refused(path, *line, *reason));
+            }
+            RuleRefusal::Memory => errors.write(&RulesFault::Memory),
         }
     }
 }

@@ -60,7 +60,6 @@ pub fn run_search<A, T, X, W, E>(
     search: Search<A>,
     tree: &mut T,
     texts: &mut X,
-    heeds: bool,
     end: u8,
     output: &mut W,
     errors: &mut ErrorLines<'_, A, E>,
@@ -74,12 +73,12 @@ where
     ensures most { result ≤ 2 }
     ensures written { (c : Content) (a : Aim) (known : Text → Option Text)
         → IsTold (T.tells tree.old) c → X.texts texts.old ≡ Some known
-        → AreTextsOf c a search.files known → (all : List Gift) → HasGiven all c a [] search
-        → WritesGifts end heeds all
+        → AreTextsOf c a search.files known → (all : List Gift) → HasGiven all c a known [] search
+        → WritesGifts end all
         (W.contents output.old) (W.contents output.new) result }
 {
     let mut search = search;
-    match write_found(alloc, &mut search, tree, texts, heeds, end, output, errors) {
+    match write_found(alloc, &mut search, tree, texts, end, output, errors) {
         Ok(findings) => findings.status(),
         Err(find_fault) => find_fault.report(errors),
     }
@@ -91,7 +90,6 @@ fn write_found<A, T, X, W, E>(
     search: &mut Search<A>,
     tree: &mut T,
     texts: &mut X,
-    heeds: bool,
     end: u8,
     output: &mut W,
     errors: &mut ErrorLines<'_, A, E>,
@@ -104,13 +102,13 @@ where
     E: Write,
     ensures written { (c : Content) (a : Aim) (known : Text → Option Text)
         → IsTold (T.tells tree.old) c → X.texts texts.old ≡ Some known
-        → AreTextsOf c a search.old.files known → (all : List Gift) → HasGiven all c a [] search.old
-        → IfOk result (λ findings. WritesGifts end heeds all
+        → AreTextsOf c a search.old.files known → (all : List Gift) → HasGiven all c a known [] search.old
+        → IfOk result (λ findings. WritesGifts end all
         (W.contents output.old) (W.contents output.new) (status_of findings)) }
     ensures some { (c : Content) (a : Aim) (known : Text → Option Text)
         → IsTold (T.tells tree.old) c → X.texts texts.old ≡ Some known
-        → AreTextsOf c a search.old.files known → (all : List Gift) → HasGiven all c a [] search.old
-        → heeds ≡ false → OnErr result (AppendsFront
+        → AreTextsOf c a search.old.files known → (all : List Gift) → HasGiven all c a known [] search.old
+        → OnErr result (AppendsFront
         (W.contents output.old) (W.contents output.new) (with_ends end (found_paths all))) }
 {
     let mut lines = Lines::new(alloc, end)?;
@@ -124,15 +122,7 @@ where
             }
             Some(item) => {
                 let spent = search.spent();
-                if write_item(
-                    item,
-                    heeds,
-                    spent,
-                    &mut lines,
-                    &mut findings,
-                    output,
-                    errors,
-                )? {
+                if write_item(item, spent, &mut lines, &mut findings, output, errors)? {
                     return Ok(findings);
                 }
             }
@@ -145,7 +135,6 @@ where
 /// that: then no line waits.
 fn write_item<A, W, E>(
     item: Result<Found<A>, SearchFault<A>>,
-    heeds: bool,
     spent: u64,
     lines: &mut Lines<A>,
     findings: &mut Findings,
@@ -157,7 +146,7 @@ where
     W: Write,
     E: Write,
     ensures end { lines.new.end ≡ lines.old.end }
-    ensures last { IfOk result (λ ends. ends ≡ is_last heeds item) }
+    ensures last { IfOk result (λ ends. ends ≡ is_last item) }
     ensures noted { OnOk result (findings.new ≡ noting findings.old item) }
     ensures none { IfOk result (λ ends. ends ≡ true → lines.new.waiting.items ≡ []) }
     ensures written { OnOk result (Queues (W.contents output.old) lines.old.waiting.items
@@ -174,7 +163,7 @@ where
         Err(fault) => {
             findings.has_fault = true;
             lines.flush(output)?;
-            Ok(report_search(fault, heeds, errors))
+            Ok(report_search(fault, errors))
         }
     }
 }

@@ -1,4 +1,4 @@
-//! Made by `bin/rust_crate` from `crates/glob/src/paths.rt`, where its contracts are: sha256 09d2e349b2b2c833.
+//! Made by `bin/rust_crate` from `crates/glob/src/paths.rt`, where its contracts are: sha256 c1b6bbc58186c5ee.
 //! Public there: `spent`, `given`. A trait of a user may have a function of such a name.
 //!
 //! A walk over a tree, item by item.

@@ -1,4 +1,4 @@
-//! Made by `bin/rust_crate` from `crates/glob_rules/src/list.rt`, where its contracts are: sha256 94bc3a0f5477968c.
+//! Made by `bin/rust_crate` from `crates/glob_rules/src/list.rt`, where its contracts are: sha256 4b8d2f07953e4908.
 //! Not derived there: `IgnoreList`.
 //!
 //! Ignore lists: which paths they ignore, and by which rule.
@@ -60,9 +60,31 @@ impl IgnoreList {
     ///
     /// </details>
     pub fn new(text: &str) -> Result<Self, RuleRefusal> {
-        let (_, rules, patterns) = Rules::read(text)?.into_parts();
+        let (list, refusals) = Self::lenient(text);
+        match refusals.into_iter().next() {
+            Some(refusal) => Err(refusal),
+            None => Ok(list),
+        }
+    }
+
+    /// The rules of a text without the lines that are refused, and why each of these is, as for a file of somebody
+    /// else. The lines that are left keep their numbers: of `*.o`, `[é]` and `target/` the last is line 3.
+    ///
+    /// The refusals are [`Line`](RuleRefusal::Line), in the order of lines.
+    ///
+    /// <details><summary>Contract</summary>
+    ///
+    /// ```text
+    /// ensures rules { IfOk result (λ read. read.0 ≡ rules_of text.now) }
+    /// ensures refusals { IfOk result (λ read. read.1.items ≡ refusals_of text.now) }
+    /// ```
+    ///
+    /// </details>
+    #[must_use]
+    pub fn lenient(text: &str) -> (Self, Vec<RuleRefusal>) {
+        let (_, rules, patterns, refusals) = Rules::read(text).into_parts();
         let set = PatternSet::new(patterns, rule_options());
-        Ok(IgnoreList { rules, set })
+        (IgnoreList { rules, set }, refusals)
     }
 
     /// Whether the list ignores a path, where `is_directory` says that it is a directory. A symbolic link is none. Of

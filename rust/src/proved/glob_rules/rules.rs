@@ -1,4 +1,4 @@
-//! Made by `bin/rust_crate` from `crates/glob_rules/src/rules.rt`, where its contracts are: sha256 54d5999560c04da2.
+//! Made by `bin/rust_crate` from `crates/glob_rules/src/rules.rt`, where its contracts are: sha256 353e3e9f628abfca.
 //!
 //! The rules of a text, line by line.
 
@@ -9,53 +9,65 @@ use crate::proved::glob_rules::reading::Outcome;
 use crate::proved::glob_rules::rule::Rule;
 use std::str;
 
-/// The rules so far, and their patterns.
+/// The rules so far, their patterns, and a refusal for each line that is refused.
 pub struct Rules {
     lines: usize,
     rules: Vec<Rule>,
     patterns: Vec<Pattern>,
+    refusals: Vec<RuleRefusal>,
 }
 
 impl Rules {
     /// Reads the rules of a text.
-    pub fn read(text: &str) -> Result<Self, RuleRefusal> {
-        let mut rules = Rules { lines: 0, rules: Vec::new(), patterns: Vec::new() };
+    pub fn read(text: &str) -> Self {
+        let mut rules = Rules { lines: 0, rules: Vec::new(), patterns: Vec::new(), refusals: Vec::new() };
         let lines = without_byte_order_mark(text);
         for line in lines.split('\n') {
-            rules.add_line(line.as_bytes())?;
+            rules.add_line(line.as_bytes());
         }
-        Ok(rules)
+        rules
     }
 
-    /// Adds the rule of a line, if it has one.
-    fn add_line(&mut self, text: &[u8]) -> Result<(), RuleRefusal> {
+    /// Adds the rule of a line, if it has one, or its refusal.
+    fn add_line(&mut self, text: &[u8]) {
         self.lines = self.lines.saturating_add(1);
         let line = Line::read(text);
         match line.outcome() {
-            Outcome::Nothing => Ok(()),
-            Outcome::Refused(reason) => Err(RuleRefusal::Line(self.lines, reason)),
+            Outcome::Nothing => {}
+            Outcome::Refused(reason) => self.refuse(reason),
             Outcome::Named => self.add_rule(&line),
         }
     }
 
-    /// Adds the rule of the last line.
-    fn add_rule(&mut self, line: &Line) -> Result<(), RuleRefusal> {
-        let pattern = pattern_of(line.glob(), self.lines)?;
+    /// Adds the rule of the last line, or its refusal.
+    fn add_rule(&mut self, line: &Line) {
+        let Some(pattern) = pattern_of(line.glob()) else {
+            return self.refuse(Reason::Pattern);
+        };
         self.patterns.push(pattern);
         self.rules.push(Rule { line: self.lines, negative: line.negative(), directories: line.directories() });
-        Ok(())
     }
 
-    /// Takes it apart: the number of lines, the rules, and their patterns.
-    pub fn into_parts(self) -> (usize, Vec<Rule>, Vec<Pattern>) {
-        (self.lines, self.rules, self.patterns)
+    /// Adds the refusal of the last line.
+    fn refuse(&mut self, reason: Reason) {
+        self.refusals.push(RuleRefusal::Line(self.lines, reason));
+    }
+
+    /// Takes it apart: the number of lines, the rules, their patterns, and the refusals.
+    pub fn into_parts(self) -> (usize, Vec<Rule>, Vec<Pattern>, Vec<RuleRefusal>) {
+        (self.lines, self.rules, self.patterns, self.refusals)
     }
 }
 
-/// The pattern of the rule in this line.
-fn pattern_of(glob: &[u8], line: usize) -> Result<Pattern, RuleRefusal> {
-    let text = str::from_utf8(glob).map_err(|_| RuleRefusal::Line(line, Reason::Pattern))?;
-    Pattern::new(text).map_err(|_| RuleRefusal::Line(line, Reason::Pattern))
+/// The pattern of the rule in this line, if it is valid.
+fn pattern_of(glob: &[u8]) -> Option<Pattern> {
+    let Ok(text) = str::from_utf8(glob) else {
+        return None;
+    };
+    match Pattern::new(text) {
+        Ok(pattern) => Some(pattern),
+        Err(_) => None,
+    }
 }
 
 /// The text without its byte order mark.

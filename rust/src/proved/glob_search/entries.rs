@@ -1,4 +1,4 @@
-//! Made by `bin/rust_crate` from `crates/glob_search/src/entries.rt`, where its contracts are: sha256 4e114e577a5ecdc0.
+//! Made by `bin/rust_crate` from `crates/glob_search/src/entries.rt`, where its contracts are: sha256 bc6172b33d95903c.
 //!
 //! What a directory has.
 

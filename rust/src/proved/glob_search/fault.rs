@@ -1,9 +1,9 @@
-//! Made by `bin/rust_crate` from `crates/glob_search/src/fault.rt`, where its contracts are: sha256 f0efc06633f92eea.
+//! Made by `bin/rust_crate` from `crates/glob_search/src/fault.rt`, where its contracts are: sha256 1e6a00f57a232deb.
 //! `SearchFault` is not `#[non_exhaustive]` there.
 //!
 //! What a search could not do.
 
-use crate::proved::glob_rules::Reason;
+use crate::proved::glob_rules::RuleRefusal;
 use crate::proved::glob_search::meter::OverLimit;
 use std::error::Error;
 use std::{fmt, io};
@@ -16,8 +16,9 @@ pub enum SearchFault {
     Unread(String, io::Error),
     /// The file with rules at the path could not be read, so its rules are not heard.
     UnreadRules(String, io::Error),
-    /// A line of the file with rules at the path is refused, so none of its rules is heard.
-    RefusedRules(String, usize, Reason),
+    /// Lines of the file with rules at the path are refused: these are their refusals. The rules of its other lines are
+    /// heard.
+    RefusedRules(String, Vec<RuleRefusal>),
     /// The next unit of work does not fit the limit. The search has ended.
     Limit,
 }
@@ -38,8 +39,13 @@ impl fmt::Display for SearchFault {
             SearchFault::Unread(path, error) | SearchFault::UnreadRules(path, error) => {
                 write!(f, "{path}: {error}")
             }
-            SearchFault::RefusedRules(path, line, reason) => {
-                write!(f, "{path}: line {line}: {reason}")
+            SearchFault::RefusedRules(path, refusals) => {
+                f.write_str(path.as_str())?;
+                for (number, refusal) in refusals.iter().enumerate() {
+                    f.write_str(if number == 0 { ": " } else { "; " })?;
+                    write!(f, "{refusal}")?;
+                }
+                Ok(())
             }
             SearchFault::Limit => f.write_str("search limit reached"),
         }

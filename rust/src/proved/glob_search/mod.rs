@@ -1,4 +1,4 @@
-//! Made by `bin/rust_crate` from `crates/glob_search/src/lib.rt`, where its contracts are: sha256 de521990df50edd5.
+//! Made by `bin/rust_crate` from `crates/glob_search/src/lib.rt`, where its contracts are: sha256 c4778541a9dee8d2.
 //!
 //! Searches: the paths below a directory that some of many patterns match, each once and in order, without those that
 //! ignore files leave out.
@@ -7,13 +7,14 @@
 //!
 //! Over a known content, the calls of [`Search::next`] give exactly what `specs/Visiting.antt` writes, one after another
 //! and then `None`: each path that a filter of all keys takes (`specs/Searching.antt`), once and in ascending order, and
-//! each directory that could not be listed. The [`laws`] tie the order to the filter. This holds until a file with rules
-//! cannot be read or has a refused line, the limit is reached, or memory runs out.
+//! each directory that could not be listed. The [`laws`] tie the order to the filter. This holds until the limit is
+//! reached, or memory runs out.
 //!
 //! Over any tree, also one whose answers contradict each other, a search is safe, each call comes to an end, each path
 //! comes after those before it in the order of names, and what is charged only grows and is never more than the limit.
 //!
-//! A file with a refused line has no rules, and a pattern with an empty component, `.` or `..` finds nothing.
+//! A line that is refused in a file with rules is reported, and has no rule. A pattern with an empty component, `.` or
+//! `..` finds nothing.
 
 mod beginnings;
 mod entries;

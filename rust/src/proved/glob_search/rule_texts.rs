@@ -1,4 +1,4 @@
-//! Made by `bin/rust_crate` from `crates/glob_search/src/rule_texts.rt`, where its contracts are: sha256 82766cac00ffeb14.
+//! Made by `bin/rust_crate` from `crates/glob_search/src/rule_texts.rt`, where its contracts are: sha256 3c040d3a1e960cfe.
 //!
 //! Where the texts of ignore files come from.
 
@@ -29,7 +29,7 @@ pub trait RuleTexts {
     ///
     /// # Errors
     ///
-    /// The error says why it cannot be read.
+    /// The error says why it cannot be read. Where the texts are known, each can be.
     ///
     /// <details><summary>Contract</summary>
     ///
@@ -37,6 +37,8 @@ pub trait RuleTexts {
     /// ensures kept { texts self.new ≡ texts self.old }
     /// ensures text { (known : List ℕ → Option (List ℕ)) → texts self.old ≡ Some known
     ///     → IfOk result (λ text. option_map (λ t. string_bytes t) text ≡ known path.now) }
+    /// ensures fails { (known : List ℕ → Option (List ℕ)) → texts self.old ≡ Some known
+    ///     → IfErr result (λ e. e ≡ Memory) }
     /// ```
     ///
     /// </details>

@@ -1,4 +1,4 @@
-//! Made by `bin/rust_crate` from `crates/glob_search/src/search.rt`, where its contracts are: sha256 cf90c639eb5f205e.
+//! Made by `bin/rust_crate` from `crates/glob_search/src/search.rt`, where its contracts are: sha256 f000cc1be041ca93.
 //!
 //! Searches.
 
@@ -36,7 +36,8 @@ impl Search {
     ///
     /// Where the content of the tree and the texts of the files with rules are known, the paths and the directories that
     /// cannot be listed are exactly those that the search has to give, one after another, and `None` comes after the last.
-    /// After a file with rules that cannot be read or is refused the search goes on by other rules.
+    /// Where lines of a file with rules are refused, the search goes on by its other lines, and after a file that cannot
+    /// be read by other files.
     pub fn next<T: Tree, R: RuleTexts>(&mut self, tree: &mut T, texts: &mut R) -> Option<Result<Found, SearchFault>> {
         self.searcher.next(tree, texts)
     }

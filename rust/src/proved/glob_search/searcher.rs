@@ -1,4 +1,4 @@
-//! Made by `bin/rust_crate` from `crates/glob_search/src/searcher.rt`, where its contracts are: sha256 52730331ee79bdd3.
+//! Made by `bin/rust_crate` from `crates/glob_search/src/searcher.rt`, where its contracts are: sha256 df22bacd7fdf159c.
 //!
 //! How a search goes.
 //!
@@ -178,22 +178,25 @@ impl Searcher {
         };
         let path = child(frame.path.as_str(), name.as_str());
         let above = path.len().saturating_sub(name.len());
-        if let Some(list) = read_list(texts, path)? {
-            self.heard.files.push(FileRules { above, list });
+        let Some((list, refusals)) = read_list(texts, path.as_str())? else {
+            return Ok(());
+        };
+        self.heard.files.push(FileRules { above, list });
+        if refusals.is_empty() {
+            return Ok(());
         }
-        Ok(())
+        Err(SearchFault::RefusedRules(path, refusals))
     }
 }
 
-/// The rules of the file at a path, if there is one.
-fn read_list<R: RuleTexts>(texts: &mut R, path: String) -> Result<Option<IgnoreList>, SearchFault> {
-    let text = match texts.text(path.as_str()) {
+/// The rules of the file at a path, if there is one, and the refusals of its lines.
+fn read_list<R: RuleTexts>(texts: &mut R, path: &str) -> Result<Option<(IgnoreList, Vec<RuleRefusal>)>, SearchFault> {
+    let text = match texts.text(path) {
         Ok(Some(text)) => text,
         Ok(None) => return Ok(None),
-        Err(error) => return Err(SearchFault::UnreadRules(path, error)),
+        Err(error) => {
+            return Err(SearchFault::UnreadRules(String::from(path), error));
+        }
     };
-    match IgnoreList::new(text.as_str()) {
-        Ok(list) => Ok(Some(list)),
-        Err(RuleRefusal::Line(line, reason)) => Err(SearchFault::RefusedRules(path, line, reason)),
-    }
+    Ok(Some(IgnoreList::lenient(text.as_str())))
 }

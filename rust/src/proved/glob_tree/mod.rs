@@ -1,4 +1,4 @@
-//! Made by `bin/rust_crate` from `crates/glob_tree/src/lib.rt`, where its contracts are: sha256 142ac137526f8b6e.
+//! Made by `bin/rust_crate` from `crates/glob_tree/src/lib.rt`, where its contracts are: sha256 2550543fad4103e5.
 
 mod name;
 mod path_text;

@@ -1,4 +1,4 @@
-//! Made by `bin/rust_crate` from `crates/glob_walk/src/error.rt`, where its contracts are: sha256 495a8a9b8c14c2ae.
+//! Made by `bin/rust_crate` from `crates/glob_walk/src/error.rt`, where its contracts are: sha256 f4713f428abb0b36.
 //! `GlobCause` is not `#[non_exhaustive]` there.
 //! `self.error` is there `*self.error()`: an I/O error of std is not Copy.
 //! `reason` is there `cause`: `cause` is a method of Rust's trait Error.

@@ -1,4 +1,4 @@
-//! Made by `bin/rust_crate` from `crates/glob_walk/src/machine.rt`, where its contracts are: sha256 f67e446bcdaf4773.
+//! Made by `bin/rust_crate` from `crates/glob_walk/src/machine.rt`, where its contracts are: sha256 a85a7c52ad588933.
 //!
 //! A walk that asks its caller, and reads nothing by itself.
 

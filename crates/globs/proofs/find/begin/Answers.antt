@@ -6,8 +6,8 @@ use Rattle.globs.proofs.AimLemmas.{aim_is}
 use Rattle.globs.proofs.find.begin.Goals as goal
 
 pub returns-in-Ok-clause-fresh : goal.returns-in-Ok-clause-fresh
-returns-in-Ok-clause-fresh g c c' text_at is told none =
-    subst (λ a. HasGiven (gifts c' a) c' a [] c.in-Ok.search)
+returns-in-Ok-clause-fresh g c c' text_at is told =
+    subst (λ a. HasGiven (gifts c' a) c' a text_at [] c.in-Ok.search)
     (aim_is c.args.options.now c.args.list _ c.in_ok-settings.settings (map (λ p. p.now) c.args.patterns.now) text_at c.in_ok-settings.ensures
-    (c.in_ok-lists.ensures.lists text_at told none ∙ ap (λ o. last_lists o.settings.is_git text_at) c.options.view_is))
+    (c.in_ok-lists.ensures.lists text_at told ∙ ap (λ o. last_lists o.settings.is_git text_at) c.options.view_is))
     (c.in-Ok.ensures.fresh c' text_at is)

@@ -1,12 +1,10 @@
 use Rattle.std.proofs.Common.{◌∙◌, ap, inr, map, refl, subst, sym}
-use Rattle.std.proofs.lemmas.Bool.{false≢true}
 use Rattle.glob_search.specs.Aims.{AreTextsOf}
 use Rattle.glob_search.specs.Visiting.{gifts}
 use Rattle.globs.specs.Find.Aiming.{aim, heeded}
 use Rattle.globs.specs.Find.Outcomes.{FindsPaths}
 use Rattle.globs.specs.Find.Writing.{WritesGifts}
-use Rattle.globs.proofs.AimLemmas.{unheeded}
-use Rattle.globs.proofs.SearchedLemmas.{WritesGifts-fault}
+use Rattle.globs.proofs.SearchedLemmas.{WritesGifts-fault, WritesGifts-front}
 use Rattle.globs.proofs.find.run_find.Goals as goal
 
 pub returns-clause-found : goal.returns-clause-found
@@ -15,14 +13,23 @@ returns-clause-found g c = inr (λ c' text_at told is fit.
     let o = c.args.options.now in
     let a = aim o c.args.list (map (λ p. p.now) c.args.patterns.now) text_at in
     let held = g.W.Write.contents in
-    let known = c.in-Ok.ensures.kept ∙ (ap (λ h. heeded h (g.X.RuleTexts.texts c.args.texts)) c.heeds_files-heeds.ensures.heeds ∙ is) in
-    let fresh = c.in-Ok.ensures.fresh c' text_at told.1 (ap (λ h. heeded h (g.X.RuleTexts.texts c.args.texts)) c.heeds_files-heeds.ensures.heeds ∙ is) c.if-has_fault.false in
-    subst (λ h. WritesGifts o.settings.end h (gifts c' a) (held c.args.output.now) (held c.run_search-status.new.output) c.run_search-status.result) c.heeds_files-heeds.ensures.heeds
-    (subst (λ v. WritesGifts v.settings.end c.heeds_files-heeds.result (gifts c' a) (held c.args.output.now) (held c.run_search-status.new.output) c.run_search-status.result) c.options.view_is
-    (c.run_search-status.ensures.written c' a text_at told known (subst (λ ns. AreTextsOf c' a ns text_at) (sym c.in-Ok.ensures.files) fit) (gifts c' a) fresh)))
+    let heeds = ap (λ h. heeded h (g.X.RuleTexts.texts c.args.texts)) c.heeds_files-heeds.ensures.heeds ∙ is in
+    let fresh = c.in-Ok.ensures.fresh c' text_at told.1 heeds in
+    subst (λ v. WritesGifts v.settings.end (gifts c' a) (held c.args.output.now) (held c.run_search-status.new.output) c.run_search-status.result)
+    c.options.view_is
+    (c.run_search-status.ensures.written c' a text_at told (c.in-Ok.ensures.kept ∙ heeds)
+    (subst (λ ns. AreTextsOf c' a ns text_at) (sym c.in-Ok.ensures.files) fit) (gifts c' a) fresh))
 
 pub returns-then-has_fault-clause-found : goal.returns-then-has_fault-clause-found
 unfolding FindsPaths
 returns-then-has_fault-clause-found g c = inr (λ c' text_at told is fit.
-    WritesGifts-fault _ _ _ _ _ 2 refl (λ silent.
-    absurd (false≢true (sym (c.in-Ok.ensures.fault (unheeded c.args.options.now silent)) ∙ c.if-has_fault.true))))
+    let o = c.args.options.now in
+    let a = aim o c.args.list (map (λ p. p.now) c.args.patterns.now) text_at in
+    let held = g.W.Write.contents in
+    let heeds = ap (λ h. heeded h (g.X.RuleTexts.texts c.args.texts)) c.heeds_files-heeds.ensures.heeds ∙ is in
+    let fresh = c.in-Ok.ensures.fresh c' text_at told.1 heeds in
+    subst (λ v. WritesGifts v.settings.end (gifts c' a) (held c.args.output.now) (held c.run_search-status.new.output) 2)
+    c.options.view_is
+    (WritesGifts-fault _ _ _ _ 2 refl (WritesGifts-front _ _ _ _ _
+    (c.run_search-status.ensures.written c' a text_at told (c.in-Ok.ensures.kept ∙ heeds)
+    (subst (λ ns. AreTextsOf c' a ns text_at) (sym c.in-Ok.ensures.files) fit) (gifts c' a) fresh))))

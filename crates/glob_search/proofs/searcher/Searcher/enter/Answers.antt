@@ -24,7 +24,7 @@ returns-clause-enters g c = λ content a known told (ready, free, opening).
     c.entries.ensures.same c.step_into.ensures.same
     c.in_ok-entries.entries c.source_of-source.result
     (c.in_ok-entries.ensures.entries content a names told opening.directory.there opening.directory.path ready.for.beginnings living fits)
-    c.step_into.ensures.none c.step_into.result c.step_into.ensures.some c.step_into.ensures.other
+    c.step_into.ensures.none c.step_into.result c.step_into.ensures.some c.step_into.ensures.last
 
 pub returns-in_err-entries-clause-later : goal.returns-in_err-entries-clause-later
 returns-in_err-entries-clause-later g c = λ past work.

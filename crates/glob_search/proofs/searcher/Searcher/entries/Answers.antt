@@ -11,7 +11,7 @@ returns-in-LookedUp-clause-entries g c = λ content a names told there path begi
     subst (λ s. EntriesGive content a names s (string_bytes c.args.opening.now.path) c.look_up.result) (sym c.in-LookedUp.is)
     (found-looked_up content (IsContent-from_test content told.1) a names there c.args.self.now.beginnings begins
     unlisted (string_bytes c.args.opening.now.path) c.look_up.result
-    (c.look_up.ensures.entries content a names told there path begins living unlisted) c.look_up.ensures.other)
+    (c.look_up.ensures.entries content a names told there path begins living unlisted) c.look_up.ensures.last)
 
 pub returns-in-Listed : goal.returns-in-Listed
 returns-in-Listed g c = record {

@@ -21,7 +21,7 @@ use Rattle.glob_search.proofs.EngineLemmas.Meeting.{on-else, on-then, passes, ta
 use Rattle.glob_search.proofs.EngineLemmas.Past.{meets-past, skips-past}
 use Rattle.glob_search.proofs.EngineLemmas.Paths.{child-found, names-proper, proper-parts}
 use Rattle.glob_search.proofs.EngineLemmas.Reading.{last-get, path-in}
-use Rattle.glob_search.proofs.EngineLemmas.Stepping.{other-gives}
+use Rattle.glob_search.proofs.EngineLemmas.Stepping.{last-gives}
 use Rattle.glob_search.proofs.EngineLemmas.Working.{keeps-at}
 use Rattle.glob_search.proofs.searcher.Searcher.meet.Goals.{then-len-self, else-len-self}
 use Rattle.glob_search.proofs.searcher.Searcher.meet.Goals as goal
@@ -60,7 +60,7 @@ returns-then-not-goes_on-clause-turns g c = λ content a known answers (ready, f
 pub returns-in_err-is_dir-clause-turns : goal.returns-in_err-is_dir-clause-turns
 returns-in_err-is_dir-clause-turns g c = λ content a known answers work.
     let p = err_from_is_err_and c.from_residual-in_err-is_dir.result c.from_residual-in_err-is_dir.ensures.1 in
-    rw (p.1, p.2) (other-gives content a _ c.in_err-is_dir.field-0.0 c.kind_at.new.self c.in_err-is_dir.ensures.other)
+    rw (p.1, p.2) (last-gives content a known _ c.in_err-is_dir.field-0.0 c.kind_at.new.self c.in_err-is_dir.ensures.last)
 
 pub returns-then-branch-clause-turns : goal.returns-then-branch-clause-turns
 returns-then-branch-clause-turns g c = λ content a known answers (ready, free, met).
@@ -174,7 +174,7 @@ returns-clause-turns g c = λ content a known answers (ready, free, met).
     (string_bytes c.in_ok-path.path) c.in_ok-alive.alive.items x.way t.way)) same c.take.ensures.enters)
     (subst (λ x. IfOk c.take.result (λ o. o ≡ found_if (c.is_found-is_found.result && wants x.wanted
     (unwrap_or d false)) c.in_ok-path.path d)) same c.take.ensures.finds)
-    c.take.ensures.other)
+    c.take.ensures.last)
 
 pub returns-in_err-is_dir-clause-later : goal.returns-in_err-is_dir-clause-later
 returns-in_err-is_dir-clause-later g c = λ past work.

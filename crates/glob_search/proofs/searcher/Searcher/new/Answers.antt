@@ -8,7 +8,7 @@ pub returns : goal.returns
 returns g c = record {
   begun = record { most = refl; spent = refl; deep = refl; levels = c.new.ensures.len; files = refl };
   fresh = λ content known good. elim c.if-depth-gt0.branch [
-    | then-depth-gt0 w ↦ fresh-start content good _ _ (record {
+    | then-depth-gt0 w ↦ fresh-start content good known _ _ (record {
       beginnings = c.in_ok-beginnings.ensures.beginnings;
       depth = refl;
       wanted = λ kind. refl;
@@ -18,7 +18,7 @@ returns g c = record {
       alive = c.in_ok-alive.alive;
     }) w.entering-is c.in_ok-path.ensures.ok c.in_ok-alive.ensures.alive
         w.if-depth-gt0.true
-    | else-depth-gt0 w ↦ fresh-none content good _ _ (record {
+    | else-depth-gt0 w ↦ fresh-none content good known _ _ (record {
       beginnings = c.in_ok-beginnings.ensures.beginnings;
       depth = refl;
       wanted = λ kind. refl;

@@ -1,15 +1,15 @@
 use Rattle.std.proofs.Common.{◌++◌, ◌∷◌, [], Ok, Some, map, string_bytes, ap, sym, subst, ◌∙◌, arith}
-use Rattle.std.proofs.lemmas.List.{append_assoc}
+use Rattle.std.proofs.lemmas.List.{append-nil, append_assoc}
 use Rattle.glob_search.specs.Aims.{AreTextsOf}
 use Rattle.glob_search.specs.Visiting.{Found}
-use Rattle.glob_search.specs.Private.Engine.{Turns, file_names, work_left}
+use Rattle.glob_search.specs.Private.Engine.{Ready, Turns, file_names, work_left}
 use Rattle.glob_search.specs.Private.Order.{IsPastWay, TurnsLater}
 use Rattle.glob_search.specs.Private.Steps.{NextWork}
 use Rattle.glob_search.specs.Private.Ways.{search_left}
 use Rattle.glob_search.proofs.EngineLemmas.Going.{ends-fault, gives-fault, same-files}
 use Rattle.glob_search.specs.declared.searcher.Searcher.{Searcher}
 use Rattle.glob_search.proofs.EngineLemmas.Past.{done-past, works-past}
-use Rattle.glob_search.proofs.EngineLemmas.Working.{works-next}
+use Rattle.glob_search.proofs.EngineLemmas.Working.{done-left, works-next}
 use Rattle.glob_search.proofs.searcher.Searcher.next.Goals.{then-is_last, else-is_last}
 use Rattle.glob_search.proofs.searcher.Searcher.next.Goals as goal
 
@@ -23,8 +23,8 @@ loop-work-preserved g c =
       files = c.in-Ok-None.ensures.files ∙ i.files;
       content = c.in-Ok-None.ensures.content ∙ i.content;
       texts = c.in-Ok-None.ensures.texts ∙ i.texts;
-      goes = λ content a known answers ready.
-          let k = i.goes content a known answers ready in
+      goes = λ content a known answers sound.
+          let k = i.goes content a known answers sound in
           let s = c.loop-work.self in
           let fit : AreTextsOf content a (file_names s) known = subst (λ fs. AreTextsOf content a fs known)
           (sym (same-files c.args.self.now s i.files)) answers.fit in
@@ -73,7 +73,7 @@ returns-in-Ok-Some-clause-gives g c = λ content a known answers all given had.
       path = y.path;
       kind = y.kind;
       goes = record {
-        agrees = y.ready;
+        agrees = Ready y.ready;
         upto = had.upto ∙ ap (λ gs. given ++ gs) (k.rest ∙ step.1 ∙ y.rest) ∙ sym (append_assoc given
             (Found y.names ∷ []) (search_left content a c.turn.new.self));
       };
@@ -96,10 +96,16 @@ returns-in-Err-clause-gives g c = λ content a known answers all given had.
       fit = fit;
     }) step.0 in
     elim c.if-is_last.branch [
-      | then-is_last w ↦ ends-fault content a all given c.in-Err.fault c.if-is_last.self (sym c.is_last.ensures ∙ w.if-is_last.true)
-      | else-is_last w ↦ gives-fault content a all given c.in-Err.fault c.turn.new.self c.if-is_last.self _ w.self-is
+      | then-is_last w ↦ ends-fault content a known all given c.in-Err.fault c.if-is_last.self (sym c.is_last.ensures ∙ w.if-is_last.true)
+      | else-is_last w ↦ gives-fault content a known all given c.in-Err.fault c.turn.new.self c.if-is_last.self _ w.self-is
           (had.upto ∙ ap (λ gs. given ++ gs) (k.rest ∙ step.1)) x
     ]
+
+pub returns-clause-gives : goal.returns-clause-gives
+returns-clause-gives g c = λ content a known answers all given had.
+    let k = c.loop-work.invariant.goes content a known answers had.agrees in
+    let s = c.loop-work.self in
+    had.upto ∙ ap (λ gs. given ++ gs) (k.rest ∙ done-left content a s.way c.in_default.ensures.work) ∙ append-nil given
 
 pub returns-in-Ok-Some-clause-ascends : goal.returns-in-Ok-Some-clause-ascends
 returns-in-Ok-Some-clause-ascends g c = λ past was.

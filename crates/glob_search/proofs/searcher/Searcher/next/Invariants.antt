@@ -2,7 +2,7 @@ use Rattle.std.proofs.Common.{◌≡◌, ◌≤◌, Option}
 use Rattle.glob_text.specs.Text.{Text}
 use Rattle.glob_tree.specs.Content.{Content, Key}
 use Rattle.glob_search.specs.Searching.{Aim}
-use Rattle.glob_search.specs.Private.Engine.{AreAnswers, IsReady, Keeps, file_names}
+use Rattle.glob_search.specs.Private.Engine.{AreAnswers, IsSound, Keeps, file_names}
 use Rattle.glob_search.specs.Private.Order.{IsPastSearch}
 use Rattle.glob_search.specs.Private.Ways.{search_left}
 use Rattle.glob_search.specs.Private.Weights.{weight}
@@ -18,7 +18,7 @@ invariant-loop-work g l = record {
   texts : g.R.RuleTexts.texts l.texts ≡ g.R.RuleTexts.texts l.initial.texts;
   goes : (c : Content) (a : Aim) (known : Text → Option Text) → AreAnswers (g.T.Tree.tells l.initial.tree)
       (g.R.RuleTexts.texts l.initial.texts) (file_names l.initial.self) c a known
-      → IsReady c a l.initial.self → Keeps c a known (search_left c a l.initial.self) l.self;
+      → IsSound c a known l.initial.self → Keeps c a known (search_left c a l.initial.self) l.self;
   ascends : (past : Key) → IsPastSearch past l.initial.self → IsPastSearch past l.self;
 }
 

@@ -1,5 +1,4 @@
-use Rattle.std.proofs.Common.{◌≡◌, refl, ap}
-use Rattle.glob_search.specs.declared.frame.Frame.{Frame}
+use Rattle.std.proofs.Common.{refl}
 use Rattle.glob_search.proofs.EngineLemmas.Stepping.{frame-heard}
 use Rattle.glob_search.proofs.searcher.Searcher.step_into.Goals as goal
 

@@ -1,4 +1,4 @@
-use Rattle.std.proofs.Common.{◌≡◌, ◌-◌, ◌+◌, ◌++◌, ◌∷◌, [], None, refl, sym, ap, ◌∙◌, arith}
+use Rattle.std.proofs.Common.{◌≡◌, ◌-◌, ◌+◌, ◌++◌, ◌∷◌, [], refl, sym, ap, ◌∙◌, arith}
 use Rattle.std.specs.Prelude.{sum_by, vec_len}
 use Rattle.std.proofs.lemmas.List.Sums.{sum_by-append}
 use Rattle.glob_search.specs.Private.Weights.{frame_weight, opening_weight}

@@ -9,9 +9,9 @@ returns-in-Ok-clause-most g c = c.status.ensures.most
 pub returns-in-Ok-clause-written : goal.returns-in-Ok-clause-written
 returns-in-Ok-clause-written g c c' a known told is fit all begun =
     let held = g.W.Write.contents in
-    subst (WritesGifts c.args.end c.args.heeds all (held c.args.output.now) (held c.write_found.new.output)) (sym c.status.ensures.status)
+    subst (WritesGifts c.args.end all (held c.args.output.now) (held c.write_found.new.output)) (sym c.status.ensures.status)
     (c.in-Ok.ensures.written c' a known told is fit all begun)
 
 pub returns-clause-written : goal.returns-clause-written
 returns-clause-written g c c' a known told is fit all begun =
-    WritesGifts-fault c.args.end c.args.heeds all _ _ _ c.report.ensures (c.in-Err.ensures.some c' a known told is fit all begun)
+    WritesGifts-fault c.args.end all _ _ _ c.report.ensures (c.in-Err.ensures.some c' a known told is fit all begun)

@@ -6,6 +6,6 @@ use Rattle.globs.proofs.find.searching.write_found.Given as goal
 abbrev pub invariant-loop : goal.invariant-loop
 invariant-loop g l = record {
   end : l.lines.end ≡ l.end;
-  searched : Searched l.heeds l.end g.T.Tree.tells g.X.RuleTexts.texts l.fn.tree l.fn.texts l.fn.search (g.W.Write.contents l.initial.output) l.tree l.texts l.search l.findings
+  searched : Searched l.end g.T.Tree.tells g.X.RuleTexts.texts l.fn.tree l.fn.texts l.fn.search (g.W.Write.contents l.initial.output) l.tree l.texts l.search l.findings
       (g.W.Write.contents l.output) l.lines.waiting.items;
 }
