@@ -42,7 +42,7 @@ Patterns:
   **        any number of whole components: **, **/a, a/** and a/**/b
   [abc]     a, b or c; [a-c] one from a to c; [!a-c] one that is not
   [*]       a literal *. The others are written likewise: [?], [[], []], [{] and [}]
-  a.{c,h}   a.c and a.h, for find and match. Alternatives may be empty, or have braces of their own
+  a.{c,h}   a.c and a.h. Alternatives may be empty, or have braces of their own
 
 Options stand before the patterns, files or texts, each a word of its own: -t f, not -tf, and
 --max-depth 2, not --max-depth=2. -- ends them: what is after it may begin with -. Among them
@@ -176,20 +176,28 @@ globs explain: why a pattern matches a text, or does not
   -d  neither wildcards nor brackets take a . at the start of a component
   --  ends the options. A PATTERN or TEXT that begins with - needs it
 
-Of a match it writes a line for each wildcard, bracket and character of the pattern: that, a tab,
-and the piece of the text that it takes, as short as the later ones allow.
+The first line says whether globs match would copy TEXT as a line, under these options, and whether
+globs find would find it as a path, where no ?, * or bracket takes a /. Both expand braces. Of
+several alternatives the first that matches is explained, or else the first that gets farthest.
 
-Otherwise a caret is under the character of the text where it stops. The lines below say what is
-wanted there, which white space the text and the pattern end in, which forms of shells and other
-tools mean nothing here, which single change gives a match, as each was tried, and what to write
-instead of such a form. Braces are characters here: find and match expand them. A control character
-is written as \\r or \\u{1b}.
+Of a match the next lines are one for each wildcard, bracket and character of the pattern: that, a
+tab, and the piece of TEXT that it takes, as short as the later ones allow.
+
+Otherwise a caret is under the character of TEXT where it stops. The lines below say what is wanted
+there, which white space TEXT and the pattern end in, which brackets list nothing, which forms of
+shells and other tools mean nothing here, which single change gives a match, as each was tried, and
+what to write instead of such a form or a regular expression. That was tried too: if it does not
+match TEXT, the line says so. A control character is written as \\r or \\u{1b}.
+
+Where find does not find TEXT, the last line may have a pattern by which it does: **/*.rs for *.rs
+and a/b.rs.
 
 Status:
-  0         the pattern matches the text
+  0         the pattern matches TEXT, as globs match would
   1         it does not match
   2         a fault. That of a pattern that is refused is followed by the pattern, a caret at its
-            place, and what to write instead
+            place, and what to write instead. It is also a fault if the wildcards, brackets and
+            characters of the pattern, times the bytes of TEXT, are more than 67,108,864
 ";
 
 /// The page of `escape`.
