@@ -188,7 +188,9 @@ REFUSED = [
     (0, "globs", "match", "*.{o,c}"),
     (0, "globs", "explain", "a?", "ab"),
     (1, "globs", "explain", "a?", "b"),
-    (1, "globs", "explain", "*.{c,h}", "a.c"),
+    (0, "globs", "explain", "*.{c,h}", "a.h"),
+    (1, "globs", "explain", ".*\\.{c,h}$", "a/b"),
+    (0, "globs", "explain", "src/*.c", "src/a/b.c"),
     (2, "globs", "explain", "a**", "a"),
     (2, "globs", "explain", "a"),
 ]

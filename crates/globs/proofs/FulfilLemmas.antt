@@ -1,17 +1,14 @@
 -- What fulfils a request, and what a usage fault writes.
 use Rattle.std.proofs.Common.{◌≡◌, ℕ, ◌<◌, ◌≤◌, List, [], ◌∷◌, Option, length, get_or, map, inl, inr, refl, sym, subst, arith, Bor}
 use Rattle.std.specs.Prelude.{codes}
-use Rattle.std.specs.Str.{chars}
 use Rattle.std.proofs.KnownBytes.{Keeps-refl}
 use Rattle.glob_console.specs.Lines.{WritesLine}
-use Rattle.glob_console.specs.Outcomes.{IsRefused}
 use Rattle.glob_console.proofs.CallerLemmas.{text_at_fault}
-use Rattle.glob_pattern.specs.Grammar.Units.{IsAccepted}
 use Rattle.glob_pattern.specs.declared.options.MatchOptions.{MatchOptions}
 use Rattle.glob_text.specs.Text.{Text}
 use Rattle.globs.specs.Copying.{IsUnread}
 use Rattle.globs.specs.Escaping.{WritesEscaped}
-use Rattle.globs.specs.Explain.Outcomes.{Answers, Explains}
+use Rattle.globs.specs.Explain.Outcomes.{Answers, ExplainsWord}
 use Rattle.globs.specs.Faults.{WritesUsage, usage_words}
 use Rattle.globs.specs.Find.Outcomes.{FindsUnignored}
 use Rattle.globs.specs.Matching.{CopiesMatches}
@@ -28,22 +25,21 @@ use Rattle.globs.specs.declared.usage.UsageFault.TheVariants.{Word, Memory}
 
 -- a pattern and a text are answered as their question is
 pub answers_two : {W : Type 0} (contents : W → Option (List ℕ)) (o : MatchOptions) (operands : List (Bor (List ℕ))) (none other : Bor (List ℕ)) (old new : W) (status : ℕ)
-    → 2 ≤ length operands → length operands < 3 → (¬ (IsAccepted (chars (get_or operands 0 none).now)) → IsRefused old new status)
-    → Explains o (get_or operands 0 none).now (get_or operands 1 other).now (contents old) (contents new) status
+    → 2 ≤ length operands → length operands < 3
+    → ExplainsWord contents o (get_or operands 0 none).now (get_or operands 1 other).now old new status
     → Answers contents o (map (λ w. w.now) operands) old new status
 unfolding Answers
-answers_two contents o [] none other old new status long short refused explained = absurd (omega (arith, long))
-answers_two contents o (p ∷ []) none other old new status long short refused explained = absurd (omega (arith, long))
-answers_two contents o (p ∷ t ∷ []) none other old new status long short refused explained = (refused, explained)
-answers_two contents o (p ∷ t ∷ x ∷ more) none other old new status long short refused explained = absurd (omega (arith, short))
+answers_two contents o [] none other old new status long short explained = absurd (omega (arith, long))
+answers_two contents o (p ∷ []) none other old new status long short explained = absurd (omega (arith, long))
+answers_two contents o (p ∷ t ∷ []) none other old new status long short explained = explained
+answers_two contents o (p ∷ t ∷ x ∷ more) none other old new status long short explained = absurd (omega (arith, short))
 
 module _ {W : Type 0} (contents : W → Option (List ℕ)) (known : W) (status : ℕ) (is : status ≡ 2) where
   answers_refused : (o : MatchOptions) (operands : List (List ℕ)) → Answers contents o operands known known status
-  unfolding Answers Explains
+  unfolding Answers ExplainsWord
   answers_refused o [] = (is, refl)
   answers_refused o (p ∷ []) = (is, refl)
-  answers_refused o (p ∷ t ∷ []) =
-      ((λ _. (is, refl)), (λ zero. absurd (omega (arith, is, zero)), λ one. absurd (omega (arith, is, one))))
+  answers_refused o (p ∷ t ∷ []) = inl (is, refl)
   answers_refused o (p ∷ t ∷ x ∷ more) = (is, refl)
 
   -- a fault before anything was done with the output fulfils each request

@@ -1,2 +1,4 @@
 pub mod Hints
+pub mod Offers
 pub mod Outcomes
+pub mod Verdict

@@ -63,7 +63,7 @@ fn expand_word<A: Allocator + Copy, E: Write>(
 }
 
 /// The fault for a word whose braces are refused.
-fn brace_fault(word: &str, refusal: BraceRefusal) -> PatternFault<'_> {
+pub fn brace_fault(word: &str, refusal: BraceRefusal) -> PatternFault<'_> {
     match refusal {
         BraceRefusal::Syntax(error) => PatternFault::Braces(word, error),
         BraceRefusal::Memory => PatternFault::Memory,

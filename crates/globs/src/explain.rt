@@ -1,34 +1,44 @@
-//! `globs explain`: why a pattern matches a text, or does not. It writes which piece of the text each token matches, or
-//! how far the match got and what the pattern wants there. For a refused pattern it suggests another.
-ghost use Rattle.std.specs.Prelude.{◌≡◌, ◌≤◌, chars, map};
+//! `globs explain`: what `match` and `find` do with a text by a pattern, and why. It writes which piece of the text each
+//! token matches, or how far the match got and what the pattern wants there, and what to write instead.
+ghost use Rattle.std.specs.Prelude.{◌≡◌, ◌≤◌, ◌⊎◌, IfOk, map};
 ghost use Rattle.glob_console.specs.Outcomes.{IsRefused};
-ghost use Rattle.globs.specs.Explain.Outcomes.{Answers, Explains};
-ghost use Rattle.glob_pattern.specs.Grammar.Units.{IsAccepted};
+ghost use Rattle.glob_set.specs.BraceSets.{AreAccepted};
+ghost use Rattle.globs.specs.Explain.Outcomes.{Answers, Explains, ExplainsWord};
+ghost use Rattle.globs.specs.Explain.Verdict.{by_find};
+ghost use Rattle.globs.specs.Patterns.{set_of};
 
+mod alternative;
+mod deeper;
 mod explanation;
 mod foreign;
 pub mod hints;
 mod instead;
 pub mod notes;
+mod offers;
 mod refusal;
 mod rows;
 mod stop;
+mod verdict;
 
+use crate::braces::brace_fault;
 use crate::name::Name;
+use crate::patterns::{FaultLines, PatternFault, read_set};
 use crate::usage::{UsageLine, Why};
-use explanation::explain;
-use glob_console::{ErrorLines, FOUND, UNFOUND, write_text};
-use glob_pattern::{MatchOptions, Pattern, PatternError, PatternRefusal};
+use explanation::{Question, Sets, explain};
+use glob_console::{ErrorLines, FOUND, UNFOUND, words_of, write_text};
+use glob_pattern::{MatchOptions, PatternError};
+use glob_set::braces::expand;
 use refusal::explain_refusal;
 use std::alloc::Allocator;
 use std::io::Write;
 
-/// Explains why a pattern matches a text, or does not, and returns the exit status: 0 if it matches, 1 if not, and 2
-/// after a fault. The operands are the pattern and the text.
+/// Explains whether `match` accepts a text and `find` finds it, by the alternatives of a pattern's braces, and returns
+/// the exit status: 0 if one of them matches the text under the options, 1 if none does, and 2 after a fault. The
+/// operands are the pattern and the text.
 ///
 /// Faults are reported on `errors`. A wrong number of operands, or a refused pattern, leaves the output unchanged.
 ///
-/// For `?*` and `xyz` it writes the lines `"?\tx\n"` and `"*\tyz\n"`, and the status is 0.
+/// For `?*` and `xyz` the lines after the verdict are `"?\tx\n"` and `"*\tyz\n"`, and the status is 0.
 #[tactic(auto, unfolding(crate::specs::Explain::Outcomes::Answers))]
 pub fn run_explain<A: Allocator + Copy, W: Write, E: Write>(
     alloc: A,
@@ -42,14 +52,7 @@ pub fn run_explain<A: Allocator + Copy, W: Write, E: Write>(
         output.old output.new result }
 {
     match operands {
-        [pattern, text] => {
-            let question = Question {
-                options,
-                pattern,
-                text,
-            };
-            answer(alloc, question, output, errors)
-        }
+        [pattern, text] => explain_word(alloc, options, pattern, text, output, errors),
         [_, _, extra, ..] => errors.fault(usage(Why::Extra, extra)),
         [] | [_] => errors.fault(usage(Why::Textless, "")),
     }
@@ -60,17 +63,43 @@ fn usage(why: Why, word: &str) -> UsageLine<'_> {
     UsageLine::new(Some(Name::Explain), why, word)
 }
 
-/// A pattern and a text whose match is to be explained.
-#[derive(Clone, Copy)]
-struct Question<'a> {
+/// Expands the braces of the pattern, and explains the text by its alternatives. Refused braces are a fault.
+#[tactic(auto, unfolding(crate::specs::Explain::Outcomes::ExplainsWord))]
+fn explain_word<A: Allocator + Copy, W: Write, E: Write>(
+    alloc: A,
     options: MatchOptions,
-    pattern: &'a str,
-    text: &'a str,
+    word: &str,
+    text: &str,
+    output: &mut W,
+    errors: &mut ErrorLines<'_, A, E>,
+) -> u8
+    ensures most { result ≤ 2 }
+    ensures explained { ExplainsWord W.contents options word.now text.now
+        output.old output.new result }
+{
+    let expanded = match expand(alloc, word) {
+        Ok(expanded) => expanded,
+        Err(refusal) => {
+            return errors.fault(FaultLines {
+                name: Name::Explain,
+                fault: brace_fault(word, refusal),
+            });
+        }
+    };
+    let Ok(patterns) = words_of(alloc, expanded.as_slice()) else {
+        return errors.fault("out of memory");
+    };
+    let question = Question {
+        options,
+        word,
+        patterns: patterns.as_slice(),
+        text,
+    };
+    answer(alloc, question, output, errors)
 }
 
-/// Writes why the pattern matches the text, or does not, and returns the status. A refused pattern is written to
-/// `errors`, with a caret under its fault.
-#[tactic(auto, unfolding(crate::specs::Explain::Outcomes::Explains))]
+/// Explains the text by the patterns, and returns the status. A refused pattern is written to `errors`, with a caret
+/// under its fault.
 fn answer<A: Allocator + Copy, W: Write, E: Write>(
     alloc: A,
     question: Question<'_>,
@@ -78,42 +107,64 @@ fn answer<A: Allocator + Copy, W: Write, E: Write>(
     errors: &mut ErrorLines<'_, A, E>,
 ) -> u8
     ensures most { result ≤ 2 }
-    ensures refused { (¬ (IsAccepted (chars question.entry.pattern.now)))
-        → IsRefused output.old output.new result }
-    ensures explained { Explains question.entry.options question.entry.pattern.now
-        question.entry.text.now (W.contents output.old) (W.contents output.new) result }
+    ensures explained { IsRefused output.old output.new result
+        ⊎ (AreAccepted (map (λ p. p.now) question.entry.patterns.now)
+        × Explains question.entry.options (map (λ p. p.now) question.entry.patterns.now)
+        question.entry.text.now (W.contents output.old) (W.contents output.new) result) }
 {
-    match Pattern::new(alloc, question.pattern) {
-        Ok(pattern) => {
-            write_explained(
-                alloc,
-                &pattern,
-                question.text,
-                question.options,
-                output,
-                errors,
-            )
+    match read_sets(alloc, question.patterns, question.options) {
+        Ok(sets) => write_explained(alloc, &sets, question, output, errors),
+        Err(PatternFault::Syntax(pattern, error)) => {
+            refuse(alloc, question, pattern, error, errors)
         }
-        Err(PatternRefusal::Syntax(error)) => refuse(alloc, question, error, errors),
-        Err(PatternRefusal::Memory) => errors.fault("out of memory"),
+        Err(fault) => errors.fault(FaultLines {
+            name: Name::Explain,
+            fault,
+        }),
     }
 }
 
-/// Writes why a parsed pattern matches the text, or does not, and returns the status.
+/// The sets of the patterns for `match` and for `find`. The errors are those of [`read_set`].
+fn read_sets<'a, A: Allocator + Copy>(
+    alloc: A,
+    patterns: &[&'a str],
+    options: MatchOptions,
+) -> Result<Sets<A>, PatternFault<'a>>
+    ensures matching { IfOk result (λ sets.
+        sets.matching ≡ set_of options (map (λ p. p.now) patterns.now)) }
+    ensures finding { IfOk result (λ sets.
+        sets.finding ≡ set_of (by_find options) (map (λ p. p.now) patterns.now)) }
+    ensures accepted { IfOk result (λ _. AreAccepted (map (λ p. p.now) patterns.now)) }
+{
+    let by_find = MatchOptions {
+        require_literal_separator: true,
+        ..options
+    };
+    Ok(Sets {
+        matching: read_set(alloc, patterns, options)?,
+        finding: read_set(alloc, patterns, by_find)?,
+    })
+}
+
+/// Writes why the patterns match the text, or do not, and returns the status.
 #[tactic(auto, unfolding(crate::specs::Explain::Outcomes::Explains))]
 fn write_explained<A: Allocator + Copy, W: Write, E: Write>(
     alloc: A,
-    pattern: &Pattern<A>,
-    text: &str,
-    options: MatchOptions,
+    sets: &Sets<A>,
+    question: Question<'_>,
     output: &mut W,
     errors: &mut ErrorLines<'_, A, E>,
 ) -> u8
+    requires matching { sets.now.matching
+        ≡ set_of question.options (map (λ p. p.now) question.patterns.now) }
+    requires finding { sets.now.finding ≡ set_of (by_find question.options)
+        (map (λ p. p.now) question.patterns.now) }
     ensures most { result ≤ 2 }
-    ensures explained { Explains options pattern.now text.now
+    ensures explained { Explains question.entry.options
+        (map (λ p. p.now) question.entry.patterns.now) question.entry.text.now
         (W.contents output.old) (W.contents output.new) result }
 {
-    match explain(alloc, pattern, text, options) {
+    match explain(alloc, sets, question) {
         Ok(explanation) => {
             let found = if explanation.is_match { FOUND } else { UNFOUND };
             match write_text(explanation.lines.as_str(), output, errors) {
@@ -125,16 +176,17 @@ fn write_explained<A: Allocator + Copy, W: Write, E: Write>(
     }
 }
 
-/// Writes why the pattern is refused, and returns the status of a fault.
+/// Writes why a pattern is refused, and returns the status of a fault.
 fn refuse<A: Allocator + Copy, E: Write>(
     alloc: A,
     question: Question<'_>,
+    pattern: &str,
     error: PatternError,
     errors: &mut ErrorLines<'_, A, E>,
 ) -> u8
     ensures { result ≡ 2 }
 {
-    match explain_refusal(alloc, question.pattern, error, question.options) {
+    match explain_refusal(alloc, question, pattern, error) {
         Ok(lines) => errors.fault(lines),
         Err(_) => errors.fault("out of memory"),
     }

@@ -30,7 +30,7 @@ globs: shell patterns, ignore lists and directory walks
   globs ignore [OPTION].. FILE..     copy the paths of standard input that rules do not ignore
   globs explain [OPTION].. PATTERN TEXT
                                      show why a pattern matches a text, or does not
-  globs escape TEXT..                write the patterns that match these texts alone
+  globs escape TEXT..                write patterns that match exactly these texts
   globs help [COMMAND]               write this page, or that of a command
   globs --version                    write the version
 
@@ -41,8 +41,8 @@ Patterns:
   *         any characters, or none. In find no ?, * or bracket takes a /; elsewhere -s says so
   **        any number of whole components: **, **/a, a/** and a/**/b
   [abc]     a, b or c; [a-c] one from a to c; [!a-c] one that is not
-  [*]       a literal *. The others are written likewise: [?], [[], []], [{] and [}]
-  a.{c,h}   a.c and a.h, for find and match. Alternatives may be empty, or have braces of their own
+  [*]       a literal *. In the same way: [?], [[], []], [{] and [}]
+  a.{c,h}   a.c and a.h. Alternatives may be empty, or have braces of their own
 
 Options stand before the patterns, files or texts, each a word of its own: -t f, not -tf, and
 --max-depth 2, not --max-depth=2. -- ends them: what is after it may begin with -. Among them
@@ -51,7 +51,7 @@ Options stand before the patterns, files or texts, each a word of its own: -t f,
 Status:
   0         something was found, copied or matched; for escape and help, all was written
   1         nothing was found, copied or matched
-  2         a fault: lines on standard error, none where the reader of the output goes away
+  2         a fault: lines on standard error, but no line where the reader of the output goes away
 ";
 
 /// The page of `find`.
@@ -69,7 +69,7 @@ globs help shows what a PATTERN may have: ?, *, **, brackets and braces.
   --directory DIR
                  the same as -C DIR
   -L             a symbolic link to a directory is one, and is entered. One that leads back to a
-                 directory of its own path, from the start on, is reported, and is none.
+                 directory of its own path, from the start on, is reported, and not entered.
                  Without -L nothing is below a link: link/a is not found
   -n LIMIT       the search spends at most LIMIT units: one for each lookup, listing, entry and file
                  of rules. Where it takes more, paths may be missing, and a line says so
@@ -116,6 +116,8 @@ const MATCH: &str = "\
 globs match: the lines of standard input that patterns match
 
   globs match [OPTION].. PATTERN..
+
+globs help shows what a PATTERN may have: ?, *, **, brackets and braces.
 
   -0  records end in a NUL in place of a line feed, those read and those written
   -i  ASCII letters in either case are the same
@@ -171,34 +173,44 @@ globs explain: why a pattern matches a text, or does not
 
   globs explain [OPTION].. PATTERN TEXT
 
+globs help shows what a PATTERN may have: ?, *, **, brackets and braces.
+
   -i  ASCII letters in either case are the same
   -s  ?, * and brackets take no /, as in find
   -d  neither wildcards nor brackets take a . at the start of a component
   --  ends the options. A PATTERN or TEXT that begins with - needs it
 
-Of a match it writes a line for each wildcard, bracket and character of the pattern: that, a tab,
-and the piece of the text that it takes, as short as the later ones allow.
+The first line says whether globs match would copy TEXT as a line, under these options, and whether
+globs find would find it as a path, where no ?, * or bracket takes a /. Both expand braces. Of
+several alternatives the first that matches is explained, or else the first that gets farthest.
 
-Otherwise a caret is under the character of the text where it stops. The lines below say what is
-wanted there, which white space the text and the pattern end in, which forms of shells and other
-tools mean nothing here, which single change gives a match, as each was tried, and what to write
-instead of such a form. Braces are characters here: find and match expand them. A control character
-is written as \\r or \\u{1b}.
+Of a match the next lines are one for each wildcard, bracket and character of the pattern: that, a
+tab, and the piece of TEXT that it takes, as short as the later ones allow.
+
+Otherwise a caret is under the character of TEXT where it stops. The lines below say what is wanted
+there, which white space TEXT and the pattern end in, which brackets list nothing, which forms of
+shells and other tools mean nothing here, which single change gives a match, as each was tried, and
+what to write instead of such a form or a regular expression. That was tried too: if it does not
+match TEXT, the line says so. A control character is written as \\r or \\u{1b}.
+
+Where find does not find TEXT, the last line may have a pattern by which it does: **/*.rs for *.rs
+and a/b.rs.
 
 Status:
-  0         the pattern matches the text
+  0         the pattern matches TEXT, as globs match would
   1         it does not match
   2         a fault. That of a pattern that is refused is followed by the pattern, a caret at its
-            place, and what to write instead
+            place, and what to write instead. It is also a fault if the wildcards, brackets and
+            characters of the pattern, times the bytes of TEXT, are more than 67,108,864
 ";
 
 /// The page of `escape`.
 const ESCAPE: &str = "\
-globs escape: the patterns that match texts alone
+globs escape: patterns that match exactly the given texts
 
   globs escape TEXT..
 
-  --  ends the options, of which there are no others. A TEXT that begins with - needs it
+  --  ends the options; there is no other. A TEXT that begins with - needs it
 
 For each TEXT it writes the pattern that matches this text and no other, under each option but -i,
 and a line feed. So *.rs is written as [*].rs, and {a} as [{]a[}], which find and match do not

@@ -1,5 +1,5 @@
 -- Which single changes of the options, the pattern or the text give a match, and the lines that say so.
-use Rattle.std.specs.Prelude.{◌≡◌, ◌++◌, ◌⊎◌, ℕ, List, [], ◌∷◌, false, chars, codes}
+use Rattle.std.specs.Prelude.{◌≡◌, ◌++◌, ◌⊎◌, ℕ, List, [], ◌∷◌, All, Contains, false, chars, codes}
 use Rattle.std.specs.Str.{trim_end}
 use Rattle.std.specs.StrCase.Lower.{str_to_lowercase}
 use Rattle.glob_pattern.specs.Matching.Texts.{Matches}
@@ -28,22 +28,31 @@ GivesMatch LowerCase o pattern text =
 -- the words of the line about a change
 abbrev pub words_of : Change → List ℕ
 words_of EitherCase = codes "it matches with -i"
-words_of AnySeparator = codes "it matches without -s"
+words_of AnySeparator = codes "it matches without -s, but find has no such option"
 words_of AnyDot = codes "it matches without -d"
 words_of PatternHere = codes "it matches without ./ before the pattern"
 words_of TextHere = codes "it matches without ./ before the text"
 words_of NotBelow = codes "it matches without /**, which takes only what is below"
 words_of PatternEnd = codes "it matches without white space at the end of the pattern"
 words_of TextEnd = codes "it matches without white space at the end of the text"
-words_of LowerCase = codes "it matches in lower case, but -i is of ASCII letters alone"
+words_of LowerCase = codes "it matches in lower case, but -i only covers ASCII letters"
+
+-- after the change one of the patterns matches the text
+abbrev pub GivesAny : Change → MatchOptions → (patterns : List (List ℕ)) → (text : List ℕ) → Type 0
+GivesAny change o patterns text = (pattern : List ℕ) × Contains patterns pattern × GivesMatch change o pattern text
+
+-- after the change none of the patterns matches the text
+abbrev pub GivesNone : Change → MatchOptions → (patterns : List (List ℕ)) → (text : List ℕ) → Type 0
+GivesNone change o patterns text = All (λ pattern. ¬ (GivesMatch change o pattern text)) patterns
 
 -- the line of each change that gives a match was added, and no other
-abbrev pub AddsHints : MatchOptions → (pattern text : List ℕ) → List Change → (old new : List ℕ) → Type 0
-AddsHints o pattern text [] old new = new ≡ old
-AddsHints o pattern text (change ∷ more) old new =
-    (GivesMatch change o pattern text × AddsHints o pattern text more (old ++ words_of change ++ 10 ∷ []) new)
-    ⊎ ((¬ (GivesMatch change o pattern text)) × AddsHints o pattern text more old new)
+abbrev pub AddsHints : MatchOptions → (patterns : List (List ℕ)) → (text : List ℕ) → List Change → (old new : List ℕ)
+    → Type 0
+AddsHints o patterns text [] old new = new ≡ old
+AddsHints o patterns text (change ∷ more) old new =
+    (GivesAny change o patterns text × AddsHints o patterns text more (old ++ words_of change ++ 10 ∷ []) new)
+    ⊎ (GivesNone change o patterns text × AddsHints o patterns text more old new)
 
 -- the lines are those of the changes that give a match
-unfoldable pub AreHints : MatchOptions → (pattern text lines : List ℕ) → Type 0
-AreHints o pattern text lines = AddsHints o pattern text CHANGES [] lines
+unfoldable pub AreHints : MatchOptions → (patterns : List (List ℕ)) → (text lines : List ℕ) → Type 0
+AreHints o patterns text lines = AddsHints o patterns text CHANGES [] lines

@@ -1,77 +1,146 @@
-//! Whether a pattern matches a text, and why.
-ghost use Rattle.std.specs.Prelude.{◌≡◌, ◌<◌, ◌*◌, ◌↔◌, false, length, IfOk, IsTrue, chars, string_bytes};
-ghost use Rattle.globs.specs.Explain.Outcomes.{AreStopLines};
-ghost use Rattle.glob_pattern.specs.Computing.Tokens.{tokens_of};
-ghost use Rattle.glob_pattern.specs.Matching.Texts.{Matches};
+//! Whether patterns match a text, and why.
+ghost use Rattle.std.specs.Prelude.{◌≡◌, IfOk, false, map, string_bytes};
+ghost use Rattle.globs.specs.Explain.Hints.{AreHints};
+ghost use Rattle.globs.specs.Explain.Offers.{IsFindOffer, IsOffer};
+ghost use Rattle.globs.specs.Explain.Outcomes.{AreLines};
+ghost use Rattle.globs.specs.Explain.Verdict.{by_find, is_taken, verdict_of};
+ghost use Rattle.globs.specs.Patterns.{set_of};
 
-use crate::explain::foreign::advice_line;
+use crate::explain::alternative::{add_alternative, nearest};
+use crate::explain::deeper::find_line;
+use crate::explain::foreign::native_forms;
 use crate::explain::hints::hint_lines;
-use crate::explain::rows::{add_row, part_of};
-use crate::explain::stop::stop_lines;
-use glob_captures::{CapturesError, MOST_STEPS, Piece, captures, tokens};
-use glob_pattern::{MatchOptions, Pattern};
+use crate::explain::offers::offer_line;
+use crate::explain::verdict::{Finding, Verdict};
+use crate::patterns::is_any_match;
+use glob_captures::CapturesError;
+use glob_pattern::MatchOptions;
+use glob_set::PatternSet;
 use std::alloc::{AllocError, Allocator};
+
+/// A text that is to be explained by some patterns.
+#[derive(Clone, Copy)]
+pub struct Question<'a> {
+    pub options: MatchOptions,
+    /// The word of the command line.
+    pub word: &'a str,
+    /// Its alternatives.
+    pub patterns: &'a [&'a str],
+    pub text: &'a str,
+}
+
+/// The patterns with the options of `match`, and with those of `find`.
+#[derive(Drop)]
+pub struct Sets<A: Allocator> {
+    pub matching: PatternSet<A>,
+    pub finding: PatternSet<A>,
+}
 
 /// Whether a pattern matches a text, and why.
 #[derive(Drop)]
 pub struct Explanation<A: Allocator> {
     pub is_match: bool,
-    /// For a match, a line for each token: the token as written, a tab, and its piece. Otherwise the text, a caret
-    /// under the character where the match stops, what the tokens that wait there want, what is easily missed, which
-    /// single changes give a match, and what to write instead.
+    /// What `match` and `find` do with the text. Then for a match a line for each token: the token as written, a tab, and
+    /// its piece. Otherwise the text, a caret under the character where the match stops, what the tokens that wait there
+    /// want, what is easily missed, which single changes give a match, and what to write instead.
     pub lines: String<A>,
 }
 
-/// Explains whether the pattern matches the whole text.
+/// Explains whether one of the patterns matches the whole text.
 ///
-/// For `*.rs` and `a.rs` the lines begin with `"*\ta\n"` and `".\t.\n"`. For `a?` and `ab/` they are `ab/`, a caret
-/// under the `/`, and `the pattern ends here`. The errors are:
+/// For `*.rs` and `a.rs` the lines after the first begin with `"*\ta\n"` and `".\t.\n"`. For `a?` and `ab/` they are
+/// `ab/`, a caret under the `/`, and `the pattern ends here`. The errors are:
 ///
-/// - [`CapturesError::TooLarge`]: the tokens times the bytes are more than [`MOST_STEPS`].
+/// - [`CapturesError::TooLarge`]: for a pattern, the tokens times the bytes are more than the limit.
 /// - [`CapturesError::Memory`]: an allocation failed.
-#[tactic(auto, unfolding(crate::specs::Explain::Outcomes::AreStopLines))]
+#[tactic(auto, unfolding(crate::specs::Explain::Outcomes::AreLines))]
 pub fn explain<A: Allocator + Copy>(
     alloc: A,
-    pattern: &Pattern<A>,
-    text: &str,
-    options: MatchOptions,
+    sets: &Sets<A>,
+    question: Question<'_>,
 ) -> Result<Explanation<A>, CapturesError>
-    ensures answer { IfOk result (λ explanation. IsTrue explanation.is_match
-        ↔ Matches options (chars pattern.now) (chars text.now)) }
-    ensures stop { IfOk result (λ explanation. explanation.is_match ≡ false
-        → AreStopLines options pattern.now text.now (string_bytes explanation.lines)) }
-    ensures large { (result ≡ Err CapturesError.TooLarge)
-        ↔ (MOST_STEPS < length (tokens_of (chars pattern.now)) * length text.now) }
+    requires matching { sets.now.matching
+        ≡ set_of question.options (map (λ p. p.now) question.patterns.now) }
+    requires finding { sets.now.finding ≡ set_of (by_find question.options)
+        (map (λ p. p.now) question.patterns.now) }
+    ensures answer { IfOk result (λ explanation. explanation.is_match
+        ≡ is_taken question.entry.options (map (λ p. p.now) question.entry.patterns.now)
+        question.entry.text.now) }
+    ensures lines { IfOk result (λ explanation. AreLines question.entry.options
+        (map (λ p. p.now) question.entry.patterns.now) question.entry.text.now
+        (string_bytes explanation.lines)) }
 {
-    match captures(alloc, pattern, text, options)? {
-        Some(pieces) => Ok(Explanation {
-            is_match: true,
-            lines: piece_lines(alloc, pattern, text, pieces.as_slice())?,
-        }),
-        None => {
-            let stop = stop_lines(alloc, pattern, text, options)?;
-            let hints = hint_lines(alloc, pattern.as_str(), text, options)?;
-            let advice = advice_line(alloc, pattern.as_str())?;
-            Ok(Explanation {
-                is_match: false,
-                lines: format!(in alloc; "{stop}{hints}{advice}")?,
-            })
-        }
-    }
+    let verdict = verdict_of(sets, question)?;
+    let mut reasons = String::new(alloc);
+    let pattern = nearest(alloc, question)?;
+    add_alternative(alloc, &mut reasons, pattern, question)?;
+    let is_match = verdict.is_match;
+    let hints = hints_unless(alloc, is_match, question)?;
+    let offer = offer_unless(alloc, is_match, pattern, question)?;
+    let deeper = find_line(
+        alloc,
+        verdict.finding,
+        pattern,
+        question.text,
+        question.options,
+    )?;
+    Ok(Explanation {
+        is_match,
+        lines: format!(in alloc; "{verdict}\n{reasons}{hints}{offer}{deeper}")?,
+    })
 }
 
-/// A line for each token: the token as written, a tab, and its piece.
-fn piece_lines<A: Allocator + Copy>(
+/// What `match` and `find` do with the text.
+fn verdict_of<A: Allocator + Copy>(
+    sets: &Sets<A>,
+    question: Question<'_>,
+) -> Result<Verdict, AllocError>
+    requires matching { sets.now.matching
+        ≡ set_of question.options (map (λ p. p.now) question.patterns.now) }
+    requires finding { sets.now.finding ≡ set_of (by_find question.options)
+        (map (λ p. p.now) question.patterns.now) }
+    ensures { IfOk result (λ verdict. verdict ≡ verdict_of question.entry.options
+        (map (λ p. p.now) question.entry.patterns.now) question.entry.text.now) }
+{
+    let Question { patterns, text, .. } = question;
+    let is_match = is_any_match(&sets.matching, text)?;
+    let is_found = is_any_match(&sets.finding, text)?;
+    Ok(Verdict {
+        is_match,
+        finding: Finding::new(patterns, text, is_match, is_found),
+    })
+}
+
+/// The changes that give a match, if there is none.
+fn hints_unless<A: Allocator + Copy>(
     alloc: A,
-    pattern: &Pattern<A>,
-    text: &str,
-    pieces: &[Piece],
-) -> Result<String<A>, AllocError> {
-    let mut lines = String::new(alloc);
-    let list = tokens(alloc, pattern)?;
-    for (token, piece) in list.iter().zip(pieces) {
-        let written = part_of(pattern.as_str(), token.piece);
-        add_row(&mut lines, written, part_of(text, *piece))?;
+    is_match: bool,
+    question: Question<'_>,
+) -> Result<String<A>, AllocError>
+    ensures { IfOk result (λ lines. is_match ≡ false → AreHints question.entry.options
+        (map (λ p. p.now) question.entry.patterns.now) question.entry.text.now
+        (string_bytes lines)) }
+{
+    if is_match {
+        return Ok(String::new(alloc));
     }
-    Ok(lines)
+    hint_lines(alloc, question.patterns, question.text, question.options)
+}
+
+/// What to write instead of a pattern with another tool's syntax, if there is no match.
+#[tactic(auto, unfolding(crate::specs::Explain::Offers::IsOffer))]
+fn offer_unless<A: Allocator + Copy>(
+    alloc: A,
+    is_match: bool,
+    pattern: &str,
+    question: Question<'_>,
+) -> Result<String<A>, AllocError>
+    ensures { IfOk result (λ line.
+        IsOffer question.entry.options question.entry.text.now (string_bytes line)) }
+{
+    if is_match {
+        return Ok(String::new(alloc));
+    }
+    let forms = native_forms(alloc, pattern)?;
+    offer_line(alloc, forms.as_slice(), question.text, question.options)
 }

@@ -1,6 +1,6 @@
 //! Which single changes give a match. Each one reported was tried.
-ghost use Rattle.std.specs.Prelude.{◌≡◌, ◌↔◌, ◌++◌, ◌≢◌, ◌∷◌, IfOk, IsTrue, List, ℕ, MatchOption, codes, string_bytes};
-ghost use Rattle.globs.specs.Explain.Hints.{AreHints, GivesMatch, words_of};
+ghost use Rattle.std.specs.Prelude.{◌≡◌, ◌↔◌, ◌++◌, ◌≢◌, ◌∷◌, IfOk, IsTrue, List, ℕ, MatchOption, codes, false, map, string_bytes, true};
+ghost use Rattle.globs.specs.Explain.Hints.{AreHints, GivesAny, GivesMatch, GivesNone, words_of};
 ghost use Rattle.globs.specs.declared.explain.hints.Change.TheVariants.{LowerCase};
 
 use crate::explain::instead::is_match;
@@ -43,22 +43,22 @@ const CHANGES: [Change; 9] = [
     Change::LowerCase,
 ];
 
-/// A line for each change that makes the pattern match the text, and no other. So `it matches with -i` is there exactly
-/// if the pattern matches with `-i`. The error is an allocation failure.
+/// A line for each change that makes one of the patterns match the text, and no other. So `it matches with -i` is there
+/// exactly if one of them matches with `-i`. The error is an allocation failure.
 ///
 /// For `*.RS` and `a.rs` it is that line; for `./a` and `a`, `it matches without ./ before the pattern`.
 pub fn hint_lines<A: Allocator + Copy>(
     alloc: A,
-    pattern: &str,
+    patterns: &[&str],
     text: &str,
     options: MatchOptions,
 ) -> Result<String<A>, AllocError>
     ensures { IfOk result (λ lines.
-        AreHints options pattern.now text.now (string_bytes lines)) }
+        AreHints options (map (λ p. p.now) patterns.now) text.now (string_bytes lines)) }
 {
     let mut lines = String::new(alloc);
     for change in &CHANGES {
-        if change.gives_match(alloc, pattern, text, options)? {
+        if change.gives_any(alloc, patterns, text, options)? {
             lines.push_str(change.words())?;
             lines.push('\n')?;
         }
@@ -73,15 +73,36 @@ impl Change {
     {
         match self {
             Change::EitherCase => "it matches with -i",
-            Change::AnySeparator => "it matches without -s",
+            Change::AnySeparator => "it matches without -s, but find has no such option",
             Change::AnyDot => "it matches without -d",
             Change::PatternHere => "it matches without ./ before the pattern",
             Change::TextHere => "it matches without ./ before the text",
             Change::NotBelow => "it matches without /**, which takes only what is below",
             Change::PatternEnd => "it matches without white space at the end of the pattern",
             Change::TextEnd => "it matches without white space at the end of the text",
-            Change::LowerCase => "it matches in lower case, but -i is of ASCII letters alone",
+            Change::LowerCase => "it matches in lower case, but -i only covers ASCII letters",
         }
+    }
+
+    /// Whether one of the patterns matches the text after the change.
+    fn gives_any<A: Allocator + Copy>(
+        self,
+        alloc: A,
+        patterns: &[&str],
+        text: &str,
+        options: MatchOptions,
+    ) -> Result<bool, AllocError>
+        ensures some { IfOk result (λ yes. yes ≡ true
+            → GivesAny self options (map (λ p. p.now) patterns.now) text.now) }
+        ensures none { IfOk result (λ yes. yes ≡ false
+            → GivesNone self options (map (λ p. p.now) patterns.now) text.now) }
+    {
+        for pattern in patterns {
+            if self.gives_match(alloc, pattern, text, options)? {
+                return Ok(true);
+            }
+        }
+        Ok(false)
     }
 
     /// Whether the pattern matches the text after the change.

@@ -1,28 +1,26 @@
 //! What to write instead of a refused pattern.
-ghost use Rattle.std.specs.Prelude.{◌≡◌, ◌↔◌, true, IfOk, IfSome, IsTrue, chars, string_bytes};
+ghost use Rattle.std.specs.Prelude.{◌≡◌, ◌↔◌, true, IfOk, IsTrue, chars};
 ghost use Rattle.globs.specs.Explain.Hints.{IsMatch};
 ghost use Rattle.glob_pattern.specs.Grammar.Units.{IsAccepted};
 
 use glob_pattern::{MatchOptions, Pattern, PatternRefusal};
 use std::alloc::{AllocError, Allocator};
 
-/// What to write instead of a refused pattern under these options. `None` if nothing simple will do.
+/// What might be written instead of a refused pattern: first under these options, and then where a `*` is not kept from
+/// a `/`, or is.
 ///
-/// For `**.rs` it is `**/*.rs`, and for `a[b` it is `a[[]b`. For `a**b` it is `a*b` or, if a `*` does not match `/`,
-/// `a*/**/*b`.
-pub fn accepted_instead<A: Allocator + Copy>(
+/// For `**.rs` it is `**/*.rs`, and for `a[b` it is `a[[]b`. For `a**b` they are `a*b` and, where a `*` does not match
+/// `/`, `a*/**/*b`.
+pub fn valid_forms<A: Allocator + Copy>(
     alloc: A,
     pattern: &str,
     options: MatchOptions,
-) -> Result<Option<String<A>>, AllocError>
-    ensures { IfOk result (λ found. IfSome found
-        (λ instead. IsAccepted (chars (string_bytes instead)))) }
-{
-    let instead = with_plain_forms(alloc, pattern, options)?;
-    if is_accepted(alloc, instead.as_str())? {
-        return Ok(Some(instead));
-    }
-    Ok(None)
+) -> Result<Vec<String<A>, A>, AllocError> {
+    let is_kept = options.require_literal_separator;
+    let mut forms = Vec::new(alloc);
+    forms.push(with_plain_forms(alloc, pattern, is_kept)?)?;
+    forms.push(with_plain_forms(alloc, pattern, !is_kept)?)?;
+    Ok(forms)
 }
 
 /// Whether `pattern` is a valid pattern that matches `text`.
@@ -53,17 +51,17 @@ pub fn is_accepted<A: Allocator + Copy>(alloc: A, text: &str) -> Result<bool, Al
 }
 
 /// The pattern with each run of two or more `*` made a component of its own, and each unclosed `[` put in a bracket.
-/// What brackets list is unchanged.
+/// What brackets list is unchanged. A `*` matches no `/` if it `is_kept` from it.
 fn with_plain_forms<A: Allocator>(
     alloc: A,
     pattern: &str,
-    options: MatchOptions,
+    is_kept: bool,
 ) -> Result<String<A>, AllocError> {
     let mut made = String::new(alloc);
     let mut rest = pattern;
     // Each part has at least one byte, so this many rounds suffice. Any rounds left over add nothing.
     for _ in 0..pattern.len() {
-        rest = add_part(&mut made, rest, options)?;
+        rest = add_part(&mut made, rest, is_kept)?;
     }
     Ok(made)
 }
@@ -73,11 +71,11 @@ fn with_plain_forms<A: Allocator>(
 fn add_part<'a, A: Allocator>(
     made: &mut String<A>,
     text: &'a str,
-    options: MatchOptions,
+    is_kept: bool,
 ) -> Result<&'a str, AllocError> {
     if text.starts_with("**") {
         let rest = text.trim_start_matches('*');
-        add_stars(made, rest, options)?;
+        add_stars(made, rest, is_kept)?;
         return Ok(rest);
     }
     if let Some(rest) = after_bracket(text) {
@@ -108,11 +106,11 @@ fn after_bracket(text: &str) -> Option<&str> {
 fn add_stars<A: Allocator>(
     made: &mut String<A>,
     rest: &str,
-    options: MatchOptions,
+    is_kept: bool,
 ) -> Result<(), AllocError> {
     let is_first = made.is_empty() || made.as_str().ends_with('/');
     let is_before_slash = rest.starts_with('/');
-    if !(is_first || is_before_slash || options.require_literal_separator) {
+    if !(is_first || is_before_slash || is_kept) {
         return made.push('*');
     }
     if !is_first {

@@ -1,8 +1,9 @@
 //! What is easily missed in a pattern and a text that it does not match: syntax of other tools that means nothing here,
-//! and white space at the end.
-use crate::explain::rows::add_row;
-use glob_captures::{Written, tokens};
-use glob_pattern::Pattern;
+//! brackets that list nothing, and white space at the end.
+use crate::explain::instead::is_match;
+use crate::explain::rows::{add_row, part_of};
+use glob_captures::{TokenKind, Written, tokens};
+use glob_pattern::{MatchOptions, Pattern};
 use std::alloc::{AllocError, Allocator};
 
 /// What a parenthesis means here.
@@ -10,14 +11,13 @@ const GROUPLESS: &str = "opens a group in bash. ( is a character here";
 
 /// Syntax of shells and other tools, and what each means here.
 static FORMS: &[(&str, &str)] = &[
-    ("{", "is a character here. find and match expand braces"),
     (
         "|",
         "is a character here. find and match take several patterns",
     ),
     (
         "\\",
-        "is a character here, and escapes nothing: [*] is a * alone",
+        "is a character here, and escapes nothing: [*] is a literal *",
     ),
     ("[^", "lists a ^ here: [!a] is a character that is not a"),
     ("[[:", "names no class here: [0-9] is a digit"),
@@ -70,6 +70,47 @@ pub fn add_forms<A: Allocator>(
     Ok(())
 }
 
+/// Adds a line for each bracket that lists no character, such as `[z-a]`.
+pub fn add_vain_brackets<A: Allocator + Copy>(
+    alloc: A,
+    lines: &mut String<A>,
+    pattern: &str,
+    tokens: &[Written],
+    case_sensitive: bool,
+) -> Result<(), AllocError> {
+    for token in tokens {
+        let written = part_of(pattern, token.piece);
+        if token.kind == TokenKind::OneOf && lists_none(alloc, written, case_sensitive)? {
+            add_row(
+                lines,
+                written,
+                "lists no character: its range goes backwards",
+            )?;
+        }
+    }
+    Ok(())
+}
+
+/// Whether a bracket lists no character. If it lists any, it lists one of those that are written in it.
+fn lists_none<A: Allocator + Copy>(
+    alloc: A,
+    bracket: &str,
+    case_sensitive: bool,
+) -> Result<bool, AllocError> {
+    let options = MatchOptions {
+        case_sensitive,
+        ..MatchOptions::new()
+    };
+    let listed = bracket.strip_prefix('[').unwrap_or(bracket);
+    for c in listed.strip_suffix(']').unwrap_or(listed).chars() {
+        let text = format!(in alloc; "{c}")?;
+        if is_match(alloc, bracket, text.as_str(), options)? {
+            return Ok(false);
+        }
+    }
+    Ok(true)
+}
+
 /// The first piece of such syntax in a pattern whose braces are expanded, and what it means here.
 ///
 /// For `!a|b` it is `!`, and that it negates nothing.
@@ -87,7 +128,7 @@ pub fn first_form<A: Allocator + Copy>(
     };
     let list = tokens(alloc, &parsed)?;
     for (form, words) in FORMS {
-        if *form != "{" && is_among(pattern, list.as_slice(), form) {
+        if is_among(pattern, list.as_slice(), form) {
             return Ok(Some((form, words)));
         }
     }

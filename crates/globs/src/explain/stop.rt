@@ -5,7 +5,7 @@ ghost use Rattle.glob_pattern.specs.Computing.Tokens.{tokens_of};
 mod wanted;
 
 use crate::explain::instead::is_match;
-use crate::explain::notes::{add_blank_end, add_forms};
+use crate::explain::notes::{add_blank_end, add_forms, add_vain_brackets};
 use crate::explain::rows::{add_row, part_of};
 use crate::visible::Caret;
 use glob_captures::{CapturesError, MOST_STEPS, Piece, Reached, Written, reach, tokens};
@@ -69,6 +69,8 @@ fn reached_lines<A: Allocator + Copy>(
     add_reason(alloc, &mut lines, pattern, &stop)?;
     add_blank_end(&mut lines, "text", text)?;
     add_blank_end(&mut lines, "pattern", stop.pattern)?;
+    let case_sensitive = options.case_sensitive;
+    add_vain_brackets(alloc, &mut lines, stop.pattern, stop.tokens, case_sensitive)?;
     add_forms(&mut lines, stop.pattern, stop.tokens)?;
     Ok(lines)
 }

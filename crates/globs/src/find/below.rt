@@ -18,6 +18,18 @@ pub fn is_below(pattern: &str) -> bool
     !leads_elsewhere(pattern)
 }
 
+/// Whether each pattern is such a one.
+pub fn are_below(patterns: &[&str]) -> bool
+    ensures { result ≡ are_below (map (λ p. p.now) patterns.now) }
+{
+    for pattern in patterns {
+        if !is_below(pattern) {
+            return false;
+        }
+    }
+    true
+}
+
 /// At which character of a pattern its first component begins that is no name, counted from 0.
 pub fn astray_column(pattern: &str) -> usize {
     let mut column = 0usize;

@@ -1,14 +1,21 @@
-use Rattle.std.proofs.Common.{string_bytes, subst}
-use Rattle.globs.specs.Explain.Hints.{AreHints}
-use Rattle.globs.specs.Explain.Outcomes.{AreStopLines}
+use Rattle.std.proofs.Common.{◌≡◌, ◌∙◌, ◌∷◌, ◌++◌, ap, string_bytes}
+use Rattle.globs.specs.Explain.Outcomes.{AreLines}
+use Rattle.globs.specs.Explain.Verdict.{verdict_words}
 use Rattle.globs.proofs.explain.explanation.explain.Goals as goal
 
-pub returns-in_ok-format-in-None-clause-stop : goal.returns-in_ok-format-in-None-clause-stop
-unfolding AreStopLines
-returns-in_ok-format-in-None-clause-stop g c = λ _. (
-  string_bytes c.in_ok-stop-in-None.stop,
-  string_bytes c.in_ok-hints-in-None.hints,
-  string_bytes c.in_ok-advice-in-None.advice,
-  subst (λ p. AreHints c.args.options p c.args.text.now (string_bytes c.in_ok-hints-in-None.hints)) c.as_str.ensures.text c.in_ok-hints-in-None.ensures,
-  c.in_ok-format-in-None.ensures.ok,
-)
+pub returns-clause-lines : goal.returns-clause-lines
+unfolding AreLines
+returns-clause-lines g c =
+    let reasons = string_bytes c.add_alternative.new.lines in
+    let hints = string_bytes c.in_ok-hints.hints in
+    let offer = string_bytes c.in_ok-offer.offer in
+    let deeper = string_bytes c.in_ok-deeper.deeper in (
+      reasons,
+      hints,
+      offer,
+      deeper,
+      (λ none. c.in_ok-hints.ensures (ap (λ v. v.is_match) c.in_ok-verdict.ensures ∙ none)),
+      c.in_ok-offer.ensures,
+      c.in_ok-deeper.ensures,
+      c.in_ok-format.ensures.ok ∙ ap (λ v. verdict_words v ++ (10 ∷ (reasons ++ (hints ++ (offer ++ deeper))))) c.in_ok-verdict.ensures,
+    )

@@ -1,0 +1,31 @@
+-- What is offered in place of a pattern. Each offer was tried against the text.
+use Rattle.std.specs.Prelude.{◌≡◌, ◌++◌, ◌⊎◌, [], chars, codes}
+use Rattle.glob_pattern.specs.Grammar.Units.{IsAccepted}
+use Rattle.glob_pattern.specs.Matching.Texts.{Matches}
+use Rattle.glob_pattern.specs.declared.options.MatchOptions.{MatchOptions}
+use Rattle.glob_text.specs.Text.{Text}
+
+-- the line of an offer that matches the text
+abbrev pub matching_words : (pattern : Text) → Text
+matching_words pattern = codes "write instead: " ++ (pattern ++ codes "\n")
+
+-- the line of one that does not
+abbrev pub other_words : (pattern : Text) → Text
+other_words pattern = codes "write instead: " ++ (pattern ++ codes ", which does not match this text\n")
+
+-- the line of a pattern by which `find` finds the text
+abbrev pub find_words : (pattern : Text) → Text
+find_words pattern = codes "for find write: " ++ (pattern ++ codes "\n")
+
+-- Nothing is offered, or a pattern that matches the text under the options, or an accepted one of which the line says
+-- that it does not.
+unfoldable pub IsOffer : MatchOptions → (text line : Text) → Type 0
+IsOffer o text line =
+    (line ≡ [])
+    ⊎ (((pattern : Text) × Matches o (chars pattern) (chars text) × (line ≡ matching_words pattern))
+    ⊎ ((pattern : Text) × IsAccepted (chars pattern) × (line ≡ other_words pattern)))
+
+-- nothing is offered for `find`, or a pattern that matches the text under these options
+unfoldable pub IsFindOffer : MatchOptions → (text line : Text) → Type 0
+IsFindOffer o text line =
+    (line ≡ []) ⊎ ((pattern : Text) × Matches o (chars pattern) (chars text) × (line ≡ find_words pattern))
