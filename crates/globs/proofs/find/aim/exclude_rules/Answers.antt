@@ -11,5 +11,5 @@ returns-in-Ok-None-clause-lists g c known is =
 pub returns-clause-lists : goal.returns-clause-lists
 returns-clause-lists g c known is =
     rw c.in_ok-push.ensures.items (rw c.new-lists.ensures.items
-    (ap (λ l. l ∷ []) (c.in_ok-lenient.ensures.rules ∙ ap rules_of c.as_str.ensures.value)
+    (ap (λ l. l ∷ []) (c.in_ok-list.ensures.rules ∙ ap rules_of c.as_str.ensures.value)
     ∙ ap (λ t. lists_of (option_map rules_of t)) (rw c.in-Ok-Some.field-0-is at (c.in-Ok-Some.ensures.text known is))))
