@@ -212,7 +212,7 @@ impl Case {
         for _ in 0..1_000 {
             match search.next(&mut self.forest.tree, &mut file) {
                 Some(Ok(found)) => add_line(&mut lines, found.path.as_str())?,
-                Some(Err(_)) => add_line(&mut lines, "an error")?,
+                Some(Err(_fault)) => add_line(&mut lines, "an error")?,
                 None => break,
             }
         }

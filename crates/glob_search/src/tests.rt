@@ -165,6 +165,18 @@ fn settings_of(alloc: Global, row: &Row) -> Result<Settings, AllocError> {
     Ok(settings)
 }
 
+/// Adds `!` and the path of a fault, or which fault it is.
+fn add_fault(found: &mut String, fault: &SearchFault) -> Result<(), AllocError> {
+    found.push('!')?;
+    match fault {
+        SearchFault::Unread(path, _)
+        | SearchFault::UnreadRules(path, _)
+        | SearchFault::RefusedRules(path, _) => found.push_str(path.as_str()),
+        SearchFault::Limit => found.push_str("limit"),
+        SearchFault::Memory => found.push_str("memory"),
+    }
+}
+
 /// What a search finds, with spaces between. A fault begins with `!`.
 fn found_by(alloc: Global, row: &Row, tree: &mut Counted) -> Result<String, AllocError> {
     let mut patterns = Vec::new(alloc);
@@ -189,14 +201,7 @@ fn found_by(alloc: Global, row: &Row, tree: &mut Counted) -> Result<String, Allo
         }
         match item {
             Ok(hit) => found.push_str(hit.path.as_str())?,
-            Err(SearchFault::Unread(path, _))
-            | Err(SearchFault::UnreadRules(path, _))
-            | Err(SearchFault::RefusedRules(path, _)) => {
-                found.push('!')?;
-                found.push_str(path.as_str())?;
-            }
-            Err(SearchFault::Limit) => found.push_str("!limit")?,
-            Err(SearchFault::Memory) => found.push_str("!memory")?,
+            Err(fault) => add_fault(&mut found, &fault)?,
         }
     }
     Ok(found)
