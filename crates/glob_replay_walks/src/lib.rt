@@ -7,7 +7,6 @@ pub mod disks;
 mod goals;
 pub mod mem_files;
 mod rows;
-mod searches;
 pub mod trees;
 mod walking;
 pub mod walks;

@@ -2,7 +2,7 @@
 
 use crate::disks::PlainDisks;
 use crate::walking::{Job, gathered, stepped};
-use crate::{disks, searches, trees};
+use crate::{disks, trees};
 use glob::{MatchOptions, glob_in, is_plain};
 use glob_replay::Counts;
 use glob_replay::asked_tree::AskedTree;
@@ -32,7 +32,6 @@ impl Make for Walks {
             }
             ["ask disks in memory", fields @ ..] => disks::ask_in_memory(calls, fields),
             ["ask a large directory", fields @ ..] => disks::ask_large(calls, fields),
-            ["search at random", count, seed] => searches::search_at_random(calls, count, seed),
             ["walk to an error", fields @ ..] => disks::walk_to_error(calls, fields),
             _ => Err(unusable()),
         }

@@ -72,7 +72,7 @@ impl Make for All {
             }
             ["copy" | "write" | "write whole", ..] => Programs.make(calls, row),
             [
-                "plain.tsv" | "change a tree" | "walk" | "walk far" | "walk to an error" | "search at random",
+                "plain.tsv" | "change a tree" | "walk" | "walk far" | "walk to an error",
                 ..
             ] => { Walks.make(calls, row) }
             [
