@@ -1,5 +1,5 @@
 //! The calls `glob` and `glob_with` over a folder that the test makes.
-use glob::{FilesSystem, GlobCause, MatchOptions, Pattern, PatternRefusal, glob, glob_with};
+use glob::{GlobCause, MatchOptions, Pattern, PatternRefusal, glob, glob_with};
 use std::io::ErrorKind;
 use std::test::Fail;
 use std::{env, fs, io};
@@ -32,8 +32,7 @@ fn a_faulty_pattern_is_refused(rt: HostRuntime) {
     }
 }
 
-/// A folder that is given and then removed before it is listed is an error, and the walk goes on to its end. The system
-/// is that of any `Files`.
+/// A folder that is given and then removed before it is listed is an error, and the walk goes on to its end.
 #[test]
 fn a_folder_that_is_removed_is_an_error(rt: HostRuntime) -> Result<(), Fail> {
     let folder = new_folder(rt)?;
@@ -41,10 +40,9 @@ fn a_folder_that_is_removed_is_an_error(rt: HostRuntime) -> Result<(), Fail> {
     let pattern = format!(in rt.alloc(); "{}/**", Pattern::escape(rt.alloc(), folder.as_str())?)?;
     for options in [None, Some(MatchOptions::new())] {
         fs::create_dir(&rt, inner.as_str())?;
-        let files = FilesSystem { files: rt };
         let mut paths = match options {
-            None => glob(files, rt.alloc(), pattern.as_str())?,
-            Some(options) => glob_with(files, rt.alloc(), pattern.as_str(), options)?,
+            None => glob(rt, rt.alloc(), pattern.as_str())?,
+            Some(options) => glob_with(rt, rt.alloc(), pattern.as_str(), options)?,
         };
         let first = paths.next().expect(&rt, "an item")?;
         assert_eq!(rt; first.as_str(), inner.as_str());
