@@ -16,8 +16,8 @@ README, PAGE = BENCH.parent / "README.md", BENCH.parent / "docs/PERFORMANCE.md"
 MARK = "<!-- bench/report.py writes this table -->\n"
 HEADS = ["Report", "What", "Ratio", "Cases", "Least", "Median", "Most", "Commit"]
 CHART = 'alt="{} patterns: from {:.2f} to {:.2f}"'
-SENTENCE = """From Rust parsing takes {:.2g} to {:.2g} of the crate's [instructions](docs/PERFORMANCE.md#measured), a copy {:.2g} to {:.2g},
-and a walk {:.2g} to {:.2g} of its time. From Rattle sets take at most {:.2g} of `globset`'s.
+SENTENCE = """From Rust, parsing takes {:.2g} to {:.2g} times the crate's [instructions](docs/PERFORMANCE.md#measured), a copy {:.2g} to
+{:.2g} times, and a walk {:.2g} to {:.2g} of its time. From Rattle, the measured sets take at most {:.2g} of `globset`'s time.
 """
 PLOT = """
 set terminal svg size 720,{height} font "sans-serif,13"
@@ -91,11 +91,12 @@ def found_in(name, title, head):
 def with_sentence(page):
     chart = found_in("instructions", "Matching", "to the crate")
     parsing, copies = (found_in("process-instructions", it, "to the crate") for it in ("Parsing", "Copies"))
-    walks, sets = found_in("process-walks", "Walks", "to the crate"), found_in("sets", "Sets,", "to globset")
+    walks = found_in("process-walks", "Walks", "to the crate")
+    sets = [it for title in ("Sets,", "Kinds of sets from Rattle") for it in found_in("sets", title, "to globset")]
     ends = (end(found) for found in (parsing, copies, walks) for end in (min, max))
     sentence = SENTENCE.format(*ends, max(sets))
     page = re.sub(r'alt="\d+ patterns: [^"]*"', CHART.format(len(chart), min(chart), max(chart)), page)
-    return re.sub(r"^From Rust parsing takes (.+\n)+", lambda _: sentence, page, flags=re.M)
+    return re.sub(r"^From Rust, parsing takes (.+\n)+", lambda _: sentence, page, flags=re.M)
 
 
 def plot():

@@ -1,4 +1,4 @@
-//! What this crate has beside `glob`: limits, trees, walks that ask, ignore lists, captures and pruned walks.
+//! What this crate has besides `glob`: limits, trees, walks that ask, sets, searches, ignore lists and captures.
 
 use std::error::Error;
 use std::fmt::Debug;
