@@ -115,7 +115,7 @@ FINDERS = {
         *(word for name in OTHERS for word in ("-g", f"!{name}"))],
 }
 
-# The number of patterns of a set, and of paths to match: with 5,000 patterns, globset needs milliseconds for a path.
+# The number of patterns of a set, and of paths to match. With 5,000 patterns, globset needs milliseconds for a path.
 SETS = {125: 20_000, 482: 2_000, 5_000: 50}
 QUESTIONS = ["all", "first", "last", "any"]
 # About how many paths ours is asked in one run, and how many patterns are read while sets are made. And of how many

@@ -14,15 +14,15 @@ from lib.count import Count
 
 TOP = Path(__file__).resolve().parent.parent
 TOKEN = re.compile(r'"(?:\\[\s\S]|[^"\\])*"|b?\'(?:\\u\{\w+\}|\\x..|\\.|[^\'\\])\'|//[^\n]*|\w+|\S')
-# What may be there beyond the source: types and errors in the place of others, punctuation, a name for the error that
-# was matched, memory that is filled after it was asked for, what is said to be unread, and a renamed function.
+# What may be there beyond the source: types and errors that replace others, punctuation, a name for the error that was
+# matched, memory that is filled after its allocation, `_` for what is not read, and a renamed function.
 ADDED = re.compile("|".join([r"[;,)}{]|{ }|} }", r"' _", "&", "_|: _", "(> , )?(io : : )?Error|> , io", r"let \w+ =",
     "from|reason|false", "(, )?(PatternError|BraceError|SetRefusal|BraceSetRefusal)",
     r"Vec : : with_capacity \(( \w+ \))?", r"(\) ; )?\w+ \. resize.*", r"words \. len \( \) , 0 \) ;"]))
-# Words that decide what a program does, and what is the reason where one of them is missing.
+# Words that decide what a program does, and the reason if one of them is missing.
 DECIDES = {"if", "else", "=>", "while", "for", "loop", "return", "break", "continue", "!", "&&", "||", "+", "-", "/", "%"}
 REASON = re.compile(r"Memory|memory|AllocError|Allocator|in alloc|allocator \(|Err \(|is_full")
-# The reason for an arm alone, whose value stays: it is the only one, or is of an error that is in the place of another.
+# The reason if only an arm is missing, and its value stays: it is the only arm, or its error replaces another.
 OF_ARM = re.compile(r"Ok \(|Syntax \(")
 
 

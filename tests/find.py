@@ -91,7 +91,7 @@ class Searches:
         self.count.same(f"{what} {words}", (output.splitlines(), errors, status), (wanted, "", not wanted))
 
     def filtered(self, top):
-        """Searches a tree, beside a filter of all its paths. Half of them begin in another directory."""
+        """Searches a tree, and compares with a filter of its paths. Half of the searches begin in another directory."""
         source = self.source
         tree = make.grown(source, source.randint(0, 30), make.few_name, 0.7)
         make.place(top, [path + some_end(source, path, tree) for path in tree])
@@ -105,7 +105,7 @@ class Searches:
             self.same(place, sorted(tree), words, matched(kept, patterns, options))
 
     def beside_git(self, top):
-        """Searches a tree with ignore files, beside what git lists."""
+        """Searches a tree with ignore files, and compares with what git lists."""
         source = self.source
         tree = make.grown(source, source.randint(1, 30), ascii_name, 0.7)
         files = {f"{path}/.gitignore" for path in ["."] + [it for it in tree if tree[it]] if source.random() < 0.4}

@@ -26,12 +26,12 @@ use crate::{GlobError, MatchOptions, PatternError};
 ///
 /// # Errors
 ///
-/// The error is the first fault of the whole pattern, or else of a component. Its place is in characters from the start
-/// of that.
+/// The error is the first fault of the whole pattern, or else of a component. Its place is in characters, from the
+/// start of that pattern or component.
 ///
 /// <details><summary>Tested</summary>
 ///
-/// `tests/walks.rs`, which passes over `glob` too.
+/// `tests/walks.rs`, which `glob` passes, too.
 ///
 /// </details>
 pub fn glob(pattern: &str) -> Result<Paths, PatternError> {
@@ -50,12 +50,12 @@ pub fn glob(pattern: &str) -> Result<Paths, PatternError> {
 ///
 /// # Errors
 ///
-/// The error is the first fault of the whole pattern, or else of a component. Its place is in characters from the start
-/// of that.
+/// The error is the first fault of the whole pattern, or else of a component. Its place is in characters, from the
+/// start of that pattern or component.
 ///
 /// <details><summary>Tested</summary>
 ///
-/// `options` in `tests/walks.rs`, which passes over `glob` too.
+/// `options` in `tests/walks.rs`, which `glob` passes, too.
 ///
 /// </details>
 pub fn glob_with(pattern: &str, options: MatchOptions) -> Result<Paths, PatternError> {

@@ -22,8 +22,8 @@
 //!
 //! The code that matches and walks is made from sources in which every function is proved to do what its contract says;
 //! README says what that means for this crate. The file that an item's source link shows begins with the path of its
-//! source, where its contract is, unless the item is written by hand. A match asks a number of questions that is at
-//! most in proportion to the tokens of the pattern times the characters of the text, and nothing here calls itself.
+//! source, where its contract is, unless the item is written by hand. A match asks at most
+//! as many questions as the pattern has tokens times the text has characters, plus tokens, and nothing here recurses.
 
 #![forbid(unsafe_code)]
 #![warn(missing_debug_implementations, missing_docs, clippy::missing_errors_doc)]

@@ -1,4 +1,4 @@
-//! What Rust's paths and traits need beside the proved sources.
+//! What Rust's paths and traits need besides the proved sources.
 
 use std::error::Error;
 use std::fmt;

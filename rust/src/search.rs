@@ -17,8 +17,8 @@
 //! wildcards, such as `src/lib.rs`, is looked up, and lists nothing. A `*` takes no `/`, and `**` takes any number of
 //! names.
 //!
-//! A path that cannot be looked up, a directory that cannot be listed, an ignore file that cannot be read, a refused line
-//! of one, and a name that is not UTF-8 give items with a [`SearchError`].
+//! A path that cannot be looked up, a directory that cannot be listed, an ignore file that cannot be read, a refused
+//! line of one, and a name that is not UTF-8 give items with a [`SearchError`].
 //!
 //! With [`git`](Search::git) and [`Wanted::Others`], a search of `**/*` finds the files that `git ls-files -co
 //! --exclude-standard` prints, if no tracked file is ignored or missing, there is no repository within, each name is
@@ -243,9 +243,9 @@ impl Search {
         self
     }
 
-    /// Finds regular files only, on the file system. Each path that is found and is no directory is looked up once more:
-    /// a symbolic link is no file, unless links are followed and it leads to one. A [`Tree`] of one's own knows only
-    /// directories and others, and this finds the others there.
+    /// Finds only regular files, on the file system. Each path found that is not a directory is looked up once more: a
+    /// symbolic link does not count as a file, unless links are followed and it leads to one. A [`Tree`] of your own
+    /// knows only directories and others; there, this finds the others.
     ///
     /// ```
     /// use cadmiumdove::search::Search;
@@ -315,7 +315,7 @@ impl Search {
         self
     }
 
-    /// Leaves out what a list ignores, and everything below it. Its rules come before those of files.
+    /// Leaves out what a list ignores, and everything below it. Its rules override those of files.
     ///
     /// A list is the text of an ignore file: `#` begins a comment, `!` re-includes, and a rule without a `/` is about
     /// names at every depth. For patterns of a command line use [`exclude`](Search::exclude) with a
@@ -341,9 +341,9 @@ impl Search {
         self
     }
 
-    /// Reads the files with these names in each directory that is entered, and leaves out what their rules ignore. The
-    /// deepest file that names a path decides, and within one directory the last of these names. Each refused line
-    /// gives an error in the place of its file, and is no rule.
+    /// Reads the files with these names in each directory that is entered, and leaves out what their rules ignore. If
+    /// several files have a rule for a path, the deepest decides, and within one directory the last of these names.
+    /// Each refused line gives an error when its file is read, and makes no rule.
     ///
     /// ```
     /// use cadmiumdove::search::Search;
@@ -369,7 +369,7 @@ impl Search {
     }
 
     /// Heeds what git heeds: reads the `.gitignore` of each directory and `.git/info/exclude`, and leaves out each
-    /// `.git`. The start directory is taken for the top of the repository. This adds to
+    /// `.git`. The start directory counts as the top of the repository. This adds to
     /// [`ignore_files`](Search::ignore_files).
     ///
     /// ```
@@ -430,7 +430,7 @@ impl Search {
         self
     }
 
-    /// The most units of work: one for each lookup, listing, file of rules, and entry of a listing. A search that needs
+    /// The most units of work: one for each lookup, listing, ignore file, and entry of a listing. A search that needs
     /// more ends with [`Limit`](SearchError::Limit).
     ///
     /// ```
@@ -454,7 +454,7 @@ impl Search {
 
     /// Begins in a tree of your own, with the texts of its ignore files ([`NoRuleTexts`] has none). In a directory that
     /// is listed, only the files that the listing has are asked for. The names of a tree are UTF-8 by their type, so
-    /// what it passes over, as [`Disk`] does, is not an error here. Nor is a missing start directory, unless it is
+    /// what it leaves out, as [`Disk`] does, is not an error here. Nor is a missing start directory, unless it is
     /// listed.
     ///
     /// ```

@@ -18,10 +18,10 @@ use crate::walk::{Disk, Entry, Look, Tree};
 /// The function that says what is left out.
 pub(crate) type Exclusion = Box<dyn FnMut(&str, bool) -> bool + Send>;
 
-/// What a tree has passed over since the last such question.
+/// What a tree has left out since it was last asked.
 type PassedOver<T> = Box<dyn FnMut(&mut T) -> Vec<SearchError> + Send>;
 
-/// Whether something that is found in a tree is given.
+/// Whether something found in a tree is returned.
 type Keeps<T> = Box<dyn FnMut(&T, &Found) -> bool + Send>;
 
 /// A search that has begun: what it finds, and what it could not do, in order.
@@ -38,7 +38,7 @@ pub struct Searching<T, R> {
     engine: Engine,
     tree: T,
     guide: Guide<R>,
-    /// What the tree has passed over since the last such question.
+    /// What the tree has left out since it was last asked.
     passed_over: PassedOver<T>,
     keeps: Keeps<T>,
     /// What comes before all else.
@@ -46,7 +46,7 @@ pub struct Searching<T, R> {
 }
 
 impl<T, R> Searching<T, R> {
-    /// Over a tree that passes over nothing.
+    /// Over a tree that leaves nothing out.
     pub(crate) fn new(engine: Engine, tree: T, guide: Guide<R>) -> Self {
         let (passed_over, keeps) = (Box::new(|_: &mut T| Vec::new()), Box::new(|_: &T, _: &Found| true));
         Searching { engine, tree, guide, passed_over, keeps, ready: VecDeque::new() }
@@ -66,7 +66,7 @@ impl<T, R> Searching<T, R> {
 }
 
 impl Searching<Start, Start> {
-    /// Over a file system: reports what it passes over, and first why its start is no directory. It may give only files.
+    /// Over a file system: reports what it leaves out, and first why its start is no directory. It may give only files.
     pub(crate) fn reporting(mut self, missing: Option<io::Error>, files: bool) -> Self {
         self.passed_over = Box::new(Start::passed_over);
         if files {
@@ -144,7 +144,7 @@ pub struct Start {
     strays: Vec<SearchError>,
 }
 
-/// A clone has passed over nothing yet.
+/// A clone has left out nothing yet.
 impl Clone for Start {
     fn clone(&self) -> Self {
         Start { disk: self.disk, directory: self.directory.clone(), strays: Vec::new() }
@@ -161,7 +161,7 @@ impl Start {
         fs::metadata(self.at(".")).err()
     }
 
-    /// What was passed over since the last such question.
+    /// What was left out since the last such question.
     fn passed_over(&mut self) -> Vec<SearchError> {
         mem::take(&mut self.strays)
     }

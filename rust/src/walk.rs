@@ -141,7 +141,7 @@ pub fn given<T: Tree>(paths: &Paths<T>) -> u128 {
     paths.given()
 }
 
-/// With this a walk leaves the tree to its caller.
+/// A walk over a `&mut T` leaves the tree to its caller.
 ///
 /// ```
 /// use cadmiumdove::walk::{glob_in, Disk, Entry, Look, Tree};

@@ -1,5 +1,5 @@
 //! Where releases of `glob` differ: names that are not UTF-8, links that lead nowhere, kinds that come with a listing;
-//! and what it has no test for.
+//! and what `glob` has no test for.
 
 use std::error::Error;
 use std::ffi::OsStr;
