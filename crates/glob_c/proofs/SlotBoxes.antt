@@ -1,4 +1,4 @@
--- A slot is made of a box, and gives it back, whichever of the two it has.
+-- Making a slot of a box, and taking the box out again, for patterns and for walks.
 use Rattle.std.proofs.Common.{ℕ, IsSome, ◌≡◌, List, [], ◌∷◌, ◌++◌, refl, sym, ap, ◌∙◌, subst}
 use seplogic.Ra.Ura.{Ura}
 use mir.Raw.{raw as bare}

@@ -1,4 +1,4 @@
--- What stands at the start of a buffer after a write.
+-- The start of a buffer after a write.
 use Rattle.std.proofs.Common.{◌≡◌, ℕ, List, ◌++◌, length, take, IsUtf8, sym, ap, ◌∙◌, subst}
 use Rattle.std.proofs.Math.Seq.{take-append_seam}
 

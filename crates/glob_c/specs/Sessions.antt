@@ -63,7 +63,8 @@ entries_said (AsksList kinds) (reply.Listed r) = entry_count r
 entries_said _ _ = 0
 
 -- what the next step does to the counts, whatever was answered
-pub record Counts (said : Saying) (r : Reply) (old : MachineState (Walk Global)) (s : Saying) (new : MachineState (Walk Global)) : Type 0 where
+pub record Counts (said : Saying) (r : Reply) (old : MachineState (Walk Global)) (s : Saying)
+    (new : MachineState (Walk Global)) : Type 0 where
   pub answered : IsAnswered said r → StepCounts (entries_said said r) old s new
   pub waits : ¬ (IsAnswered said r) → (s ≡ said) × (new ≡ old)
 

@@ -1,3 +1,4 @@
+//! Escapes texts for C.
 ghost use Rattle.std.specs.Prelude.{◌≡◌, ◌≤◌, ◌<◌, IsUtf8, chars, length, take, drop};
 ghost use Rattle.glob_pattern.specs.Escaping.{escaped_text};
 ghost use Rattle.glob_c.specs.Answers.{done, syntax_fault, not_utf8, too_short};

@@ -1,3 +1,4 @@
+//! Why bytes are not a valid pattern.
 ghost use Rattle.std.specs.Prelude.{◌≡◌, IfOk, IfErr, IsUtf8, chars};
 ghost use Rattle.glob_pattern.specs.Grammar.Units.{IsAccepted};
 ghost use Rattle.glob_c.specs.Refusals.{RefusesBytes};

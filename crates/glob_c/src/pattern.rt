@@ -1,3 +1,4 @@
+//! Patterns for C.
 ghost use Rattle.std.specs.Prelude.{◌≡◌, ◌≤◌, ℕ, List, IsUtf8, IsSome, chars};
 ghost use Rattle.std.specs.declared.option.Option.TheVariants.{None, Some};
 ghost use Rattle.glob_pattern.specs.Grammar.Units.{IsAccepted};

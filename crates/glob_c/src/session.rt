@@ -9,7 +9,8 @@ ghost use Rattle.glob_walk.specs.Questions.{question_path};
 ghost use Rattle.glob_walk.specs.Walks.{Gives, outcome};
 ghost use Rattle.glob_walk.specs.Marks.{Found, Item, Mark};
 ghost use Rattle.glob_c.specs.Answers.{done, is_entry_answer, no_name, not_asked, not_utf8, out_of_memory};
-ghost use Rattle.glob_c.specs.Sessions.{AreListed, Counts, IsUnanswered, IsUnread, Replies, RepliesTo, SaysUnread, entries_so_far, error_path, kind_of};
+ghost use Rattle.glob_c.specs.Sessions.{AreListed, Counts, IsUnanswered, IsUnread, Replies, RepliesTo, SaysUnread};
+ghost use Rattle.glob_c.specs.Sessions.{entries_so_far, error_path, kind_of};
 
 use crate::pattern::{DONE, NOT_UTF8, OUT_OF_MEMORY};
 use glob_tree::{Entry, ListError, Look, Name};

@@ -13,9 +13,11 @@ ghost use Rattle.glob_walk.specs.Walks.{Gives};
 ghost use Rattle.glob_walk.specs.Components.{walk_fault};
 ghost use Rattle.glob_walk.specs.Listing.{listing};
 ghost use Rattle.glob_walk.specs.Marks.{Found, Item, Mark};
-ghost use Rattle.glob_c.specs.Answers.{done, empty, in_use, is_entry_answer, no_name, not_asked, not_utf8, out_of_memory, syntax_fault, too_short, unknown_flag};
+ghost use Rattle.glob_c.specs.Answers.{done, empty, in_use, is_entry_answer, no_name, not_asked, not_utf8};
+ghost use Rattle.glob_c.specs.Answers.{out_of_memory, syntax_fault, too_short, unknown_flag};
 ghost use Rattle.glob_c.specs.Sessions.{Replies, Sitting, entries_so_far, error_path, look_of, looked_at};
-ghost use Rattle.glob_c.specs.WalkSlots.{HasEntries, HasLimit, HasListed, HasNoAnswer, HasStep, HasUnread, IsAdvanced, IsBegun, IsCounted, IsToldUnread};
+ghost use Rattle.glob_c.specs.WalkSlots.{HasEntries, HasLimit, HasListed, HasNoAnswer, HasStep, HasUnread, IsAdvanced};
+ghost use Rattle.glob_c.specs.WalkSlots.{IsBegun, IsCounted, IsToldUnread};
 
 use crate::escape::TOO_SHORT;
 use crate::fault::Fault;

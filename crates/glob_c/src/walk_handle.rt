@@ -1,3 +1,4 @@
+//! The handle that a C program has of a walk.
 ghost use Rattle.std.specs.Prelude.{◌≡◌, MatchOption, is_some};
 ghost use Rattle.std.specs.declared.option.Option.TheVariants.{None, Some};
 

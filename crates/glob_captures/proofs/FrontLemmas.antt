@@ -1,4 +1,4 @@
--- Rows of the tokens before one, and of it, from each other.
+-- The rows before and after one more token, each from the other.
 use Rattle.std.proofs.Common.{◌≡◌, ◌≢◌, ℕ, suc, ◌+◌, ◌-◌, ◌<◌, ◌≤◌, ◌↔◌, inl, inr, ⊎_elim, Bool, false, ◌&&◌, ◌||◌, not}
 use Rattle.std.proofs.Common.{List, [], ◌∷◌, length, get_or, set, take, drop, map, ◌++◌, IsTrue, refl, sym, ap, subst}
 use Rattle.std.proofs.Common.{◌∙◌, arith}
@@ -93,7 +93,7 @@ pub Took-start : (o : MatchOptions) (tokens : List Token) (text : Text) (n : ℕ
 unfolding Took HasTaken
 Took-start o tokens text n = ((λ h. absurd (false≢true h)), (λ h. absurd h))
 
--- no tokens take the start alone
+-- no tokens take exactly the empty prefix
 pub TakeFront-none : (o : MatchOptions) (tokens : List Token) (text : Text) (k : ℕ) → TakeFront o tokens text 0 k ↔ (k ≡ 0)
 unfolding TakeFront PrefixSplits
 TakeFront-none o tokens text k = ((λ h. h), (λ h. h))

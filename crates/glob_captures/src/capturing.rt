@@ -88,7 +88,7 @@ fn shortest_pieces<A: Allocator + Copy, B: Allocator>(
     Ok(pieces)
 }
 
-/// Where the shortest piece of `token` ends that begins at `place`. `rests` was made with the same options.
+/// The end of the shortest piece of `token` that begins at `place`. `rests` was made with the same options.
 fn shortest_end<A: Allocator, B: Allocator>(
     pattern: &Pattern<B>,
     token: usize,
@@ -134,7 +134,7 @@ fn first_end(closes: bool, text: &[char], place: usize, next: &[bool]) -> usize
     end
 }
 
-/// Whether a piece from `place` may end at `end`, where `next` says from where on the tokens after it take the rest.
+/// Whether a piece from `place` may end at `end`. `next` says from which places the tokens after it take the rest.
 #[inline(always)]
 fn may_end(closes: bool, text: &[char], next: &[bool], place: usize, end: usize) -> bool
     requires within { end ≤ length text.now }

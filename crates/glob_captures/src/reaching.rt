@@ -5,12 +5,11 @@ ghost use Rattle.glob_text.specs.Text.{opens};
 ghost use Rattle.glob_pattern.specs.Grammar.Tokens.{Token};
 ghost use Rattle.glob_pattern.specs.declared.options.MatchOptions.{MatchOptions as Options};
 ghost use Rattle.glob_pattern.specs.Computing.Tokens.{tokens_of};
-ghost use Rattle.glob_pattern.specs.Private.TextTable.{table_of};
 ghost use Rattle.glob_captures.specs.Reaching.{IsFarthest, AreWaiting, IsReached};
 ghost use Rattle.glob_captures.specs.Private.Fronts.{AreFronts, AreWaits};
 
 use crate::error::CapturesError;
-use crate::steps::{Form, MOST_STEPS, bytes_of, form_of, is_too_large, takes_at};
+use crate::steps::{Form, MOST_STEPS, bytes_of, form_of, is_too_large, takes_if};
 use glob_pattern::{MatchOptions, Pattern, characters_of, opens, tokens_len};
 use std::alloc::{AllocError, Allocator, Global};
 
@@ -155,7 +154,7 @@ fn step<A: Allocator>(
         let waits = may_wait(form, was, took);
         alive[place] = waits;
         whole[place] = may_end(form, text, place, was, took);
-        took = place < text.len() && takes_next(pattern, token, options, text, place, waits);
+        took = place < text.len() && takes_if(pattern, token, options, text, place, waits);
     }
 }
 
@@ -168,7 +167,7 @@ fn may_wait(form: Form, was: bool, took: bool) -> bool
     was || (took && form.grows)
 }
 
-/// Whether the token's piece may end there.
+/// Whether the token's piece may end at the place.
 #[inline(always)]
 fn may_end(form: Form, text: &[char], place: usize, was: bool, took: bool) -> bool
     requires { place ≤ length text.now }
@@ -177,26 +176,7 @@ fn may_end(form: Form, text: &[char], place: usize, was: bool, took: bool) -> bo
     (was && form.grows) || (took && (!form.closes || opens(text, place)))
 }
 
-/// Whether the token waits at the place and takes the character there.
-#[inline(always)]
-#[tactic(auto, unfolding(glob_pattern::specs::Private::TextTable::table_of))]
-fn takes_next<A: Allocator>(
-    pattern: &Pattern<A>,
-    token: usize,
-    options: MatchOptions,
-    text: &[char],
-    place: usize,
-    waits: bool,
-) -> bool
-    requires token { token < length (tokens_of (chars pattern.now)) }
-    requires place { place < length text.now }
-    ensures { result ≡ (waits
-        && (table_of options (tokens_of (chars pattern.now)) text.now).takes token place) }
-{
-    waits && takes_at(pattern, token, options, text, place)
-}
-
-/// The last place that is true, or 0 if there is none.
+/// The last place whose entry is true, or 0 if all are false.
 fn last_place(places: &[bool]) -> usize
     requires { 0 < length places.now }
     ensures within { result < length places.now }

@@ -2,12 +2,11 @@
 ghost use Rattle.std.specs.Prelude.{◌≡◌, ◌+◌, ◌-◌, ◌<◌, ◌≤◌, length, IfOk, chars, List, ◌&&◌, ◌||◌, not};
 ghost use Rattle.glob_pattern.specs.Computing.Tokens.{tokens_of};
 ghost use Rattle.glob_text.specs.Text.{opens};
-ghost use Rattle.glob_pattern.specs.Private.TextTable.{table_of};
 ghost use Rattle.std.specs.Prelude.{IsTrue};
 ghost use Rattle.glob_captures.specs.Private.Rests.{AreRests, AreInnerRests, IsSpan, TakesRest, grows, shape_at};
 
 use crate::span::Span;
-use crate::steps::{Form, form_of, takes_at};
+use crate::steps::{Form, form_of, takes_if};
 use glob_pattern::{MatchOptions, Pattern, opens, tokens_len};
 use std::alloc::{AllocError, Allocator};
 use std::marker::Model;
@@ -36,8 +35,8 @@ impl<A: Allocator> Rests<A> {
     }
 }
 
-/// Row `i` says from where on the tokens from number `span.last - i` on take the rest. It is empty if the token before
-/// them is not a wildcard.
+/// Row `i` says from which places the tokens from number `span.last - i` on take the rest. It is empty if the token
+/// before them is not a wildcard.
 pub fn rests_of<A: Allocator + Copy, B: Allocator>(
     alloc: A,
     pattern: &Pattern<B>,
@@ -83,8 +82,8 @@ fn row_after<A: Allocator + Copy, B: Allocator>(
     Ok(Rests { places })
 }
 
-/// The row of the tokens after the last wildcard: they take one character each, so they take the rest from one place
-/// only.
+/// The row of the tokens after the last wildcard. Each of them takes one character, so they take the rest from exactly
+/// one place.
 fn rests_after_span<A: Allocator + Copy, B: Allocator>(
     alloc: A,
     pattern: &Pattern<B>,
@@ -123,38 +122,26 @@ fn add_token<A: Allocator>(
     for done in 0..text.len() {
         let place = text.len() - 1 - done;
         let here = row[place];
-        more = takes_more(pattern, token, form, options, text, place, rest, more);
+        let may = may_take(form, text, place, rest, more);
+        more = takes_if(pattern, token, options, text, place, may);
         row[place] = is_taken(form, here, more);
         rest = here;
     }
 }
 
-/// Whether the token takes the character at `place` and either ends its piece there, since the tokens after it take the
-/// rest from the next place on (`rest`), or goes on, since it takes more from there (`more`).
+/// Whether the token may take the character at `place`: either its piece may end there, since the tokens after it take
+/// the rest from the next place on (`rest`), or it goes on, since it takes more from there (`more`).
 #[inline(always)]
-#[tactic(auto, unfolding(glob_pattern::specs::Private::TextTable::table_of))]
-fn takes_more<A: Allocator>(
-    pattern: &Pattern<A>,
-    token: usize,
-    form: Form,
-    options: MatchOptions,
-    text: &[char],
-    place: usize,
-    rest: bool,
-    more: bool,
-) -> bool
-    requires token { token < length (tokens_of (chars pattern.now)) }
-    requires place { place < length text.now }
+fn may_take(form: Form, text: &[char], place: usize, rest: bool, more: bool) -> bool
+    requires { place < length text.now }
     ensures { result
-        ≡ (((rest && (not form.closes || opens text.now (place + 1))) || (form.grows && more))
-        && (table_of options (tokens_of (chars pattern.now)) text.now).takes token place) }
+        ≡ ((rest && (not form.closes || opens text.now (place + 1))) || (form.grows && more)) }
 {
-    ((rest && (!form.closes || opens(text, place + 1))) || (form.grows && more))
-        && takes_at(pattern, token, options, text, place)
+    (rest && (!form.closes || opens(text, place + 1))) || (form.grows && more)
 }
 
-/// Whether the tokens from one on take the rest from a place: it takes a character there (`more`), or its piece may be
-/// empty.
+/// Whether a token and those after it take the rest from a place: the token takes a character there (`more`), or its
+/// piece may be empty.
 #[inline(always)]
 fn is_taken(form: Form, rest: bool, more: bool) -> bool
     ensures { result ≡ (more || (form.grows && rest)) }

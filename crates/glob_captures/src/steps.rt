@@ -1,5 +1,5 @@
 //! What captures and reach share: the bound on the work, what a token's piece may be, and places in bytes.
-ghost use Rattle.std.specs.Prelude.{◌≡◌, ◌+◌, ◌*◌, ◌<◌, ◌≤◌, ◌↔◌, length, IsTrue, chars};
+ghost use Rattle.std.specs.Prelude.{◌≡◌, ◌+◌, ◌*◌, ◌<◌, ◌≤◌, ◌↔◌, ◌&&◌, length, IsTrue, chars};
 ghost use Rattle.std.specs.Prelude.{encode_utf8_all, ◌^◌};
 ghost use Rattle.glob_text.specs.Text.{opens};
 ghost use Rattle.glob_pattern.specs.Computing.Tokens.{tokens_of};
@@ -54,22 +54,23 @@ pub fn form_of<A: Allocator>(pattern: &Pattern<A>, token: usize) -> Form
     }
 }
 
-/// Whether token `token` takes the character at `place`.
+/// Whether token `token` takes the character at `place`, where `may` says whether it may take one there.
 #[inline(always)]
 #[tactic(auto, unfolding(glob_pattern::specs::Private::TextTable::table_of))]
-pub fn takes_at<A: Allocator>(
+pub fn takes_if<A: Allocator>(
     pattern: &Pattern<A>,
     token: usize,
     options: MatchOptions,
     text: &[char],
     place: usize,
+    may: bool,
 ) -> bool
     requires token { token < length (tokens_of (chars pattern.now)) }
     requires place { place < length text.now }
-    ensures { result
-        ≡ (table_of options (tokens_of (chars pattern.now)) text.now).takes token place }
+    ensures { result ≡ (may
+        && (table_of options (tokens_of (chars pattern.now)) text.now).takes token place) }
 {
-    token_takes(pattern, token, options, opens(text, place), text[place])
+    may && token_takes(pattern, token, options, opens(text, place), text[place])
 }
 
 /// The length of the characters, in bytes.

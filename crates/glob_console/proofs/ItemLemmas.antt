@@ -1,4 +1,4 @@
--- What further items add to the paths of a walk, and to the records of those that are wanted.
+-- What more items add to the paths of a walk, and to the records of the wanted ones.
 use Rattle.std.proofs.Common.{◌≡◌, ℕ, true, false, List, [], ◌∷◌, ◌++◌, Bool, refl, ap, sym, ◌∙◌, append-nil}
 use Rattle.std.specs.declared.io.ErrorKind.{ErrorKind}
 use Rattle.std.specs.List.{filter}

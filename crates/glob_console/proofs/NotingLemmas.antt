@@ -1,4 +1,4 @@
--- What one more item of a walk changes in what was found.
+-- What one more item changes in the findings of a walk.
 use Rattle.std.proofs.Common.{◌≡◌, true, false, None, Some, Result, Ok, Err, refl, ap}
 use Rattle.std.proofs.lemmas.Option.{same_Some}
 use Rattle.std.specs.Prelude.{is_ok}

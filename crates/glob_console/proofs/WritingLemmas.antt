@@ -1,4 +1,4 @@
--- Bytes of which the first were written.
+-- Writers that accepted the first of some bytes.
 use Rattle.std.proofs.Common.{◌≡◌, ℕ, Option, None, Some, List, [], ◌++◌, inr, take, drop, length, Result, Ok, Err}
 use Rattle.std.proofs.Common.{OnErr, OnOk, sym, ap, subst, ◌∙◌, append-nil, append_assoc}
 use Rattle.std.proofs.lemmas.List.{take-append-drop}
@@ -53,12 +53,12 @@ pub text_at_fault : (text : List ℕ) (known : Option (List ℕ)) (status : ℕ)
 unfolding WritesText
 text_at_fault text known status is = inr (is, AppendsFront-none known known text (Keeps-refl known))
 
--- a fact holds at a fault too
+-- a fact that holds anyway holds at a fault
 pub OnErr-from : {T E : Type 0} (r : Result T E) {P : Type 0} → P → OnErr r P
 OnErr-from (Ok x) p = tt
 OnErr-from (Err e) p = p
 
--- a fact holds where there is no fault too
+-- and where there is no fault
 pub OnOk-from : {T E : Type 0} (r : Result T E) {P : Type 0} → P → OnOk r P
 OnOk-from (Ok x) p = p
 OnOk-from (Err e) p = tt

@@ -1,5 +1,6 @@
 -- The words of a command line that all programs share.
-use Rattle.std.specs.Prelude.{ℕ, ◌^◌, ◌==◌, ◌&&◌, Bool, false, [], ◌∷◌, Option, None, Some, if◌then◌else◌, is_some, unwrap_or, length, nat_lt, nat_le}
+use Rattle.std.specs.Prelude.{ℕ, ◌^◌, ◌==◌, ◌&&◌, Bool, false, [], ◌∷◌, Option, None, Some, if◌then◌else◌, is_some}
+use Rattle.std.specs.Prelude.{unwrap_or, length, nat_lt, nat_le}
 use Rattle.std.specs.List.{list_all}
 use Rattle.std.specs.Char.{is_ascii_digit}
 use Rattle.std.specs.Str.Parse.{digits_value}

@@ -1,4 +1,4 @@
--- What a caller's proof needs of `FiltersRecords`, `CopiesSelected` and the words beside them, which its goals show closed.
+-- Lemmas for callers, about `FiltersRecords`, `CopiesSelected` and similar definitions, which are opaque to them.
 pub use Rattle.glob_lines.proofs.LineLemmas.Filtering.{records_by_writing, some_records_by_writing}
 pub use Rattle.glob_lines.proofs.LineLemmas.Filtering.{some_bytes_by_writing, writing_of_records}
 pub use Rattle.glob_lines.proofs.LineLemmas.Filtering.{writing_of_some_records, writing_of_some_bytes}

@@ -1,5 +1,6 @@
 -- The records in some bytes, and which of them a pattern matches. A line is a record that a line feed ends.
-use Rattle.std.specs.Prelude.{◌≡◌, ◌≢◌, ℕ, ◌-◌, ◌^◌, ◌==◌, ◌&&◌, ◌⊎◌, Bool, if◌then◌else◌, All, List, [], ◌∷◌, ◌++◌, Option, IfSome, length, min, take, true}
+use Rattle.std.specs.Prelude.{◌≡◌, ◌≢◌, ℕ, ◌-◌, ◌^◌, ◌==◌, ◌&&◌, ◌⊎◌, Bool, if◌then◌else◌, All, List, [], ◌∷◌, ◌++◌}
+use Rattle.std.specs.Prelude.{Option, IfSome, length, min, take, true}
 use Rattle.std.specs.Str.{chars, is_utf8}
 use Rattle.std.specs.List.{flat_map}
 use Rattle.std.specs.Io.KnownBytes.{Appends, Consumes}

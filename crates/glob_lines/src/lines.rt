@@ -1,8 +1,11 @@
 //! Copies matching records in the order in which they are read.
-ghost use Rattle.std.specs.Prelude.{◌≡◌, ◌↔◌, ◌<◌, ◌≤◌, ◌+◌, ◌∷◌, ◌++◌, false, length, take, drop, vec_len, IsTrue, IsErr, IsErrAnd, IfOk, OnOk, OnErr};
+ghost use Rattle.std.specs.Prelude.{◌≡◌, ◌↔◌, ◌<◌, ◌≤◌, ◌+◌, ◌∷◌, ◌++◌, false, length, take, drop, vec_len, IsTrue};
+ghost use Rattle.std.specs.Prelude.{IsErr, IsErrAnd, IfOk, OnOk, OnErr};
 ghost use Rattle.std.specs.Io.KnownBytes.{Keeps, Appends, Consumes, IsAtEnd};
 ghost use Rattle.glob_lines.specs.LineFaults.{IsRead, IsMemory, IsWrite};
-ghost use Rattle.glob_lines.specs.Lines.{records_of, ended_record, AppendsFront, Selected, WritesKept, FiltersRecords, FiltersSomeRecords, FiltersRecordBytes, FiltersLines, FiltersSomeLines, FiltersSomeBytes};
+ghost use Rattle.glob_lines.specs.Lines.{records_of, ended_record, AppendsFront, Selected, WritesKept, FiltersRecords};
+ghost use Rattle.glob_lines.specs.Lines.{FiltersSomeRecords, FiltersRecordBytes, FiltersLines, FiltersSomeLines};
+ghost use Rattle.glob_lines.specs.Lines.{FiltersSomeBytes};
 ghost use Rattle.glob_lines.specs.Private.Fronts.{WritesFrontRecords, WritesFrontBytes};
 ghost use Rattle.glob_lines.specs.Private.Gathering.{IsGathered};
 

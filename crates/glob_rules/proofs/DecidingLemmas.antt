@@ -1,4 +1,4 @@
--- Rules that name a path, asked from the last to the first.
+-- Rules that match a path, tried from the last to the first.
 use Rattle.std.proofs.Common.{◌≡◌, ℕ, zero, suc, ◌+◌, ◌<◌, ◌≤◌, ◌↔◌, Bool, true, false, ◌&&◌, ◌||◌, not, List, []}
 use Rattle.std.proofs.Common.{length, get_or, take, drop, Option, Some, None, eqb, eq-eqb, inl, inr, IsTrue, refl, sym}
 use Rattle.std.proofs.Common.{ap, subst, ◌∙◌, arith}

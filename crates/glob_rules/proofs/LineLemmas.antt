@@ -123,7 +123,8 @@ unfolding text_read
 text_read-lengths text = fold-lengths (lines_of text) none_read refl
 
 -- the first refusal is the error of the text
-pub RefusesText-first : (text : Text) (refusal : RuleRefusal) (later : List RuleRefusal) → refusals_of text ≡ refusal ∷ later → RefusesText text refusal
+pub RefusesText-first : (text : Text) (refusal : RuleRefusal) (later : List RuleRefusal)
+    → refusals_of text ≡ refusal ∷ later → RefusesText text refusal
 unfolding RefusesText
 RefusesText-first text (refusals.Line n reason) later is = (later, is)
 RefusesText-first text refusals.Memory later is = tt

@@ -1,11 +1,15 @@
 -- The character classes of a bracket, as in `[[:digit:]_]`: git's classes, ASCII only.
-use Rattle.std.specs.Char.{is_ascii_alphabetic, is_ascii_alphanumeric, is_ascii_control, is_ascii_digit, is_ascii_graphic, is_ascii_hexdigit, is_ascii_lowercase, is_ascii_punctuation, is_ascii_uppercase}
-use Rattle.std.specs.Prelude.{ℕ, ◌-◌, Bool, ◌&&◌, ◌||◌, nat_le, ◌==◌, if◌then◌else◌, length, take, drop, Option, Some, None, codes, bytes_eq}
+use Rattle.std.specs.Char.{is_ascii_alphabetic, is_ascii_alphanumeric, is_ascii_control, is_ascii_digit}
+use Rattle.std.specs.Char.{is_ascii_graphic, is_ascii_hexdigit, is_ascii_lowercase, is_ascii_punctuation}
+use Rattle.std.specs.Char.{is_ascii_uppercase}
+use Rattle.std.specs.Prelude.{ℕ, ◌-◌, Bool, ◌&&◌, ◌||◌, nat_le, ◌==◌, if◌then◌else◌, length, take, drop, Option, Some}
+use Rattle.std.specs.Prelude.{None, codes, bytes_eq}
 use Rattle.std.specs.List.{before_first}
 use Rattle.glob_text.specs.Text.{Text, has}
 use Rattle.glob_pattern.specs.Grammar.Characters.{close_bracket}
 use Rattle.glob_rules.specs.declared.classes.Class.{Class}
-use Rattle.glob_rules.specs.declared.classes.Class.TheVariants.{Alnum, Alpha, Blank, Cntrl, Digit, Graph, Lower, Print, Punct, Space, Upper, Xdigit}
+use Rattle.glob_rules.specs.declared.classes.Class.TheVariants.{Alnum, Alpha, Blank, Cntrl, Digit, Graph, Lower, Print}
+use Rattle.glob_rules.specs.declared.classes.Class.TheVariants.{Punct, Space, Upper, Xdigit}
 
 -- `:`
 abbrev pub colon : ℕ

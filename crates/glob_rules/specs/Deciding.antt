@@ -1,5 +1,6 @@
 -- Which rule decides whether a path is ignored.
-use Rattle.std.specs.Prelude.{ℕ, zero, suc, Bool, true, false, ◌&&◌, ◌||◌, not, ◌==◌, if◌then◌else◌, [], ◌∷◌, ◌++◌, length, slice_index_or, Option, Some, None, option_map}
+use Rattle.std.specs.Prelude.{ℕ, zero, suc, Bool, true, false, ◌&&◌, ◌||◌, not, ◌==◌, if◌then◌else◌, [], ◌∷◌, ◌++◌}
+use Rattle.std.specs.Prelude.{length, slice_index_or, Option, Some, None, option_map}
 use Rattle.std.specs.Str.{chars}
 use Rattle.glob_text.specs.Characters.{slash}
 use Rattle.glob_text.specs.Text.{Text}
@@ -12,19 +13,19 @@ abbrev pub rule_at : Ignores → (number : ℕ) → Rule
 rule_at list number =
     slice_index_or list.rules number (record { line = 0; negative = false; directories = false })
 
--- The rule of a number names a path: its pattern matches it, and the path is a directory or need not be one.
+-- Rule `number` matches a path: its pattern does, and the path is a directory or the rule is not only for directories.
 unfoldable pub names : Ignores → (path : Text) → (is_directory : Bool) → (number : ℕ) → Bool
 names list path is_directory number =
     (is_directory || not (rule_at list number).directories)
     && is_match rule_options (chars (slice_index_or list.patterns number [])) (chars path)
 
--- the last of the first n rules that names a path
+-- the last of the first n rules that matches a path
 abbrev pub last_naming : Ignores → (path : Text) → (is_directory : Bool) → (n : ℕ) → Option ℕ
 last_naming list path is_directory zero = None
 last_naming list path is_directory (suc n) =
     if names list path is_directory n then Some n else last_naming list path is_directory n
 
--- the last rule that names a path
+-- the last rule that matches a path
 unfoldable pub last_named : Ignores → (path : Text) → (is_directory : Bool) → Option ℕ
 last_named list path is_directory = last_naming list path is_directory (length list.rules)
 
@@ -37,8 +38,9 @@ abbrev pub ignores : Ignores → (number : Option ℕ) → Bool
 ignores list None = false
 ignores list (Some number) = not (rule_at list number).negative
 
--- The rule that decides about the path `front` and `rest`: at each separator of the rest, what is before it is a directory
--- above the path, and the last rule that names it decides if it ignores it; else the last rule that names the path.
+-- The rule that decides about the path `front` and `rest`. What comes before a separator of the rest is a directory above
+-- the path. If the last rule that matches such a directory ignores it, that rule decides; otherwise the last rule that
+-- matches the path decides.
 abbrev pub deciding_from : Ignores → (front rest : Text) → (is_directory : Bool) → Option ℕ
 deciding_from list front [] is_directory = last_named list front is_directory
 deciding_from list front (c ∷ cs) is_directory =

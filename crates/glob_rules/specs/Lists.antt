@@ -20,7 +20,7 @@ pub record Ignores : Type 0 where
   pub rules : List Rule
   pub patterns : List Text
 
--- what was read of a text: the list, and a refusal for each line that is refused
+-- what was read of a text: the list, and a refusal for each refused line
 pub record TextRead : Type 0 where
   pub list : Ignores
   pub refusals : List RuleRefusal
@@ -111,7 +111,7 @@ refusals_of text = (text_read text).refusals
 unfoldable pub AreTaken : Text → Type 0
 AreTaken text = refusals_of text ≡ []
 
--- The error fits the text: it is the refusal of the first line that is refused, or an allocation failed.
+-- The error fits the text: it is the refusal of the first refused line, or an allocation failed.
 unfoldable pub RefusesText : Text → RuleRefusal → Type 0
 RefusesText text (refusal.Line n reason) =
     (later : List RuleRefusal) × (refusals_of text ≡ refusal.Line n reason ∷ later)

@@ -12,7 +12,9 @@ use Rattle.glob_rules.specs.declared.reading.Outcome.TheVariants as outcomes
 use Rattle.glob_rules.specs.declared.steps.Span.{Span}
 use Rattle.glob_rules.specs.declared.steps.Step.{Step}
 use Rattle.glob_rules.specs.declared.steps.Mode.{Mode}
-use Rattle.glob_rules.specs.declared.steps.Mode.TheVariants.{Units, Escape, Star, Stars, EscapedStars, Open, Negation, Range, Item, InClass, Hyphen, ItemEscape, HyphenEscape, Refused}
+use Rattle.glob_rules.specs.declared.steps.Mode.TheVariants.{Units, Escape, Star, Stars, EscapedStars, Open, Negation}
+use Rattle.glob_rules.specs.declared.steps.Mode.TheVariants.{Range, Item, InClass, Hyphen, ItemEscape, HyphenEscape}
+use Rattle.glob_rules.specs.declared.steps.Mode.TheVariants.{Refused}
 use Rattle.glob_rules.specs.declared.steps.Change.{Change}
 use Rattle.glob_rules.specs.declared.steps.Change.TheVariants.{Keep, Clear, Add}
 
@@ -26,7 +28,7 @@ pub record Read : Type 0 where
 -- depth.
 abbrev pub reading_start : (path : Bool) → Read
 reading_start path = record {
-  mode = Units path path;
+  mode = Units (record { plain = path; opening = path });
   spans = [];
   glob = if path then [] else star ∷ star ∷ slash ∷ [];
 }
@@ -59,10 +61,10 @@ reading_of path text = reading_from (reading_start path) text
 -- The outcome of a rule that ends in this mode. After a last lone backslash or in an open bracket, the rule matches
 -- nothing.
 abbrev pub outcome : Mode → Outcome
-outcome (Units plain opening) = outcomes.Named
+outcome (Units prefix) = outcomes.Named
 outcome Escape = outcomes.Nothing
-outcome (Star plain opening) = outcomes.Named
-outcome (Stars plain opening) = if opening then outcomes.Named else outcomes.Refused StarsBehindText
+outcome (Star prefix) = outcomes.Named
+outcome (Stars prefix) = if prefix.opening then outcomes.Named else outcomes.Refused StarsBehindText
 outcome EscapedStars = outcomes.Nothing
 outcome Open = outcomes.Nothing
 outcome Negation = outcomes.Nothing
@@ -76,10 +78,10 @@ outcome (Refused reason) = outcomes.Refused reason
 
 -- what the end of the rule adds to its pattern: the second star of a final `**`
 abbrev pub ending : Mode → Text
-ending (Units plain opening) = []
+ending (Units prefix) = []
 ending Escape = []
-ending (Star plain opening) = []
-ending (Stars plain opening) = star ∷ []
+ending (Star prefix) = []
+ending (Stars prefix) = star ∷ []
 ending EscapedStars = []
 ending Open = []
 ending Negation = []

@@ -9,7 +9,10 @@ use Rattle.glob_rules.specs.declared.classes.Class.{Class}
 use Rattle.glob_rules.specs.declared.error.Reason.{Reason}
 use Rattle.glob_rules.specs.declared.error.Reason.TheVariants.{BeyondAscii, UnknownClass, StarsBehindText, Nul}
 use Rattle.glob_rules.specs.declared.steps.Mode.{Mode}
-use Rattle.glob_rules.specs.declared.steps.Mode.TheVariants.{Units, Escape, Star, Stars, EscapedStars, Open, Negation, Range, Item, InClass, Hyphen, ItemEscape, HyphenEscape, Refused}
+use Rattle.glob_rules.specs.declared.steps.Mode.TheVariants.{Units, Escape, Star, Stars, EscapedStars, Open, Negation}
+use Rattle.glob_rules.specs.declared.steps.Mode.TheVariants.{Range, Item, InClass, Hyphen, ItemEscape, HyphenEscape}
+use Rattle.glob_rules.specs.declared.steps.Mode.TheVariants.{Refused}
+use Rattle.glob_rules.specs.declared.steps.Prefix.{Prefix}
 use Rattle.glob_rules.specs.declared.steps.Change.TheVariants.{Keep, Clear, Add}
 use Rattle.glob_rules.specs.declared.steps.Span.TheVariants.{Between, OfClass}
 use Rattle.glob_rules.specs.declared.steps.Writing.{Writing}
@@ -44,40 +47,52 @@ refuses reason = moves (Refused reason)
 abbrev pub literal : ℕ → Writing
 literal c = if is_wildcard c then Bracketed c else Byte c
 
--- A byte after a complete unit. A component begins after `/`.
-abbrev pub after_units : (plain opening : Bool) → ℕ → Step
-after_units plain opening c =
+-- inside a component, and not only literals
+abbrev pub inside : Prefix
+inside = record { plain = false; opening = false }
+
+-- at the start of a component, and not only literals
+abbrev pub at_start : Prefix
+at_start = record { plain = false; opening = true }
+
+-- the prefix with one more literal: a component begins after `/`
+abbrev pub with_literal : Prefix → ℕ → Prefix
+with_literal prefix c = record { plain = prefix.plain; opening = c == slash }
+
+-- a byte after a complete unit
+abbrev pub after_units : Prefix → ℕ → Step
+after_units prefix c =
     if c == backslash then moves Escape
-    else if c == star then writes (Star plain opening) (Byte c)
-    else if c == question_mark then writes (Units false false) (Byte c)
+    else if c == star then writes (Star prefix) (Byte c)
+    else if c == question_mark then writes (Units inside) (Byte c)
     else if c == open_bracket then record { mode = Open; change = Clear; writing = Byte c }
-    else writes (Units plain (c == slash)) (Byte c)
+    else writes (Units (with_literal prefix c)) (Byte c)
 
 -- a byte after a backslash
 abbrev pub after_escape : ℕ → Step
-after_escape c = writes (Units false (c == slash)) (literal c)
+after_escape c = writes (Units (with_literal inside c)) (literal c)
 
 -- A byte after one star. A second star counts only at the start of a component or after nothing but literals; elsewhere
 -- `**` means `*`.
-abbrev pub after_star : (plain opening : Bool) → ℕ → Step
-after_star plain opening c =
-    if not (c == star) then after_units false false c
-    else if plain || opening then moves (Stars plain opening)
-    else moves (Star false false)
+abbrev pub after_star : Prefix → ℕ → Step
+after_star prefix c =
+    if not (c == star) then after_units inside c
+    else if prefix.plain || prefix.opening then moves (Stars prefix)
+    else moves (Star inside)
 
 -- A byte after two or more stars that count. Before `/` they are a component if one begins there, and are refused after
 -- literals; before anything else they are one star.
-abbrev pub after_stars : (plain opening : Bool) → ℕ → Step
-after_stars plain opening c =
-    if c == star then moves (Stars plain opening)
+abbrev pub after_stars : Prefix → ℕ → Step
+after_stars prefix c =
+    if c == star then moves (Stars prefix)
     else if c == backslash then moves EscapedStars
-    else if not (c == slash) then after_units false false c
-    else if opening then writes (Units false true) StarSlash
+    else if not (c == slash) then after_units inside c
+    else if prefix.opening then writes (Units at_start) StarSlash
     else refuses StarsBehindText
 
 -- a byte after such stars and a backslash: before `/` the stars match one or more directories
 abbrev pub after_escaped_stars : ℕ → Step
-after_escaped_stars c = if c == slash then writes (Units false true) SlashStars else after_escape c
+after_escaped_stars c = if c == slash then writes (Units at_start) SlashStars else after_escape c
 
 -- the `[` of a class, which is refused if git does not know the class
 abbrev pub as_class : Option Class → Step
@@ -93,7 +108,7 @@ as_open ahead =
 -- a byte in a bracket: an item, or the closing `]`
 abbrev pub as_item : ℕ → (ahead : Text) → Step
 as_item c ahead =
-    if c == close_bracket then writes (Units false false) Held
+    if c == close_bracket then writes (Units inside) Held
     else if c == backslash then moves ItemEscape
     else if c == open_bracket then as_open ahead
     else adds (Item c) c c
@@ -119,15 +134,15 @@ in_class c = moves (if c == close_bracket then Range else InClass)
 abbrev pub after_hyphen : (item : ℕ) → ℕ → Step
 after_hyphen item c =
     if c == backslash then moves (HyphenEscape item)
-    else if c == close_bracket then record (adds (Units false false) hyphen hyphen) { writing = Held }
+    else if c == close_bracket then record (adds (Units inside) hyphen hyphen) { writing = Held }
     else adds Range item c
 
 -- whether the next byte is inside a bracket
 abbrev pub is_in_bracket : Mode → Bool
-is_in_bracket (Units plain opening) = false
+is_in_bracket (Units prefix) = false
 is_in_bracket Escape = false
-is_in_bracket (Star plain opening) = false
-is_in_bracket (Stars plain opening) = false
+is_in_bracket (Star prefix) = false
+is_in_bracket (Stars prefix) = false
 is_in_bracket EscapedStars = false
 is_in_bracket Open = true
 is_in_bracket Negation = true
@@ -141,10 +156,10 @@ is_in_bracket (Refused reason) = false
 
 -- the step for a byte that is neither NUL nor, in a bracket, non-ASCII
 abbrev pub accepted_step : Mode → ℕ → (ahead : Text) → Step
-accepted_step (Units plain opening) c ahead = after_units plain opening c
+accepted_step (Units prefix) c ahead = after_units prefix c
 accepted_step Escape c ahead = after_escape c
-accepted_step (Star plain opening) c ahead = after_star plain opening c
-accepted_step (Stars plain opening) c ahead = after_stars plain opening c
+accepted_step (Star prefix) c ahead = after_star prefix c
+accepted_step (Stars prefix) c ahead = after_stars prefix c
 accepted_step EscapedStars c ahead = after_escaped_stars c
 accepted_step Open c ahead = after_open c ahead
 accepted_step Negation c ahead = as_first_item c ahead

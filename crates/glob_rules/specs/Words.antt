@@ -1,5 +1,6 @@
 -- The messages of errors.
 use Rattle.std.specs.Prelude.{ℕ, List, ◌++◌, codes, decimal}
+use Rattle.glob_pattern.specs.Words.{out_of_memory}
 use Rattle.glob_rules.specs.declared.error.Reason.{Reason}
 use Rattle.glob_rules.specs.declared.error.Reason.TheVariants.{BeyondAscii, UnknownClass, StarsBehindText, Nul, Pattern}
 use Rattle.glob_rules.specs.declared.error.RuleRefusal.{RuleRefusal}
@@ -16,4 +17,4 @@ reason_words Pattern = codes "the translation is no pattern"
 -- the message of an error
 abbrev pub refusal_words : RuleRefusal → List ℕ
 refusal_words (Line n reason) = codes "line " ++ decimal n ++ codes ": " ++ reason_words reason
-refusal_words Memory = codes "out of memory"
+refusal_words Memory = out_of_memory

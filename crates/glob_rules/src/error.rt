@@ -13,10 +13,10 @@ pub enum Reason {
     BeyondAscii,
     /// A bracket has a class that git does not know, as in `[[:word:]]`: in git such a rule matches nothing.
     UnknownClass,
-    /// In a rule with a separator, nothing but literal text comes before two or more stars that end a component and do
-    /// not begin it, as in `a**/b`: git contradicts its manual here.
+    /// Two or more stars end a component that begins with other characters, and all that comes before them is literal,
+    /// as in `a**/b`: git contradicts its manual here.
     StarsBehindText,
-    /// The line has a NUL, where git stops reading it.
+    /// The line contains a NUL, and git stops reading there.
     Nul,
     /// The translation is not a valid pattern. No line is known to cause this.
     Pattern,

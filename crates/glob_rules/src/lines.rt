@@ -2,7 +2,8 @@
 ghost use Rattle.std.specs.Prelude.{◌≡◌, ◌+◌, ◌^◌, ◌<◌, ◌≤◌, ◌&&◌, ◌||◌, not, ◌==◌, if◌then◌else◌, length, IfOk};
 ghost use Rattle.glob_rules.specs.Steps.{backslash};
 ghost use Rattle.glob_text.specs.Text.{has};
-ghost use Rattle.glob_rules.specs.Lines.{blank, is_path, ends_in, without_first, without_last, without_blanks, kept_of, nothing, line_of_body, line_of};
+ghost use Rattle.glob_rules.specs.Lines.{blank, is_path, ends_in, without_first, without_last, without_blanks, kept_of};
+ghost use Rattle.glob_rules.specs.Lines.{nothing, line_of_body, line_of};
 
 use crate::reading::{Outcome, Reading};
 use std::alloc::{AllocError, Allocator};

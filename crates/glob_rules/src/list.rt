@@ -22,7 +22,7 @@ use std::marker::Model;
 /// list.is_ignored("target/keep.o", false)?   // true
 /// ```
 ///
-/// A path is the names from the list's directory on, with `/` between them and none at its start or its end.
+/// Paths are relative to the list's directory. They have `/` between names, and none at the start or the end.
 #[derive(Drop)]
 pub struct IgnoreList<A: Allocator = Global> {
     lines: usize,
@@ -48,7 +48,7 @@ impl<A: Allocator> Model for IgnoreList<A> {
 }
 
 impl<A: Allocator + Copy> IgnoreList<A> {
-    /// The rules of a text, a line each. Comments, blank lines and lines that can name nothing have none.
+    /// Parses a text, with one rule per line. Comments, blank lines and lines that can match nothing give no rule.
     ///
     /// The error is [`Line`](RuleRefusal::Line) for the first line that is refused, or
     /// [`Memory`](RuleRefusal::Memory) if an allocation fails.
@@ -64,10 +64,10 @@ impl<A: Allocator + Copy> IgnoreList<A> {
         }
     }
 
-    /// The rules of a text without the lines that are refused, and why each of these is, as for a file of somebody
-    /// else. The lines that are left keep their numbers: of `*.o`, `[é]` and `target/` the last is line 3.
+    /// Parses a text that somebody else wrote: skips the lines that are refused, and returns why each one is. The other
+    /// lines keep their numbers: in `*.o`, `[é]` and `target/`, the last is line 3.
     ///
-    /// The refusals are [`Line`](RuleRefusal::Line), in the order of lines. The error is a failed allocation.
+    /// All refusals are [`Line`](RuleRefusal::Line), in the order of the lines. The error is a failed allocation.
     #[tactic(auto, unfolding(crate::specs::Lists::rules_of, crate::specs::Lists::refusals_of))]
     pub fn lenient(alloc: A, text: &str) -> Result<(Self, Vec<RuleRefusal, A>), AllocError>
         ensures rules { IfOk result (λ read. read.0 ≡ rules_of text.now) }
@@ -78,11 +78,11 @@ impl<A: Allocator + Copy> IgnoreList<A> {
         Ok((IgnoreList { lines, rules, set }, refusals))
     }
 
-    /// Whether the list ignores a path, where `is_directory` says that it is a directory. A symbolic link is none. Of
-    /// the directories above the path, each of which is taken for one, the outermost that is ignored decides; else it
-    /// is the last rule that names the path. So by `a/` and `!a/b` the path `a/b` is ignored.
+    /// Whether the list ignores a path. `is_directory` says whether the path is a directory, which a symbolic link is
+    /// not. A path in an ignored directory is ignored: with `a/` and `!a/b`, so is `a/b`. Otherwise the last rule that
+    /// matches the path decides.
     ///
-    /// The error is a failed allocation. Where each rule's pattern has at most 63 tokens, the call succeeds.
+    /// The error is a failed allocation. If each rule's pattern has at most 63 tokens, the call succeeds.
     #[tactic(auto, unfolding(crate::specs::Deciding::is_ignored))]
     pub fn is_ignored(&self, path: &str, is_directory: bool) -> Result<bool, AllocError>
         ensures answer { IfOk result (λ yes. yes ≡ is_ignored self.now path.now is_directory) }
@@ -92,8 +92,8 @@ impl<A: Allocator + Copy> IgnoreList<A> {
         Ok(self.ignores(decides))
     }
 
-    /// The rule that decides whether the list ignores a path, or `None` if no rule names it: by `a/` and `!a/b` it is
-    /// that of line 1 for `a/b`. Its error is that of [`is_ignored`](Self::is_ignored).
+    /// The rule that decides whether the list ignores a path, or `None` if no rule matches it. With `a/` and `!a/b`,
+    /// line 1 decides about `a/b`. The error is that of [`is_ignored`](Self::is_ignored).
     #[tactic(auto, unfolding(crate::specs::Deciding::deciding_rule))]
     pub fn deciding_rule(&self, path: &str, is_directory: bool) -> Result<Option<Rule>, AllocError>
         ensures rule { IfOk result
@@ -106,9 +106,9 @@ impl<A: Allocator + Copy> IgnoreList<A> {
         }
     }
 
-    /// The last rule that names a path itself, whatever is said of the directories above it, or `None` if no rule does.
-    /// Who comes down from the list's directory, and enters no directory that is ignored, asks this alone: by `a/` and
-    /// `!a/b` it is the rule of line 2 for `a/b`. Its error is that of [`is_ignored`](Self::is_ignored).
+    /// The last rule that matches the path itself, whatever the list says about the directories above it, or `None` if
+    /// no rule does: with `a/` and `!a/b`, it is line 2 for `a/b`. This is all that a search needs that enters no
+    /// ignored directory. The error is that of [`is_ignored`](Self::is_ignored).
     #[tactic(auto, unfolding(crate::specs::Deciding::naming_rule))]
     pub fn naming_rule(&self, path: &str, is_directory: bool) -> Result<Option<Rule>, AllocError>
         ensures rule { IfOk result
@@ -140,7 +140,7 @@ impl<A: Allocator + Copy> IgnoreList<A> {
         self.last_naming(path, is_directory)
     }
 
-    /// Whether a rule, if there is one, ignores what it names.
+    /// Whether there is a rule, and it is not negative.
     fn ignores(&self, number: Option<usize>) -> bool
         requires { IfSome number (λ k. k < length self.now.rules) }
         ensures { result ≡ ignores self.now number }
@@ -151,7 +151,7 @@ impl<A: Allocator + Copy> IgnoreList<A> {
         }
     }
 
-    /// The number of the last rule that names a path.
+    /// The number of the last rule that matches a path.
     fn last_naming(&self, path: &str, is_directory: bool) -> Result<Option<usize>, AllocError>
         ensures number { IfOk result
             (λ number. number ≡ last_named self.now path.now is_directory) }
@@ -165,7 +165,7 @@ impl<A: Allocator + Copy> IgnoreList<A> {
         }
     }
 
-    /// The number of the last rule below `end` that names a path.
+    /// The number of the last rule below `end` that matches a path.
     fn last_naming_below(
         &self,
         path: &str,
@@ -189,7 +189,7 @@ impl<A: Allocator + Copy> IgnoreList<A> {
         Ok(None)
     }
 
-    /// Whether the rule of a number names a path.
+    /// Whether rule `number` matches a path.
     fn names(&self, number: usize, path: &str, is_directory: bool) -> Result<bool, AllocError>
         requires { number < length self.now.rules }
         ensures answer { IfOk result

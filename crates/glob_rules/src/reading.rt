@@ -5,7 +5,7 @@ ghost use Rattle.glob_rules.specs.Readings.{reading_start, next_reading, reading
 use crate::classes::before_close;
 use crate::error::Reason;
 use crate::listing::write;
-use crate::steps::{Change, Mode, Span, Step, Writing, step_from};
+use crate::steps::{Change, Mode, Prefix, Span, Step, Writing, step_from};
 use std::alloc::{AllocError, Allocator};
 use std::marker::Model;
 
@@ -63,7 +63,10 @@ impl<A: Allocator + Copy> Reading<A> {
     {
         let front: &[u8] = if path { &[] } else { &[b'*', b'*', b'/'] };
         Ok(Reading {
-            mode: Mode::Units(path, path),
+            mode: Mode::Units(Prefix {
+                plain: path,
+                opening: path,
+            }),
             spans: Vec::new(alloc),
             glob: Vec::from_slice(alloc, front)?,
         })
@@ -88,8 +91,9 @@ impl<A: Allocator> Reading<A> {
         ensures { result ≡ outcome self.now.mode }
     {
         match self.mode {
-            Mode::Units(_, _) | Mode::Star(_, _) | Mode::Stars(_, true) => Outcome::Named,
-            Mode::Stars(_, false) => Outcome::Refused(Reason::StarsBehindText),
+            Mode::Units(_) | Mode::Star(_) => Outcome::Named,
+            Mode::Stars(prefix) if prefix.opening => Outcome::Named,
+            Mode::Stars(_) => Outcome::Refused(Reason::StarsBehindText),
             Mode::Refused(reason) => Outcome::Refused(reason),
             _ => Outcome::Nothing,
         }
@@ -100,7 +104,7 @@ impl<A: Allocator> Reading<A> {
         ensures { IfOk result (λ glob. glob.items ≡ self.glob ++ ending self.mode) }
     {
         let mut glob = self.glob;
-        if matches!(self.mode, Mode::Stars(_, _)) {
+        if matches!(self.mode, Mode::Stars(_)) {
             glob.push(b'*')?;
         }
         Ok(glob)

@@ -1,6 +1,7 @@
 //! The rules of a text, line by line.
 ghost use Rattle.std.specs.Prelude.{◌≡◌, if◌then◌else◌, Some, None, IfOk, OnOk};
-ghost use Rattle.glob_rules.specs.Lists.{after_line, begins_with_mark, is_pattern, read_line, settled, text_read, with_refusal, without_byte_order_mark};
+ghost use Rattle.glob_rules.specs.Lists.{after_line, begins_with_mark, is_pattern, read_line, settled, text_read};
+ghost use Rattle.glob_rules.specs.Lists.{with_refusal, without_byte_order_mark};
 ghost use Rattle.glob_rules.specs.declared.reading.Outcome.TheVariants.{Named, Refused};
 
 use crate::error::{Reason, RuleRefusal};
@@ -12,7 +13,7 @@ use std::alloc::{AllocError, Allocator};
 use std::marker::Model;
 use std::str;
 
-/// The rules so far, their patterns, and a refusal for each line that is refused.
+/// The rules so far, their patterns, and a refusal for each refused line.
 #[derive(Drop)]
 pub struct Rules<A: Allocator> {
     lines: usize,
@@ -92,7 +93,7 @@ impl<A: Allocator + Copy> Rules<A> {
         Ok(())
     }
 
-    /// Takes it apart: the number of lines, the rules, their patterns, and the refusals.
+    /// The number of lines, the rules, their patterns, and the refusals.
     pub fn into_parts(self) -> (usize, Vec<Rule, A>, Vec<Pattern<A>, A>, Vec<RuleRefusal, A>)
         ensures lines { result.0 ≡ self.list.lines }
         ensures rules { result.1.items ≡ self.list.rules }
@@ -103,7 +104,7 @@ impl<A: Allocator + Copy> Rules<A> {
     }
 }
 
-/// The pattern of the rule in this line, if it is valid.
+/// Parses a translated rule, if it is a valid pattern.
 fn pattern_of<A: Allocator + Copy>(alloc: A, glob: &[u8]) -> Result<Option<Pattern<A>>, AllocError>
     ensures { IfOk result (λ pattern.
         pattern ≡ (if is_pattern glob.now then Some glob.now else None)) }

@@ -1,23 +1,58 @@
 //! What one byte of a rule does, given the bytes before it.
 ghost use Rattle.std.specs.Prelude.{◌≡◌};
-ghost use Rattle.glob_rules.specs.Steps.{moves, writes, adds, refuses, after_units, after_escape, after_star, after_stars, after_escaped_stars, as_class, as_open, after_open, as_first_item, as_item, after_item, in_class, after_hyphen, is_in_bracket, accepted_step, step_from, literal};
+ghost use Rattle.glob_rules.specs.Steps.{moves, writes, adds, refuses, after_units, after_escape, after_star};
+ghost use Rattle.glob_rules.specs.Steps.{after_stars, after_escaped_stars, as_class, as_open, after_open};
+ghost use Rattle.glob_rules.specs.Steps.{as_first_item, as_item, after_item, in_class, after_hyphen, is_in_bracket};
+ghost use Rattle.glob_rules.specs.Steps.{accepted_step, step_from, literal, with_literal};
 
 use crate::classes::Class;
 use crate::error::Reason;
 
-/// The mode that the bytes so far lead to. In a rule with a separator, `plain` says that all of them are unescaped
-/// literals, and `opening` that a component begins here; in other rules both are false.
+/// What comes before a byte of a rule with a separator. In other rules both fields are false.
+#[derive(Clone, Copy)]
+pub struct Prefix {
+    /// All of it is unescaped literals.
+    pub plain: bool,
+    /// A component begins after it: it is empty, or ends in a separator.
+    pub opening: bool,
+}
+
+impl Prefix {
+    /// Inside a component, and not only literals.
+    const INSIDE: Prefix = Prefix {
+        plain: false,
+        opening: false,
+    };
+
+    /// At the start of a component, and not only literals.
+    const AT_START: Prefix = Prefix {
+        plain: false,
+        opening: true,
+    };
+
+    /// The prefix with one more literal.
+    fn with(self, c: u8) -> Prefix
+        ensures { result ≡ with_literal self c }
+    {
+        Prefix {
+            opening: c == b'/',
+            ..self
+        }
+    }
+}
+
+/// What the translation has read last.
 #[derive(Clone, Copy)]
 pub enum Mode {
-    /// A complete unit, with `plain` and `opening` after it.
-    Units(bool, bool),
+    /// A complete unit, and the prefix up to its end.
+    Units(Prefix),
     /// A backslash.
     Escape,
-    /// A star, with `plain` and `opening` before it.
-    Star(bool, bool),
-    /// Two or more stars, with `plain` and `opening` before them. One of the two is true.
-    Stars(bool, bool),
-    /// Such stars and a backslash.
+    /// A star, and the prefix before it.
+    Star(Prefix),
+    /// Two or more stars, and the prefix before them, which is `plain` or `opening`.
+    Stars(Prefix),
+    /// Two or more such stars and a backslash.
     EscapedStars,
     /// The `[` of a bracket.
     Open,
@@ -135,15 +170,15 @@ fn literal(c: u8) -> Writing
 }
 
 /// A byte after a complete unit.
-fn after_units(plain: bool, opening: bool, c: u8) -> Step
-    ensures { result ≡ after_units plain opening c }
+fn after_units(prefix: Prefix, c: u8) -> Step
+    ensures { result ≡ after_units prefix c }
 {
     if c == b'\\' {
         moves(Mode::Escape)
     } else if c == b'*' {
-        writes(Mode::Star(plain, opening), Writing::Byte(c))
+        writes(Mode::Star(prefix), Writing::Byte(c))
     } else if c == b'?' {
-        writes(Mode::Units(false, false), Writing::Byte(c))
+        writes(Mode::Units(Prefix::INSIDE), Writing::Byte(c))
     } else if c == b'[' {
         Step {
             mode: Mode::Open,
@@ -151,7 +186,7 @@ fn after_units(plain: bool, opening: bool, c: u8) -> Step
             writing: Writing::Byte(c),
         }
     } else {
-        writes(Mode::Units(plain, c == b'/'), Writing::Byte(c))
+        writes(Mode::Units(prefix.with(c)), Writing::Byte(c))
     }
 }
 
@@ -159,34 +194,34 @@ fn after_units(plain: bool, opening: bool, c: u8) -> Step
 fn after_escape(c: u8) -> Step
     ensures { result ≡ after_escape c }
 {
-    writes(Mode::Units(false, c == b'/'), literal(c))
+    writes(Mode::Units(Prefix::INSIDE.with(c)), literal(c))
 }
 
 /// A byte after one star.
-fn after_star(plain: bool, opening: bool, c: u8) -> Step
-    ensures { result ≡ after_star plain opening c }
+fn after_star(prefix: Prefix, c: u8) -> Step
+    ensures { result ≡ after_star prefix c }
 {
     if c != b'*' {
-        after_units(false, false, c)
-    } else if plain || opening {
-        moves(Mode::Stars(plain, opening))
+        after_units(Prefix::INSIDE, c)
+    } else if prefix.plain || prefix.opening {
+        moves(Mode::Stars(prefix))
     } else {
-        moves(Mode::Star(false, false))
+        moves(Mode::Star(Prefix::INSIDE))
     }
 }
 
 /// A byte after two or more stars that may be a component.
-fn after_stars(plain: bool, opening: bool, c: u8) -> Step
-    ensures { result ≡ after_stars plain opening c }
+fn after_stars(prefix: Prefix, c: u8) -> Step
+    ensures { result ≡ after_stars prefix c }
 {
     if c == b'*' {
-        moves(Mode::Stars(plain, opening))
+        moves(Mode::Stars(prefix))
     } else if c == b'\\' {
         moves(Mode::EscapedStars)
     } else if c != b'/' {
-        after_units(false, false, c)
-    } else if opening {
-        writes(Mode::Units(false, true), Writing::StarSlash)
+        after_units(Prefix::INSIDE, c)
+    } else if prefix.opening {
+        writes(Mode::Units(Prefix::AT_START), Writing::StarSlash)
     } else {
         refuses(Reason::StarsBehindText)
     }
@@ -197,7 +232,7 @@ fn after_escaped_stars(c: u8) -> Step
     ensures { result ≡ after_escaped_stars c }
 {
     if c == b'/' {
-        writes(Mode::Units(false, true), Writing::SlashStars)
+        writes(Mode::Units(Prefix::AT_START), Writing::SlashStars)
     } else {
         after_escape(c)
     }
@@ -265,7 +300,7 @@ fn as_item(c: u8, ahead: &[u8]) -> Step
     ensures { result ≡ as_item c ahead.now }
 {
     if c == b']' {
-        writes(Mode::Units(false, false), Writing::Held)
+        writes(Mode::Units(Prefix::INSIDE), Writing::Held)
     } else if c == b'\\' {
         moves(Mode::ItemEscape)
     } else if c == b'[' {
@@ -294,7 +329,7 @@ fn after_hyphen(item: u8, c: u8) -> Step
         moves(Mode::HyphenEscape(item))
     } else if c == b']' {
         Step {
-            mode: Mode::Units(false, false),
+            mode: Mode::Units(Prefix::INSIDE),
             change: Change::Add(Span::Between(b'-', b'-')),
             writing: Writing::Held,
         }
@@ -316,10 +351,10 @@ fn is_in_bracket(mode: Mode) -> bool
         | Mode::Hyphen(_)
         | Mode::ItemEscape
         | Mode::HyphenEscape(_) => true,
-        Mode::Units(_, _)
+        Mode::Units(_)
         | Mode::Escape
-        | Mode::Star(_, _)
-        | Mode::Stars(_, _)
+        | Mode::Star(_)
+        | Mode::Stars(_)
         | Mode::EscapedStars
         | Mode::Refused(_) => false,
     }
@@ -330,10 +365,10 @@ fn accepted_step(mode: Mode, c: u8, ahead: &[u8]) -> Step
     ensures { result ≡ accepted_step mode c ahead.now }
 {
     match mode {
-        Mode::Units(plain, opening) => after_units(plain, opening, c),
+        Mode::Units(prefix) => after_units(prefix, c),
         Mode::Escape => after_escape(c),
-        Mode::Star(plain, opening) => after_star(plain, opening, c),
-        Mode::Stars(plain, opening) => after_stars(plain, opening, c),
+        Mode::Star(prefix) => after_star(prefix, c),
+        Mode::Stars(prefix) => after_stars(prefix, c),
         Mode::EscapedStars => after_escaped_stars(c),
         Mode::Open => after_open(c, ahead),
         Mode::Negation => as_first_item(c, ahead),

@@ -1,5 +1,6 @@
 -- The alternatives of a text with braces, and the faults of its braces.
-use Rattle.std.specs.Prelude.{◌≡◌, ℕ, ◌+◌, ◌<◌, Bool, true, false, nat_lt, ◌==◌, if◌then◌else◌, List, [], ◌∷◌, ◌++◌, length, map, slice_index_or, Option, Some, None, encode_utf8, ⊤}
+use Rattle.std.specs.Prelude.{◌≡◌, ℕ, ◌+◌, ◌<◌, Bool, true, false, nat_lt, ◌==◌, if◌then◌else◌, List, [], ◌∷◌, ◌++◌}
+use Rattle.std.specs.Prelude.{length, map, slice_index_or, Option, Some, None, encode_utf8, ⊤}
 use Rattle.std.specs.List.{flat_map}
 use Rattle.glob_text.specs.Text.{Text, has}
 use Rattle.glob_pattern.specs.Grammar.Characters.{open_bracket}

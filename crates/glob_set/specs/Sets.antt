@@ -58,8 +58,8 @@ unfoldable pub AreShort : (patterns : List Text) → Type 0
 AreShort patterns =
     (number : ℕ) → number < length patterns → IsShort (chars (slice_index_or patterns number []))
 
--- What a refusal of the texts reports: the number and the fault of the first text that is not accepted, or a failed
--- allocation.
+-- What the error for a list of texts reports: the number and the fault of the first text that is not accepted, or a
+-- failed allocation.
 unfoldable pub RefusesTexts : (texts : List Text) → SetRefusal → Type 0
 RefusesTexts texts (Syntax number e) =
     (number < length texts)

@@ -32,7 +32,7 @@ pub const MOST_ALTERNATIVES: usize = 1000;
 /// The alternatives of a text, in the order of its choices from left to right: `a1`, `a2`, `b1` and `b2` for
 /// `{a,b}{1,2}`. A text without braces is its only alternative. They are counted before any is made.
 ///
-/// The error is [`Syntax`](BraceRefusal::Syntax) with the first brace from the left that has no partner, or with
+/// The error is [`Syntax`](BraceRefusal::Syntax) with the first brace from the left that is unbalanced, or with
 /// [`TooMany`](BraceError::TooMany) if there are more than [`MOST_ALTERNATIVES`], or [`Memory`](BraceRefusal::Memory)
 /// if an allocation fails.
 pub fn expand<A: Allocator + Copy>(alloc: A, text: &str) -> Result<Vec<String<A>, A>, BraceRefusal>

@@ -76,9 +76,9 @@ impl<A: Allocator> Bucket<A> {
 /// The numbers of the patterns without a key, by the class of the texts that they may match.
 #[derive(Drop)]
 pub struct Buckets<A: Allocator = Global> {
-    // for each class that a pattern needs, the patterns that need it or no class; empty for other classes
+    // for each class that some pattern needs: the patterns that need it, and those that need no class; else empty
     classes: Vec<Bucket<A>, A>,
-    // the patterns that need no class, which are the list of the other classes
+    // the patterns that need no class, for all other classes
     rest: Bucket<A>,
 }
 
@@ -107,7 +107,7 @@ impl<A: Allocator> Buckets<A> {
         own
     }
 
-    /// Adds a pattern, which needs the class, or none.
+    /// Adds a pattern that needs the class, if there is one.
     fn push(&mut self, number: usize, class: Option<u8>) -> Result<(), AllocError>
         requires { IfSome class (λ k. k < 128) }
         ensures { OnOk result (self.new ≡ with_number number class self.old) }

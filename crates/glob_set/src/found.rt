@@ -6,11 +6,11 @@ ghost use Rattle.glob_set.specs.Private.Keyed.{Keeps, KeepsAll};
 use std::alloc::{AllocError, Allocator, Global};
 use std::marker::Model;
 
-/// The number of numbers that need no allocation.
+/// How many numbers need no allocation.
 const ROOM: usize = 16;
 
 /// Numbers, and whether one was left out because an allocation failed. The first few are distinct; later ones may
-/// repeat, so that adding one stays fast.
+/// repeat, since looking for them would be slow.
 #[derive(Drop)]
 pub struct Found<A: Allocator = Global> {
     // the first `len` of these, until there are more than fit

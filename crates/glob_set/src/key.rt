@@ -2,16 +2,16 @@
 ghost use Rattle.std.specs.Prelude.{◌≡◌, ◌↔◌, IfSome, IsTrue};
 ghost use Rattle.glob_set.specs.Private.Keys.{AreKinds, HasKind, HasLength, KeepsKinds, hash_of, length_bit};
 
-/// Something that every text has that a pattern matches.
+/// Something that all texts have that a pattern matches.
 #[derive(Clone, Copy)]
 pub enum Key {
     /// A component with this hash.
     Component(u32),
     /// A component that begins with this many bytes, with this hash.
     Beginning(u32, u8),
-    /// The last bytes of the text, this many, with this hash when read backwards.
+    /// An ending of the text, of this many bytes, with this hash when read backwards.
     Ending(u32, u8),
-    /// Such last bytes right after a `.`.
+    /// Such an ending right after a `.`.
     Extension(u32, u8),
 }
 

@@ -1,5 +1,6 @@
 //! Patterns by their keys, in a hash table.
-ghost use Rattle.std.specs.Prelude.{◌≡◌, ◌+◌, ◌-◌, ◌^◌, ◌<◌, ◌↔◌, ◌⊎◌, false, [], length, slice_index_or, replicate, None, All, IfOk, IsTrue, IsSomeAnd};
+ghost use Rattle.std.specs.Prelude.{◌≡◌, ◌+◌, ◌-◌, ◌^◌, ◌<◌, ◌↔◌, ◌⊎◌, false, [], length, slice_index_or, replicate};
+ghost use Rattle.std.specs.Prelude.{None, All, IfOk, IsTrue, IsSomeAnd};
 ghost use Rattle.std.specs.List.Sorted.{IsNonDecreasing};
 ghost use Rattle.glob_set.specs.Private.Keyed.{AreLinked, Finds, HasHash, IsReadBefore, Keeps, KeepsAll, key_slot};
 ghost use Rattle.glob_set.specs.Private.Keys.{IsComponentOf, IsEndingOf, IsKeyOf};
@@ -14,8 +15,8 @@ use std::marker::Model;
 #[derive(Drop)]
 pub struct Keyed<A: Allocator = Global> {
     keys: Vec<Option<Key>, A>,
-    // The first pattern of each slot, and for each pattern the next one in its slot. The number of patterns stands for
-    // none. The last slot has the patterns without a key.
+    // The first pattern of each slot, and for each pattern the next one in its slot. If there is none, it is the number
+    // of patterns. The last slot has the patterns without a key.
     first: Vec<usize, A>,
     next: Vec<usize, A>,
     // the kinds of keys that occur; texts are looked up only by these
@@ -70,7 +71,7 @@ impl<A: Allocator + Copy> Keyed<A> {
         found.sort();
     }
 
-    /// Adds the patterns that a component of the text or the beginning of one finds.
+    /// Adds the patterns whose key is a component of the text, or the beginning of one, if there are such keys.
     #[inline(always)]
     fn find_components(&self, text: &[u8], found: &mut Found<A>)
         requires { All (λ k. k < length self.now) found.old.items }
@@ -82,7 +83,7 @@ impl<A: Allocator + Copy> Keyed<A> {
         }
     }
 
-    /// Adds the patterns that the last bytes of the text find.
+    /// Adds the patterns whose key is an ending of the text.
     #[inline(always)]
     fn find_endings(&self, text: &[u8], found: &mut Found<A>)
         requires { All (λ k. k < length self.now) found.old.items }
@@ -105,7 +106,7 @@ impl<A: Allocator + Copy> Keyed<A> {
         self.find_if(has_length(self.kinds.endings, len), hash, found);
     }
 
-    /// Adds the patterns that the components of the text and their beginnings find.
+    /// Adds the patterns whose key is a component of the text, or the beginning of one.
     fn find_each(&self, text: &[u8], found: &mut Found<A>)
         requires { All (λ k. k < length self.now) found.old.items }
         ensures within { All (λ k. k < length self.now) found.new.items }
@@ -119,7 +120,7 @@ impl<A: Allocator + Copy> Keyed<A> {
         self.find(component.hash, found);
     }
 
-    /// Adds the patterns that are found right before this byte, after this part of a component.
+    /// Adds the patterns whose key is this component, which ends before this byte, or this beginning of one.
     #[inline(always)]
     fn find_before(&self, byte: u8, component: Component, found: &mut Found<A>)
         requires { All (λ k. k < length self.now) found.old.items }

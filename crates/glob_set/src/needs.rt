@@ -7,7 +7,7 @@ use crate::pairs::{Need, class_bit, pair_class};
 use glob_pattern::{Pattern, literal_at, tokens_len};
 use std::alloc::{AllocError, Allocator};
 
-/// For each pattern, what every text has that it matches. Fails only if allocation fails.
+/// For each pattern, what all texts have that it matches. Fails only if allocation fails.
 pub fn needs_of<A: Allocator + Copy>(
     alloc: A,
     patterns: &[Pattern<A>],
@@ -22,8 +22,8 @@ pub fn needs_of<A: Allocator + Copy>(
     Ok(needs)
 }
 
-/// What every text has that the pattern matches. For `src/*.rs` that is the neighbours in `src/` and `.rs`, `s` at the
-/// start and `rs` at the end.
+/// What all texts have that the pattern matches. For `src/*.rs` these are the pairs of neighbours in `src/` and `.rs`,
+/// `s` at the start and `rs` at the end.
 fn need_of<A: Allocator>(pattern: &Pattern<A>) -> Need
     ensures need { IsNeed pattern.now result }
     ensures small { HasSmallClass result }

@@ -1,4 +1,4 @@
-//! The keys of patterns: what every text has that they match, by which a text finds few patterns.
+//! The keys of patterns.
 ghost use Rattle.std.specs.Prelude.{◌≡◌, ◌+◌, ◌<◌, length, chars, All, IfSome, IsTrue, OnOk};
 ghost use Rattle.glob_text.specs.Characters.{slash};
 ghost use Rattle.glob_pattern.specs.Computing.Tokens.{tokens_of};
@@ -139,8 +139,8 @@ fn is_separator<A: Allocator>(pattern: &Pattern<A>, token: usize) -> bool
     matches!(literal_at(pattern, token), Some('/'))
 }
 
-/// The component after this wildcard, if it is known: an inner `**` at the start of a component leads to the start of
-/// one.
+/// The component after this wildcard, if it is known: after an inner `**` at the start of a component, another one
+/// starts.
 fn read_wildcard<A: Allocator>(
     pattern: &Pattern<A>,
     token: usize,

@@ -1,7 +1,8 @@
 //! Patterns parsed from lists of texts.
 ghost use Rattle.std.specs.Prelude.{◌≡◌, map, string_bytes, chars, IfOk, IfErr};
 ghost use Rattle.glob_set.specs.Braces.{AreAlternatives};
-ghost use Rattle.glob_set.specs.BraceSets.{AreAccepted, AreAlternativesOf, HasPatterns, RefusesText, RefusesBraceTexts, of_alternatives, of_braces};
+ghost use Rattle.glob_set.specs.BraceSets.{AreAccepted, AreAlternativesOf, HasPatterns, RefusesText, RefusesBraceTexts};
+ghost use Rattle.glob_set.specs.BraceSets.{of_alternatives, of_braces};
 ghost use Rattle.glob_set.specs.Sets.{RefusesTexts, refusal_of};
 
 use crate::braces::{BraceRefusal, expand};

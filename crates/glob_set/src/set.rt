@@ -21,9 +21,9 @@ use std::marker::Model;
 use std::path::Path;
 
 /// A list of patterns with the options that they match by. The set reports patterns by their **numbers**, counted from
-/// 0. It rejects most patterns untried, because the text lacks bytes that every match has. In a large set it finds
-/// patterns with a rare component, beginning of a component, or ending by looking up those of the text. No clause says
-/// how many patterns are tried.
+/// 0. It rejects most patterns without trying them, because the text lacks bytes that every match has. A large set looks
+/// up the components of the text, their beginnings and its ending, to find the patterns in which one of these is rare.
+/// No clause says how many patterns are tried.
 ///
 /// ```text
 /// let ignored = PatternSet::from_texts(alloc, &["**/*.o", "**/target/**"], options)?;
@@ -35,13 +35,13 @@ use std::path::Path;
 #[derive(Drop)]
 pub struct PatternSet<A: Allocator = Global> {
     patterns: Vec<Pattern<A>, A>,
-    // for each pattern, what every text has that it matches
+    // for each pattern, what all texts have that it matches
     needs: Vec<Need, A>,
-    // the keys of the patterns that are found by one
+    // the patterns that are found by a key
     keyed: Keyed<A>,
     // the numbers of the other patterns, by the class of the texts that they may match
     buckets: Buckets<A>,
-    // the numbers of all patterns, for a text that finds many while an allocation fails
+    // the numbers of all patterns, which are asked if a text finds many and an allocation fails
     all: Bucket<A>,
     options: MatchOptions,
 }

@@ -1,4 +1,4 @@
--- The shortest ends are those of the shortest pieces, and a match has such.
+-- Shortest ends are those of shortest pieces, and every match has them.
 use Rattle.std.proofs.Common.{◌≡◌, ℕ, ◌+◌, ◌-◌, ◌≤◌, inl, inr, ⊎_elim, List, [], ◌∷◌, ◌++◌, length, take, drop, map}
 use Rattle.std.proofs.Common.{refl, sym, ap, ap₂, subst, ◌∙◌, arith}
 use Rattle.std.specs.Prelude.{encode_utf8_all}

@@ -1,4 +1,4 @@
--- The tokens after the last wildcard take one character each: so the place from which they take the rest is known.
+-- Each token after the last wildcard takes one character, so the place from which they take the rest is known.
 use Rattle.std.proofs.Common.{◌≡◌, ◌≢◌, ℕ, zero, suc, ◌+◌, ◌-◌, ◌<◌, ◌≤◌, ⊎_elim, Bool, true, false, List, [], ◌∷◌}
 use Rattle.std.proofs.Common.{length, get_or, set, map, drop, replicate, IsTrue, sym, ap, subst, ◌∙◌, arith}
 use Rattle.std.proofs.lemmas.Bool.{cases_eq, cases_lt, false≢true}

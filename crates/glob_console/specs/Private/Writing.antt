@@ -44,7 +44,8 @@ noting findings NoMemory = record findings { end = end.Memory }
 -- A wanted item adds its record and is noted, and other steps add nothing. After the last step nothing waits.
 -- `IsAnswer` says what the choice may answer for an item.
 abbrev pub StepWrites : {A : Type 0} → (end : ℕ)
-    → (IsAnswer : Bool → Result (PathBuf A) (GlobError A) → Type 0) → Step A → (old new : Findings) → (Adds : List ℕ → Type 0) → (waiting : List ℕ) → Type 0
+    → (IsAnswer : Bool → Result (PathBuf A) (GlobError A) → Type 0) → Step A → (old new : Findings)
+    → (Adds : List ℕ → Type 0) → (waiting : List ℕ) → Type 0
 StepWrites end IsAnswer (step.Item item) old new Adds waiting =
     (IsAnswer true item × (new ≡ noting old (outcome item)) × Adds (item_record end item))
     ⊎ (IsAnswer false item × IsPath item × (new ≡ old) × Adds [])

@@ -1,3 +1,4 @@
+//! A judge whose characters are names: it looks up its answers in a table.
 ghost use Rattle.std.specs.Prelude.{◌≡◌, ◌≤◌, length, map, vec_len, All};
 ghost use Rattle.glob_examples.specs.NameTable.{table_of};
 

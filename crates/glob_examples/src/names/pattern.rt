@@ -1,3 +1,4 @@
+//! Patterns for the names of a path, and matching them by a judge.
 ghost use Rattle.std.specs.Prelude.{◌≡◌, ◌↔◌, [], ◌∷◌, ◌++◌, IsTrue, IfOk, IfErr, All, chars};
 ghost use Rattle.glob.specs.Grammar.Faults.{Refuses};
 ghost use Rattle.glob_examples.specs.Names as names;

@@ -1,4 +1,4 @@
--- What makes a copy of records one of a known input, and what such a copy wrote. The words are closed elsewhere.
+-- Copies of the records of a known input, and what they wrote. The definitions are opaque in other files.
 use Rattle.std.proofs.Common.{◌≡◌, ℕ, ◌⊎◌, List, [], ◌++◌, Bool, Option, None, Some, Result, Ok, Err, OnErr, take, drop}
 use Rattle.std.proofs.Common.{sym, ap, ◌∙◌, append-nil, subst}
 use Rattle.std.specs.Prelude.{IfSome, IsErrAnd, length}
@@ -172,8 +172,8 @@ module _ (end : ℕ) (selects : List ℕ → Bool) where
   selected_bytes_at_fault input rest old new r read memory write =
       kept_bytes_at_fault end (Selected selects) input old new r (λ is. selected_bytes_by_whole input rest old new (read is)) memory write
 
--- The records that a pattern matches are those that a computed test selects. An input of which some bytes were read to its end
--- is these bytes, where it is known.
+-- The records that a pattern matches are those that a computed test selects. A known input that was read to its end is
+-- the bytes that were read.
 module _ (end : ℕ) (o : MatchOptions) (pattern : List ℕ) where
   records_are : (records kept : List (List ℕ)) → AreKept (Selected (record_matches o pattern)) records kept → AreKept
       (RecordMatches o pattern) records kept

@@ -1,4 +1,4 @@
--- The first place at which a test passes, of a list and of what follows its front.
+-- The first place in a list where a test passes, and the first in a suffix of the list.
 use Rattle.std.proofs.Common.{◌≡◌, ℕ, ◌+◌, ◌≤◌, Bool, not, List, length, take, drop, sym, ap, ◌∙◌, arith}
 use Rattle.std.specs.List.{position_or_len}
 use Rattle.std.proofs.lemmas.Bool.{cond-true, eq-eqb}

@@ -1,4 +1,4 @@
--- The records of which a fact holds: one more record at the end, a front of the records, and that there is one such list.
+-- The records that satisfy a predicate: after one more record, in a prefix, and that there is exactly one list of them.
 use Rattle.std.proofs.Common.{◌≡◌, ℕ, ◌⊎◌, inl, inr, List, [], ◌∷◌, ◌++◌, refl, sym, ap, ◌∙◌, subst, append-nil}
 use Rattle.glob_lines.specs.Lines.{AreKept}
 

@@ -1,4 +1,4 @@
--- What reads and writes in a row do to known bytes.
+-- What consecutive reads and writes do to known bytes.
 use Rattle.std.proofs.Common.{◌≡◌, ℕ, ◌+◌, List, ◌++◌, Option, Some, None, length, take, drop, sym, ap, append-nil, ◌∙◌}
 use Rattle.std.proofs.Common.{subst, append_assoc, ◌-◌, Result, Ok, Err, OnErr}
 use Rattle.std.proofs.lemmas.List.{take-append-drop, take_rest}

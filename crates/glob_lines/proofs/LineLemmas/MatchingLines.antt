@@ -1,4 +1,4 @@
--- The records that are kept, or that a pattern matches: there is one such list.
+-- The kept records, and those that a pattern matches: there is exactly one list of them.
 use Rattle.std.proofs.Common.{◌≡◌, ◌↔◌, ℕ, ◌⊎◌, ◌&&◌, IsTrue, Result, Ok, Err, IfOk, inl, inr, Bool, true, false, List}
 use Rattle.std.proofs.Common.{[], refl, sym, chars, append-nil}
 use Rattle.std.specs.Prelude.{Option, None, Some, IfSome}

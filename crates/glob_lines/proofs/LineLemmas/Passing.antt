@@ -1,4 +1,4 @@
--- Answers that are passed on: what holds of the answer of a call holds of the answer that was made of it.
+-- Results that are passed on: what holds for the result of a call holds for the result that is made from it.
 use Rattle.std.proofs.Common.{◌≡◌, Result, Ok, Err, false, subst}
 use Rattle.std.proofs.lemmas.Bool.{false≢true}
 use Rattle.std.specs.Result.{IsErrAnd, OnErr, is_ok}

@@ -1,5 +1,6 @@
 -- The patterns without a key that may match a text of a class.
-use Rattle.std.specs.Prelude.{◌≡◌, ◌≢◌, ℕ, ◌<◌, ◌⊎◌, List, [], ◌∷◌, ◌++◌, length, map, set, slice_index_or, Option, Some, None, IsNone, IsSomeAnd, All, Contains}
+use Rattle.std.specs.Prelude.{◌≡◌, ◌≢◌, ℕ, ◌<◌, ◌⊎◌, List, [], ◌∷◌, ◌++◌, length, map, set, slice_index_or, Option}
+use Rattle.std.specs.Prelude.{Some, None, IsNone, IsSomeAnd, All, Contains}
 use Rattle.std.specs.List.Sorted.{IsNonDecreasing}
 use Rattle.glob_set.specs.declared.key.Key.{Key}
 use Rattle.glob_set.specs.declared.pairs.Need.{Need}

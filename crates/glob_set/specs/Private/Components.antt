@@ -1,5 +1,6 @@
--- The components of a text by their hashes, and what a pattern says of them.
-use Rattle.std.specs.Prelude.{◌≡◌, ℕ, ◌+◌, ◌-◌, ◌*◌, ◌%◌, ◌^◌, ◌<◌, Bool, true, ◌==◌, min, cond, List, [], ◌∷◌, length, take, slice_index_or, bit_and, fold, chars}
+-- The components of a text by their hashes, and what a pattern says about them.
+use Rattle.std.specs.Prelude.{◌≡◌, ℕ, ◌+◌, ◌-◌, ◌*◌, ◌%◌, ◌^◌, ◌<◌, Bool, true, ◌==◌, min, cond, List, [], ◌∷◌, length}
+use Rattle.std.specs.Prelude.{take, slice_index_or, bit_and, fold, chars}
 use Rattle.std.specs.List.{concat}
 use Rattle.std.specs.Str.{encode_utf8_all}
 use Rattle.glob_text.specs.Characters.{slash}

@@ -1,5 +1,6 @@
 -- The patterns that have a key of a text.
-use Rattle.std.specs.Prelude.{◌≡◌, ◌≢◌, ℕ, ◌+◌, ◌-◌, ◌<◌, ◌≤◌, ◌⊎◌, Bool, List, [], ◌∷◌, length, slice_index, slice_index_or, Option, Some, None, IsTrue, Contains}
+use Rattle.std.specs.Prelude.{◌≡◌, ◌≢◌, ℕ, ◌+◌, ◌-◌, ◌<◌, ◌≤◌, ◌⊎◌, Bool, List, [], ◌∷◌, length, slice_index}
+use Rattle.std.specs.Prelude.{slice_index_or, Option, Some, None, IsTrue, Contains}
 use Rattle.glob_text.specs.Characters.{slash}
 use Rattle.glob_set.specs.declared.components.Component as component
 use Rattle.glob_set.specs.declared.key.Key.{Key}

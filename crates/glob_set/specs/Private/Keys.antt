@@ -1,5 +1,6 @@
--- Keys: what a text is looked up by, and what every text has that a pattern matches.
-use Rattle.std.specs.Prelude.{◌≡◌, ℕ, ◌+◌, ◌*◌, ◌%◌, ◌^◌, ◌<◌, ◌≤◌, ◌⊎◌, bit_or, List, [], ◌∷◌, ◌++◌, length, drop, reverse, slice_index_or, fold, Option, None, IfSome, IsTrue, chars}
+-- Keys: what all texts have that a pattern matches, and what a text is looked up by.
+use Rattle.std.specs.Prelude.{◌≡◌, ℕ, ◌+◌, ◌*◌, ◌%◌, ◌^◌, ◌<◌, ◌≤◌, ◌⊎◌, bit_or, List, [], ◌∷◌, ◌++◌, length, drop}
+use Rattle.std.specs.Prelude.{reverse, slice_index_or, fold, Option, None, IfSome, IsTrue, chars}
 use Rattle.std.specs.List.{concat}
 use Rattle.std.specs.Str.{IsUtf8, encode_utf8_all}
 use Rattle.glob_text.specs.Characters.{dot}

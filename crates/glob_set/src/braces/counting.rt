@@ -19,8 +19,8 @@ pub struct Opened {
     pub found: usize,
 }
 
-/// The number of alternatives of the lexemes, which stops at `usize::MAX`. The error is the first brace from the left
-/// that has no partner, or a failed allocation.
+/// The number of alternatives of the lexemes, which stops at `usize::MAX`. The error is the first unbalanced brace from
+/// the left, or a failed allocation.
 pub fn count_of<A: Allocator>(alloc: A, lexemes: &[Lexeme]) -> Result<usize, BraceRefusal>
     ensures counted { IfOk result (CountsAlternatives lexemes.now) }
     ensures refused { IfErr result (RefusesLexemes lexemes.now) }

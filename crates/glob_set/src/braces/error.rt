@@ -9,9 +9,9 @@ use std::fmt;
 /// What is wrong with the braces of a text. Places are in characters from 0: `a{b` has the error `Unclosed(1)`.
 #[derive(Clone, Copy, Debug, PartialEq, Eq)]
 pub enum BraceError {
-    /// The first `}` without a `{` before it that is its partner.
+    /// The first `}` that closes no `{`.
     Unmatched(usize),
-    /// The first `{` without a `}` after it that is its partner.
+    /// The first `{` that is never closed.
     Unclosed(usize),
     /// More than [`MOST_ALTERNATIVES`](crate::braces::MOST_ALTERNATIVES) alternatives.
     TooMany,

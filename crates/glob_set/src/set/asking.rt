@@ -1,5 +1,6 @@
 //! Asking the patterns of a set that may match a text.
-ghost use Rattle.std.specs.Prelude.{◌≡◌, ◌≢◌, ℕ, [], ◌<◌, false, ◌⊎◌, ◌↔◌, length, bit_or, All, Contains, IfSome, IsSomeAnd, IsTrue, IsOk, IfOk, OnOk};
+ghost use Rattle.std.specs.Prelude.{◌≡◌, ◌≢◌, ℕ, [], ◌<◌, false, ◌⊎◌, ◌↔◌, length, bit_or, All, Contains, IfSome};
+ghost use Rattle.std.specs.Prelude.{IsSomeAnd, IsTrue, IsOk, IfOk, OnOk};
 ghost use Rattle.std.specs.List.Sorted.{IsNonDecreasing};
 ghost use Rattle.glob_set.specs.Private.Asking.{AreAsked, AreMatches, IsFirstOf, IsLastOf, earlier, later};
 ghost use Rattle.glob_set.specs.Private.Pairs.{text_bits};

@@ -1,4 +1,4 @@
-//! Made by `bin/rust_crate` from `crates/glob_captures/src/capturing.rt`, where its contracts are: sha256 0e730e853fe8f435.
+//! Made by `bin/rust_crate` from `crates/glob_captures/src/capturing.rt`, where its contracts are: sha256 02b4cb11fd832b16.
 //!
 //! The piece of a text that each token of a pattern takes.
 
@@ -74,7 +74,7 @@ fn shortest_pieces(pattern: &Pattern, text: &[char], span: Span, rests: &[Rests]
     pieces
 }
 
-/// Where the shortest piece of `token` ends that begins at `place`. `rests` was made with the same options.
+/// The end of the shortest piece of `token` that begins at `place`. `rests` was made with the same options.
 fn shortest_end(pattern: &Pattern, token: usize, text: &[char], place: usize, span: Span, rests: &[Rests]) -> usize {
     let form = form_of(pattern, token);
     if !form.grows {
@@ -96,7 +96,7 @@ fn first_end(closes: bool, text: &[char], place: usize, next: &[bool]) -> usize 
     end
 }
 
-/// Whether a piece from `place` may end at `end`, where `next` says from where on the tokens after it take the rest.
+/// Whether a piece from `place` may end at `end`. `next` says from which places the tokens after it take the rest.
 #[inline(always)]
 fn may_end(closes: bool, text: &[char], next: &[bool], place: usize, end: usize) -> bool {
     next[end] && (end == place || !closes || opens(text, end))

@@ -1,4 +1,4 @@
-//! Made by `bin/rust_crate` from `crates/glob_captures/src/reaching.rt`, where its contracts are: sha256 f928419745b28eb8.
+//! Made by `bin/rust_crate` from `crates/glob_captures/src/reaching.rt`, where its contracts are: sha256 921d11ee849d56bd.
 //! Not derived there: `Reached`.
 //! `Vec::with_capacity` and `resize` are there `vec![x; n]`: memory that is asked for as zeros is never what was freed
 //! last, and costs more.
@@ -6,7 +6,7 @@
 //! How far a pattern gets in a text, and which tokens wait there.
 
 use crate::proved::glob_captures::error::CapturesError;
-use crate::proved::glob_captures::steps::{bytes_of, form_of, is_too_large, takes_at, Form};
+use crate::proved::glob_captures::steps::{bytes_of, form_of, is_too_large, takes_if, Form};
 use crate::proved::glob_pattern::{characters_of, opens, tokens_len, MatchOptions, Pattern};
 
 /// How far a pattern got in a text.
@@ -118,7 +118,7 @@ fn step(pattern: &Pattern, token: usize, options: MatchOptions, text: &[char], w
         let waits = may_wait(form, was, took);
         alive[place] = waits;
         whole[place] = may_end(form, text, place, was, took);
-        took = place < text.len() && takes_next(pattern, token, options, text, place, waits);
+        took = place < text.len() && takes_if(pattern, token, options, text, place, waits);
     }
 }
 
@@ -129,26 +129,13 @@ fn may_wait(form: Form, was: bool, took: bool) -> bool {
     was || (took && form.grows)
 }
 
-/// Whether the token's piece may end there.
+/// Whether the token's piece may end at the place.
 #[inline(always)]
 fn may_end(form: Form, text: &[char], place: usize, was: bool, took: bool) -> bool {
     (was && form.grows) || (took && (!form.closes || opens(text, place)))
 }
 
-/// Whether the token waits at the place and takes the character there.
-#[inline(always)]
-fn takes_next(
-    pattern: &Pattern,
-    token: usize,
-    options: MatchOptions,
-    text: &[char],
-    place: usize,
-    waits: bool,
-) -> bool {
-    waits && takes_at(pattern, token, options, text, place)
-}
-
-/// The last place that is true, or 0 if there is none.
+/// The last place whose entry is true, or 0 if all are false.
 fn last_place(places: &[bool]) -> usize {
     let mut last = 0;
     for place in 0..places.len() {

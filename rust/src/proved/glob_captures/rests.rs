@@ -1,11 +1,11 @@
-//! Made by `bin/rust_crate` from `crates/glob_captures/src/rests.rt`, where its contracts are: sha256 d09e10393ec09f4b.
+//! Made by `bin/rust_crate` from `crates/glob_captures/src/rests.rt`, where its contracts are: sha256 fd6ee066f06fbdaa.
 //! `Vec::with_capacity` and `resize` are there `vec![x; n]`: memory that is asked for as zeros is never what was freed
 //! last, and costs more.
 //!
 //! From which places the last tokens take the rest of a text.
 
 use crate::proved::glob_captures::span::Span;
-use crate::proved::glob_captures::steps::{form_of, takes_at, Form};
+use crate::proved::glob_captures::steps::{form_of, takes_if, Form};
 use crate::proved::glob_pattern::{opens, tokens_len, MatchOptions, Pattern};
 
 /// For each place of a text, whether certain last tokens take the rest from there on.
@@ -21,8 +21,8 @@ impl Rests {
     }
 }
 
-/// Row `i` says from where on the tokens from number `span.last - i` on take the rest. It is empty if the token before
-/// them is not a wildcard.
+/// Row `i` says from which places the tokens from number `span.last - i` on take the rest. It is empty if the token
+/// before them is not a wildcard.
 pub fn rests_of(pattern: &Pattern, options: MatchOptions, text: &[char], span: Span) -> Vec<Rests> {
     let mut rows = Vec::with_capacity(span.last - span.first);
     if span.first == span.last {
@@ -44,8 +44,8 @@ fn row_after(pattern: &Pattern, token: usize, row: &[bool]) -> Rests {
     Rests { places }
 }
 
-/// The row of the tokens after the last wildcard: they take one character each, so they take the rest from one place
-/// only.
+/// The row of the tokens after the last wildcard. Each of them takes one character, so they take the rest from exactly
+/// one place.
 fn rests_after_span(pattern: &Pattern, text: &[char], span: Span) -> Vec<bool> {
     let mut row = Vec::with_capacity(text.len() + 1);
     row.resize(text.len() + 1, false);
@@ -62,31 +62,22 @@ fn add_token(pattern: &Pattern, token: usize, options: MatchOptions, text: &[cha
     for done in 0..text.len() {
         let place = text.len() - 1 - done;
         let here = row[place];
-        more = takes_more(pattern, token, form, options, text, place, rest, more);
+        let may = may_take(form, text, place, rest, more);
+        more = takes_if(pattern, token, options, text, place, may);
         row[place] = is_taken(form, here, more);
         rest = here;
     }
 }
 
-/// Whether the token takes the character at `place` and either ends its piece there, since the tokens after it take the
-/// rest from the next place on (`rest`), or goes on, since it takes more from there (`more`).
+/// Whether the token may take the character at `place`: either its piece may end there, since the tokens after it take
+/// the rest from the next place on (`rest`), or it goes on, since it takes more from there (`more`).
 #[inline(always)]
-fn takes_more(
-    pattern: &Pattern,
-    token: usize,
-    form: Form,
-    options: MatchOptions,
-    text: &[char],
-    place: usize,
-    rest: bool,
-    more: bool,
-) -> bool {
-    ((rest && (!form.closes || opens(text, place + 1))) || (form.grows && more))
-        && takes_at(pattern, token, options, text, place)
+fn may_take(form: Form, text: &[char], place: usize, rest: bool, more: bool) -> bool {
+    (rest && (!form.closes || opens(text, place + 1))) || (form.grows && more)
 }
 
-/// Whether the tokens from one on take the rest from a place: it takes a character there (`more`), or its piece may be
-/// empty.
+/// Whether a token and those after it take the rest from a place: the token takes a character there (`more`), or its
+/// piece may be empty.
 #[inline(always)]
 fn is_taken(form: Form, rest: bool, more: bool) -> bool {
     more || (form.grows && rest)

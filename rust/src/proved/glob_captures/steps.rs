@@ -1,4 +1,4 @@
-//! Made by `bin/rust_crate` from `crates/glob_captures/src/steps.rt`, where its contracts are: sha256 5b440cdb574a2c75.
+//! Made by `bin/rust_crate` from `crates/glob_captures/src/steps.rt`, where its contracts are: sha256 3eca5b902cde1ff4.
 //!
 //! What captures and reach share: the bound on the work, what a token's piece may be, and places in bytes.
 
@@ -36,10 +36,17 @@ pub fn form_of(pattern: &Pattern, token: usize) -> Form {
     }
 }
 
-/// Whether token `token` takes the character at `place`.
+/// Whether token `token` takes the character at `place`, where `may` says whether it may take one there.
 #[inline(always)]
-pub fn takes_at(pattern: &Pattern, token: usize, options: MatchOptions, text: &[char], place: usize) -> bool {
-    token_takes(pattern, token, options, opens(text, place), text[place])
+pub fn takes_if(
+    pattern: &Pattern,
+    token: usize,
+    options: MatchOptions,
+    text: &[char],
+    place: usize,
+    may: bool,
+) -> bool {
+    may && token_takes(pattern, token, options, opens(text, place), text[place])
 }
 
 /// The length of the characters, in bytes.

@@ -1,4 +1,4 @@
-//! Made by `bin/rust_crate` from `crates/glob_rules/src/lines.rt`, where its contracts are: sha256 476c033af619b6d7.
+//! Made by `bin/rust_crate` from `crates/glob_rules/src/lines.rt`, where its contracts are: sha256 20af206b7dc5d88d.
 //!
 //! The lines of an ignore list.
 

@@ -1,4 +1,4 @@
-//! Made by `bin/rust_crate` from `crates/glob_rules/src/list.rt`, where its contracts are: sha256 4b8d2f07953e4908.
+//! Made by `bin/rust_crate` from `crates/glob_rules/src/list.rt`, where its contracts are: sha256 89c9f1c3b6ec7ecf.
 //! Not derived there: `IgnoreList`.
 //!
 //! Ignore lists: which paths they ignore, and by which rule.
@@ -19,7 +19,7 @@ use crate::proved::glob_set::PatternSet;
 /// list.is_ignored("target/keep.o", false)   // true
 /// ```
 ///
-/// A path is the names from the list's directory on, with `/` between them and none at its start or its end.
+/// Paths are relative to the list's directory. They have `/` between names, and none at the start or the end.
 ///
 /// ```
 /// use cadmiumdove::ignore::IgnoreList;
@@ -37,7 +37,7 @@ pub struct IgnoreList {
 }
 
 impl IgnoreList {
-    /// The rules of a text, a line each. Comments, blank lines and lines that can name nothing have none.
+    /// Parses a text, with one rule per line. Comments, blank lines and lines that can match nothing give no rule.
     ///
     /// ```
     /// use cadmiumdove::ignore::{IgnoreList, Reason, RuleRefusal};
@@ -67,10 +67,10 @@ impl IgnoreList {
         }
     }
 
-    /// The rules of a text without the lines that are refused, and why each of these is, as for a file of somebody
-    /// else. The lines that are left keep their numbers: of `*.o`, `[é]` and `target/` the last is line 3.
+    /// Parses a text that somebody else wrote: skips the lines that are refused, and returns why each one is. The other
+    /// lines keep their numbers: in `*.o`, `[é]` and `target/`, the last is line 3.
     ///
-    /// The refusals are [`Line`](RuleRefusal::Line), in the order of lines.
+    /// All refusals are [`Line`](RuleRefusal::Line), in the order of the lines.
     ///
     /// <details><summary>Contract</summary>
     ///
@@ -87,9 +87,9 @@ impl IgnoreList {
         (IgnoreList { rules, set }, refusals)
     }
 
-    /// Whether the list ignores a path, where `is_directory` says that it is a directory. A symbolic link is none. Of
-    /// the directories above the path, each of which is taken for one, the outermost that is ignored decides; else it
-    /// is the last rule that names the path. So by `a/` and `!a/b` the path `a/b` is ignored.
+    /// Whether the list ignores a path. `is_directory` says whether the path is a directory, which a symbolic link is
+    /// not. A path in an ignored directory is ignored: with `a/` and `!a/b`, so is `a/b`. Otherwise the last rule that
+    /// matches the path decides.
     ///
     /// ```
     /// use cadmiumdove::ignore::IgnoreList;
@@ -113,8 +113,8 @@ impl IgnoreList {
         self.ignores(decides)
     }
 
-    /// The rule that decides whether the list ignores a path, or `None` if no rule names it: by `a/` and `!a/b` it is
-    /// that of line 1 for `a/b`.
+    /// The rule that decides whether the list ignores a path, or `None` if no rule matches it. With `a/` and `!a/b`,
+    /// line 1 decides about `a/b`.
     ///
     /// ```
     /// use cadmiumdove::ignore::IgnoreList;
@@ -141,9 +141,9 @@ impl IgnoreList {
         }
     }
 
-    /// The last rule that names a path itself, whatever is said of the directories above it, or `None` if no rule does.
-    /// Who comes down from the list's directory, and enters no directory that is ignored, asks this alone: by `a/` and
-    /// `!a/b` it is the rule of line 2 for `a/b`.
+    /// The last rule that matches the path itself, whatever the list says about the directories above it, or `None` if
+    /// no rule does: with `a/` and `!a/b`, it is line 2 for `a/b`. This is all that a search needs that enters no
+    /// ignored directory.
     ///
     /// ```
     /// use cadmiumdove::ignore::IgnoreList;
@@ -184,7 +184,7 @@ impl IgnoreList {
         self.last_naming(path, is_directory)
     }
 
-    /// Whether a rule, if there is one, ignores what it names.
+    /// Whether there is a rule, and it is not negative.
     fn ignores(&self, number: Option<usize>) -> bool {
         match number {
             Some(number) => !self.rules[number].negative,
@@ -192,7 +192,7 @@ impl IgnoreList {
         }
     }
 
-    /// The number of the last rule that names a path.
+    /// The number of the last rule that matches a path.
     fn last_naming(&self, path: &str, is_directory: bool) -> Option<usize> {
         match self.set.last_match(path) {
             Some(number) => self.last_naming_below(path, is_directory, number + 1),
@@ -200,7 +200,7 @@ impl IgnoreList {
         }
     }
 
-    /// The number of the last rule below `end` that names a path.
+    /// The number of the last rule below `end` that matches a path.
     fn last_naming_below(&self, path: &str, is_directory: bool, end: usize) -> Option<usize> {
         let mut left = end;
         while left > 0 {
@@ -212,7 +212,7 @@ impl IgnoreList {
         None
     }
 
-    /// Whether the rule of a number names a path.
+    /// Whether rule `number` matches a path.
     fn names(&self, number: usize, path: &str, is_directory: bool) -> bool {
         if self.rules[number].directories && !is_directory {
             return false;

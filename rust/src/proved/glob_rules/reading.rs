@@ -1,11 +1,11 @@
-//! Made by `bin/rust_crate` from `crates/glob_rules/src/reading.rt`, where its contracts are: sha256 a7f5bd35701959fa.
+//! Made by `bin/rust_crate` from `crates/glob_rules/src/reading.rt`, where its contracts are: sha256 8e6fbe9c5d1031e0.
 //!
 //! The translation of a rule, byte by byte.
 
 use crate::proved::glob_rules::classes::before_close;
 use crate::proved::glob_rules::error::Reason;
 use crate::proved::glob_rules::listing::write;
-use crate::proved::glob_rules::steps::{step_from, Change, Mode, Span};
+use crate::proved::glob_rules::steps::{step_from, Change, Mode, Prefix, Span};
 
 /// The outcome of reading a rule.
 #[derive(Clone, Copy)]
@@ -46,7 +46,7 @@ impl Reading {
     /// A rule before its first byte.
     fn start(path: bool) -> Self {
         let front: &[u8] = if path { &[] } else { &[b'*', b'*', b'/'] };
-        Reading { mode: Mode::Units(path, path), spans: Vec::new(), glob: Vec::from(front) }
+        Reading { mode: Mode::Units(Prefix { plain: path, opening: path }), spans: Vec::new(), glob: Vec::from(front) }
     }
 
     /// Reads one byte. `ahead` is the text after it, up to the next `]` or the end.
@@ -60,8 +60,9 @@ impl Reading {
     /// The outcome, if the rule ends here.
     pub fn outcome(&self) -> Outcome {
         match self.mode {
-            Mode::Units(_, _) | Mode::Star(_, _) | Mode::Stars(_, true) => Outcome::Named,
-            Mode::Stars(_, false) => Outcome::Refused(Reason::StarsBehindText),
+            Mode::Units(_) | Mode::Star(_) => Outcome::Named,
+            Mode::Stars(prefix) if prefix.opening => Outcome::Named,
+            Mode::Stars(_) => Outcome::Refused(Reason::StarsBehindText),
             Mode::Refused(reason) => Outcome::Refused(reason),
             _ => Outcome::Nothing,
         }
@@ -70,7 +71,7 @@ impl Reading {
     /// The pattern, if the rule ends here.
     pub fn into_glob(self) -> Vec<u8> {
         let mut glob = self.glob;
-        if matches!(self.mode, Mode::Stars(_, _)) {
+        if matches!(self.mode, Mode::Stars(_)) {
             glob.push(b'*');
         }
         glob

@@ -1,4 +1,4 @@
-//! Made by `bin/rust_crate` from `crates/glob_rules/src/rules.rt`, where its contracts are: sha256 353e3e9f628abfca.
+//! Made by `bin/rust_crate` from `crates/glob_rules/src/rules.rt`, where its contracts are: sha256 eacdfbf01a646bac.
 //!
 //! The rules of a text, line by line.
 
@@ -9,7 +9,7 @@ use crate::proved::glob_rules::reading::Outcome;
 use crate::proved::glob_rules::rule::Rule;
 use std::str;
 
-/// The rules so far, their patterns, and a refusal for each line that is refused.
+/// The rules so far, their patterns, and a refusal for each refused line.
 pub struct Rules {
     lines: usize,
     rules: Vec<Rule>,
@@ -53,13 +53,13 @@ impl Rules {
         self.refusals.push(RuleRefusal::Line(self.lines, reason));
     }
 
-    /// Takes it apart: the number of lines, the rules, their patterns, and the refusals.
+    /// The number of lines, the rules, their patterns, and the refusals.
     pub fn into_parts(self) -> (usize, Vec<Rule>, Vec<Pattern>, Vec<RuleRefusal>) {
         (self.lines, self.rules, self.patterns, self.refusals)
     }
 }
 
-/// The pattern of the rule in this line, if it is valid.
+/// Parses a translated rule, if it is a valid pattern.
 fn pattern_of(glob: &[u8]) -> Option<Pattern> {
     let Ok(text) = str::from_utf8(glob) else {
         return None;

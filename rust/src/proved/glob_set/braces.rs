@@ -1,4 +1,4 @@
-//! Made by `bin/rust_crate` from `crates/glob_set/src/braces.rt`, where its contracts are: sha256 a927ee3dcdc0e27a.
+//! Made by `bin/rust_crate` from `crates/glob_set/src/braces.rt`, where its contracts are: sha256 55be656aa942b79f.
 //!
 //! Braces in patterns: `src/*.{c,h}` is short for `src/*.c` and `src/*.h`.
 //!
@@ -40,7 +40,7 @@ pub const MOST_ALTERNATIVES: usize = 1000;
 ///
 /// # Errors
 ///
-/// The error is [`BraceError`] with the first brace from the left that has no partner, or with
+/// The error is [`BraceError`] with the first brace from the left that is unbalanced, or with
 /// [`TooMany`](BraceError::TooMany) if there are more than [`MOST_ALTERNATIVES`].
 ///
 /// <details><summary>Contract</summary>

@@ -1,4 +1,4 @@
-//! Made by `bin/rust_crate` from `crates/glob_set/src/buckets.rt`, where its contracts are: sha256 38047c3c85669c46.
+//! Made by `bin/rust_crate` from `crates/glob_set/src/buckets.rt`, where its contracts are: sha256 71bfade74cb2c1ea.
 //! Not derived there: `Bucket`, `Buckets`.
 //!
 //! The patterns without a key that may match a text, listed by the class of the text's last two bytes.
@@ -51,9 +51,9 @@ impl Bucket {
 /// The numbers of the patterns without a key, by the class of the texts that they may match.
 #[derive(Clone)]
 pub struct Buckets {
-    // for each class that a pattern needs, the patterns that need it or no class; empty for other classes
+    // for each class that some pattern needs: the patterns that need it, and those that need no class; else empty
     classes: Vec<Bucket>,
-    // the patterns that need no class, which are the list of the other classes
+    // the patterns that need no class, for all other classes
     rest: Bucket,
 }
 
@@ -68,7 +68,7 @@ impl Buckets {
         own
     }
 
-    /// Adds a pattern, which needs the class, or none.
+    /// Adds a pattern that needs the class, if there is one.
     fn push(&mut self, number: usize, class: Option<u8>) {
         match class {
             Some(class) => self.classes[class as usize].push_behind(&self.rest, number),

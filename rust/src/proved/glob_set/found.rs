@@ -1,8 +1,8 @@
-//! Made by `bin/rust_crate` from `crates/glob_set/src/found.rt`, where its contracts are: sha256 549db9bd54c98edf.
+//! Made by `bin/rust_crate` from `crates/glob_set/src/found.rt`, where its contracts are: sha256 6ad46da4b110fa8c.
 
 const ROOM: usize = 16;
 
-/// Numbers. The first few are distinct; later ones may repeat, so that adding one stays fast.
+/// Numbers. The first few are distinct; later ones may repeat, since looking for them would be slow.
 pub struct Found {
     // the first `len` of these, until there are more than fit
     few: [usize; ROOM],

@@ -1,17 +1,17 @@
-//! Made by `bin/rust_crate` from `crates/glob_set/src/key.rt`, where its contracts are: sha256 8a709e92c1fc569a.
+//! Made by `bin/rust_crate` from `crates/glob_set/src/key.rt`, where its contracts are: sha256 82ccb52599caccb2.
 //!
 //! Keys, by which a text finds the few patterns that may match it.
 
-/// Something that every text has that a pattern matches.
+/// Something that all texts have that a pattern matches.
 #[derive(Clone, Copy)]
 pub enum Key {
     /// A component with this hash.
     Component(u32),
     /// A component that begins with this many bytes, with this hash.
     Beginning(u32, u8),
-    /// The last bytes of the text, this many, with this hash when read backwards.
+    /// An ending of the text, of this many bytes, with this hash when read backwards.
     Ending(u32, u8),
-    /// Such last bytes right after a `.`.
+    /// Such an ending right after a `.`.
     Extension(u32, u8),
 }
 

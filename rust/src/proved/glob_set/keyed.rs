@@ -1,4 +1,4 @@
-//! Made by `bin/rust_crate` from `crates/glob_set/src/keyed.rt`, where its contracts are: sha256 019722c52b7ca7f2.
+//! Made by `bin/rust_crate` from `crates/glob_set/src/keyed.rt`, where its contracts are: sha256 028c5b59da393c91.
 //! Not derived there: `Keyed`.
 //! `Vec::with_capacity` and `resize` are there `vec![x; n]`: memory that is asked for as zeros is never what was freed
 //! last, and costs more.
@@ -13,8 +13,8 @@ use crate::proved::glob_set::key::{has_length, kinds_of, Key, Kinds};
 #[derive(Clone)]
 pub struct Keyed {
     keys: Vec<Option<Key>>,
-    // The first pattern of each slot, and for each pattern the next one in its slot. The number of patterns stands for
-    // none. The last slot has the patterns without a key.
+    // The first pattern of each slot, and for each pattern the next one in its slot. If there is none, it is the number
+    // of patterns. The last slot has the patterns without a key.
     first: Vec<usize>,
     next: Vec<usize>,
     // the kinds of keys that occur; texts are looked up only by these
@@ -43,7 +43,7 @@ impl Keyed {
         found.sort();
     }
 
-    /// Adds the patterns that a component of the text or the beginning of one finds.
+    /// Adds the patterns whose key is a component of the text, or the beginning of one, if there are such keys.
     #[inline(always)]
     fn find_components(&self, text: &[u8], found: &mut Found) {
         if self.kinds.components {
@@ -51,7 +51,7 @@ impl Keyed {
         }
     }
 
-    /// Adds the patterns that the last bytes of the text find.
+    /// Adds the patterns whose key is an ending of the text.
     #[inline(always)]
     fn find_endings(&self, text: &[u8], found: &mut Found) {
         let mut hash = 0;
@@ -69,7 +69,7 @@ impl Keyed {
         self.find_if(has_length(self.kinds.endings, len), hash, found);
     }
 
-    /// Adds the patterns that the components of the text and their beginnings find.
+    /// Adds the patterns whose key is a component of the text, or the beginning of one.
     fn find_each(&self, text: &[u8], found: &mut Found) {
         let mut component = Component::start();
         for byte in text {
@@ -79,7 +79,7 @@ impl Keyed {
         self.find(component.hash, found);
     }
 
-    /// Adds the patterns that are found right before this byte, after this part of a component.
+    /// Adds the patterns whose key is this component, which ends before this byte, or this beginning of one.
     #[inline(always)]
     fn find_before(&self, byte: u8, component: Component, found: &mut Found) {
         let is_used = has_length(self.kinds.beginnings, component.len);

@@ -1,11 +1,11 @@
-//! Made by `bin/rust_crate` from `crates/glob_set/src/needs.rt`, where its contracts are: sha256 58dccff6d8d03c63.
+//! Made by `bin/rust_crate` from `crates/glob_set/src/needs.rt`, where its contracts are: sha256 1183e37a90b65e0b.
 //!
 //! What a text needs for a pattern to match it.
 
 use crate::proved::glob_pattern::{literal_at, tokens_len, Pattern};
 use crate::proved::glob_set::pairs::{class_bit, pair_class, Need};
 
-/// For each pattern, what every text has that it matches.
+/// For each pattern, what all texts have that it matches.
 pub fn needs_of(patterns: &[Pattern]) -> Vec<Need> {
     let mut needs = Vec::new();
     for pattern in patterns {
@@ -14,8 +14,8 @@ pub fn needs_of(patterns: &[Pattern]) -> Vec<Need> {
     needs
 }
 
-/// What every text has that the pattern matches. For `src/*.rs` that is the neighbours in `src/` and `.rs`, `s` at the
-/// start and `rs` at the end.
+/// What all texts have that the pattern matches. For `src/*.rs` these are the pairs of neighbours in `src/` and `.rs`,
+/// `s` at the start and `rs` at the end.
 fn need_of(pattern: &Pattern) -> Need {
     let mut bits = 0;
     let mut class = None;

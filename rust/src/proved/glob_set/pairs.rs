@@ -1,8 +1,8 @@
-//! Made by `bin/rust_crate` from `crates/glob_set/src/pairs.rt`, where its contracts are: sha256 78b8e9c170d56d18.
+//! Made by `bin/rust_crate` from `crates/glob_set/src/pairs.rt`, where its contracts are: sha256 0dc4c3abe3ab6083.
 //!
 //! Pairs of neighbouring bytes, as bits of one word.
 
-/// What every text has that a pattern matches.
+/// What all texts have that a pattern matches.
 #[derive(Clone, Copy)]
 pub struct Need {
     /// The bits of neighbouring bytes.

@@ -1,6 +1,6 @@
-//! Made by `bin/rust_crate` from `crates/glob_set/src/pattern_keys.rt`, where its contracts are: sha256 35216f4fcce0ce21.
+//! Made by `bin/rust_crate` from `crates/glob_set/src/pattern_keys.rt`, where its contracts are: sha256 1fdcc3719e957413.
 //!
-//! The keys of patterns: what every text has that they match, by which a text finds few patterns.
+//! The keys of patterns.
 
 use crate::proved::glob_pattern::{literal_at, token_kind, tokens_len, Pattern, TokenKind};
 use crate::proved::glob_set::components::{hash_before, Component};
@@ -88,8 +88,8 @@ fn is_separator(pattern: &Pattern, token: usize) -> bool {
     matches!(literal_at(pattern, token), Some('/'))
 }
 
-/// The component after this wildcard, if it is known: an inner `**` at the start of a component leads to the start of
-/// one.
+/// The component after this wildcard, if it is known: after an inner `**` at the start of a component, another one
+/// starts.
 fn read_wildcard(pattern: &Pattern, token: usize, component: Component) -> Option<Component> {
     if component.hash == 0 && component.len == 0 && is_inner_recursive(pattern, token) {
         return Some(component);

@@ -1,4 +1,4 @@
-//! Made by `bin/rust_crate` from `crates/glob_set/src/reading.rt`, where its contracts are: sha256 64d6d22a31b342c0.
+//! Made by `bin/rust_crate` from `crates/glob_set/src/reading.rt`, where its contracts are: sha256 90e39ac9f24a1a6a.
 //!
 //! Patterns parsed from lists of texts.
 

@@ -1,4 +1,4 @@
-//! Made by `bin/rust_crate` from `crates/glob_set/src/set.rt`, where its contracts are: sha256 ffd4374de76500f0.
+//! Made by `bin/rust_crate` from `crates/glob_set/src/set.rt`, where its contracts are: sha256 8cc0d43597f3036f.
 //! Not derived there: `PatternSet`.
 //! `of_texts` is there `from_texts`: by hand it takes all kinds of lists.
 //! `of_braces` is there `from_braces`: by hand it takes all kinds of lists.
@@ -19,9 +19,9 @@ use crate::proved::glob_set::reading::{read_braces, read_patterns};
 use asking::{bits_for, earlier, later};
 
 /// A list of patterns with the options that they match by. The set reports patterns by their **numbers**, counted from
-/// 0. It rejects most patterns untried, because the text lacks bytes that every match has. In a large set it finds
-/// patterns with a rare component, beginning of a component, or ending by looking up those of the text. No clause says
-/// how many patterns are tried.
+/// 0. It rejects most patterns without trying them, because the text lacks bytes that every match has. A large set looks
+/// up the components of the text, their beginnings and its ending, to find the patterns in which one of these is rare.
+/// No clause says how many patterns are tried.
 ///
 /// ```text
 /// let ignored = PatternSet::from_texts(&["**/*.o", "**/target/**"], options)?;
@@ -41,9 +41,9 @@ use asking::{bits_for, earlier, later};
 #[derive(Clone)]
 pub struct PatternSet {
     patterns: Vec<Pattern>,
-    // for each pattern, what every text has that it matches
+    // for each pattern, what all texts have that it matches
     needs: Vec<Need>,
-    // the keys of the patterns that are found by one
+    // the patterns that are found by a key
     keyed: Keyed,
     // the numbers of the other patterns, by the class of the texts that they may match
     buckets: Buckets,

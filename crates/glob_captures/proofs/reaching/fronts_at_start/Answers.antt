@@ -9,7 +9,7 @@ use Rattle.glob_captures.specs.Private.Fronts.{AreFronts}
 use Rattle.glob_captures.proofs.FrontLemmas.{TakeFront-none}
 use Rattle.glob_captures.proofs.reaching.fronts_at_start.Goals as goal
 
--- the start alone
+-- only the start
 start : (o : MatchOptions) (tokens : List Token) (text : Text) (n : ℕ) → n ≡ length text + 1 → AreFronts o tokens text
     0 (set (replicate n false) 0 true)
 start o tokens text n e =

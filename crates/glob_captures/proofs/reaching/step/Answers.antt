@@ -43,7 +43,7 @@ loop-place-preserved g c =
       waits = row_more (Waits o tokens text n) c.loop-place.alive i c.may_wait-waits.result (omega (arith, inv.room)) inv.waits waits;
       took = λ more.
           elim c.if-place-text.branch [
-            | then-place-text w ↦ rw (w.took-is, w.takes_next-took.ensures) (Took-step o tokens text n i
+            | then-place-text w ↦ rw (w.took-is, w.takes_if-took.ensures) (Took-step o tokens text n i
                 c.may_wait-waits.result _ waits refl)
             | else-place-text w ↦ absurd (omega (arith, w.if-place-text.false))
           ];

@@ -39,15 +39,15 @@ loop-done-preserved g c =
     let k : ℕ = length text - 1 - c.loop-done.done in
     let before : length text - c.loop-done.done ≡ k + 1 = omega arith in
     let here : k ≡ length text - (c.loop-done.done + 1) = omega arith in
-    let more : IsTrue c.takes_more-more.result ↔ TakesMore o tokens text n k =
-    rw c.takes_more-more.ensures
+    let more : IsTrue c.takes_if-more.result ↔ TakesMore o tokens text n k =
+    rw (c.takes_if-more.ensures, c.may_take-may.ensures)
     (TakesMore-step o tokens text n k c.loop-done.rest c.loop-done.more (opens text (k + 1)) _ form c.form_of-form.ensures
     (subst (λ i. IsTrue c.loop-done.rest ↔ TakesRest o tokens text (n + 1) i) before inv.rest)
     (subst (λ i. IsTrue c.loop-done.more ↔ TakesMore o tokens text n i) before inv.more) refl refl) in
     let was : IsTrue (get_or row k false) ↔ TakesRest o tokens text (n + 1) k = inv.old k (omega arith) in
     let rest : IsTrue c.is_taken-in-loop-done.result ↔ TakesRest o tokens text n k =
     rw c.is_taken-in-loop-done.ensures
-    (TakesRest-step o tokens text n k (get_or row k false) c.takes_more-more.result form c.requires.token
+    (TakesRest-step o tokens text n k (get_or row k false) c.takes_if-more.result form c.requires.token
     c.form_of-form.ensures was more) in
     record {
       rests = subst (λ from. AreRests o tokens text n from (set row k c.is_taken-in-loop-done.result)) here
@@ -55,5 +55,5 @@ loop-done-preserved g c =
           (subst (λ from. AreRests o tokens text n from row) before inv.rests) rest);
       old = λ i below. rw (get_or-set_other row k i c.is_taken-in-loop-done.result false (omega arith)) (inv.old i (omega arith));
       rest = subst (λ i. IsTrue (get_or row k false) ↔ TakesRest o tokens text (n + 1) i) here was;
-      more = subst (λ i. IsTrue c.takes_more-more.result ↔ TakesMore o tokens text n i) here more;
+      more = subst (λ i. IsTrue c.takes_if-more.result ↔ TakesMore o tokens text n i) here more;
     }

@@ -1,4 +1,4 @@
-//! Made by `bin/rust_crate` from `crates/glob_set/src/braces/counting.rt`, where its contracts are: sha256 4600b152087c8c9f.
+//! Made by `bin/rust_crate` from `crates/glob_set/src/braces/counting.rt`, where its contracts are: sha256 718271a4dd142c71.
 //!
 //! The number of alternatives of lexemes, and whether their braces are balanced.
 
@@ -16,8 +16,8 @@ pub struct Opened {
     pub found: usize,
 }
 
-/// The number of alternatives of the lexemes, which stops at `usize::MAX`. The error is the first brace from the left
-/// that has no partner.
+/// The number of alternatives of the lexemes, which stops at `usize::MAX`. The error is the first unbalanced brace from
+/// the left.
 pub fn count_of(lexemes: &[Lexeme]) -> Result<usize, BraceError> {
     let mut opened = Vec::new();
     let mut count: usize = 1;

@@ -1,4 +1,4 @@
-//! Made by `bin/rust_crate` from `crates/glob_set/src/braces/error.rt`, where its contracts are: sha256 3fe1b674e3ef3773.
+//! Made by `bin/rust_crate` from `crates/glob_set/src/braces/error.rt`, where its contracts are: sha256 4c01964cb044563c.
 //! `BraceError` is not `#[non_exhaustive]` there.
 //!
 //! Why braces are refused.
@@ -17,9 +17,9 @@ use std::fmt;
 #[derive(Clone, Copy, Debug, PartialEq, Eq)]
 #[non_exhaustive]
 pub enum BraceError {
-    /// The first `}` without a `{` before it that is its partner.
+    /// The first `}` that closes no `{`.
     Unmatched(usize),
-    /// The first `{` without a `}` after it that is its partner.
+    /// The first `{` that is never closed.
     Unclosed(usize),
     /// More than [`MOST_ALTERNATIVES`](crate::proved::glob_set::braces::MOST_ALTERNATIVES) alternatives.
     TooMany,

@@ -1,4 +1,4 @@
-//! Made by `bin/rust_crate` from `crates/glob_set/src/set/asking.rt`, where its contracts are: sha256 04051f933f3551a8.
+//! Made by `bin/rust_crate` from `crates/glob_set/src/set/asking.rt`, where its contracts are: sha256 70d6473fc2deb03d.
 //!
 //! Asking the patterns of a set that may match a text.
 
