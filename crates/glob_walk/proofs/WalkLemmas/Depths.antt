@@ -1,7 +1,7 @@
 -- In a plain walk over a content each directory is below the one before it.
 use Rattle.std.proofs.Common.{◌≡◌, ⊎_elim, ℕ, zero, suc, ◌+◌, ◌<◌, ◌≤◌, Bool, true, false, cond, not, ◌&&◌, ◌||◌, List, [], ◌∷◌, ◌++◌}
 use Rattle.std.proofs.Common.{length, drop, take, get_or, set, Option, Some, None, IsTrue, refl, ap, sym, subst, ◌∙◌, arith}
-use Rattle.std.specs.Prelude.{Contains, IsPermutation, nat_le, string_bytes, unwrap_or, ⊤}
+use Rattle.std.specs.Prelude.{Contains, IsPermutation, string_bytes, unwrap_or, ⊤}
 use Rattle.std.specs.List.{All, list_all}
 use Rattle.std.specs.Path.{cur_dir, has_no_slash, root_dir}
 use Rattle.std.proofs.lemmas.Bool.{and_parts, both_ways, leb-false}
@@ -12,7 +12,7 @@ use Rattle.glob_text.specs.Characters.{dot, slash}
 use Rattle.glob_text.specs.Pieces.{begins_with, is_empty}
 use Rattle.glob_text.specs.Text.{Text}
 use Rattle.glob_tree.specs.Answers.{entries_of, names_of, IsEntriesAnswer}
-use Rattle.glob_tree.specs.Content.{Content, Key, DirEntry, ListAnswer, Entries, Fails, NoDirectory, children, is_content, kind_at, list_result}
+use Rattle.glob_tree.specs.Content.{Content, Key, DirEntry, ListAnswer, Entries, Fails, NoDirectory, is_content, kind_at, list_result}
 use Rattle.glob_tree.specs.Content.{look_of, look_result}
 use Rattle.glob_tree.specs.Looks.{is_directory, is_there}
 use Rattle.glob_tree.specs.Paths.{child}
@@ -23,15 +23,13 @@ use Rattle.glob_tree.proofs.ContentLemmas.Contents.{IsContent, IsContent-from_te
 use Rattle.glob_tree.proofs.ContentLemmas.Directories.{LeadsTo, LeadsTo-from_looked, ListsAs, ListsAs-from_leads, Read, Unreadable}
 use Rattle.glob_tree.proofs.ContentLemmas.Directories.{directory_kind, resolve_listed}
 use Rattle.glob_tree.proofs.ContentLemmas.Membership.{Contains-cases, Contains-head, Contains-nil, Contains-tail}
-use Rattle.glob_walk.specs.Components.{Recursive, Wild, component_kind, begins_recursive, is_current_or_parent, is_literal, is_recursive}
+use Rattle.glob_walk.specs.Components.{Wild, is_current_or_parent, is_literal, is_recursive}
 use Rattle.glob_walk.specs.Goal.{are_plain, is_plain_component}
 use Rattle.glob_walk.specs.Listing.{levels}
-use Rattle.glob_walk.specs.Machines.{Agrees, MachineState}
-use Rattle.glob_walk.specs.Private.Depths.{AreDeep, IsDeepIf, IsDeepPath, IsFrameDeep, IsNextDeep, IsPlainAt, IsPlainFrom, IsPlainOver}
+use Rattle.glob_walk.specs.Private.Depths.{AreDeep, IsDeepPath, IsFrameDeep, IsNextDeep, IsPlainAt, IsPlainFrom}
 use Rattle.glob_walk.specs.Private.Depths.{IsStateDeep, IsTaskDeep, is_special}
 use Rattle.glob_walk.specs.Private.Frames.{first_cursor, is_done, is_done_at}
-use Rattle.glob_walk.specs.Private.Tasks.{is_accepted, is_dotted, IsOpened}
-use Rattle.glob_walk.specs.Private.Walkers.{Walk}
+use Rattle.glob_walk.specs.Private.Tasks.{is_accepted, IsOpened}
 use Rattle.glob_walk.specs.declared.frame.Cursor.{Cursor}
 use Rattle.glob_walk.specs.declared.frame.Cursor.TheVariants.{Parent, Current, At, Inside}
 use Rattle.glob_walk.specs.declared.frame.Frame.{Frame}
@@ -40,7 +38,6 @@ use Rattle.glob_walk.specs.declared.task.Accepted.{Accepted}
 use Rattle.glob_walk.specs.declared.task.Task.{Task}
 use Rattle.glob_walk.specs.declared.task.TaskState.{TaskState}
 use Rattle.glob_walk.specs.declared.task.TaskState.TheVariants.{Seen, Unseen}
-use Rattle.glob_walk.specs.declared.walker.Walker.{Walker}
 use Rattle.glob_walk.proofs.GoalLemmas.ListingFinds.{IsOwnName, look_result-own, own_name, resolve-own}
 use Rattle.glob_walk.proofs.GoalLemmas.NamedPaths.{LeadsTo-start}
 use Rattle.glob_walk.proofs.ListingLemmas.ComponentKinds.{kind-Wild, literal_not_recursive}

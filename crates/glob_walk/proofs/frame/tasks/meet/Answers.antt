@@ -1,4 +1,4 @@
-use Rattle.std.proofs.Common.{rules, ◌≡◌, ◌+◌, ◌<◌, length, cond, false, Bool, Option, true, None, Some, subst, ap, sym, ◌∙◌}
+use Rattle.std.proofs.Common.{rules, ◌≡◌, ◌+◌, ◌<◌, length, cond, false, Bool, true, None, Some, subst, ap, sym, ◌∙◌}
 use Rattle.std.specs.Prelude.{IfSome}
 use Rattle.glob_walk.specs.Goal.{are_plain}
 use Rattle.glob_walk.specs.Private.Depths.{IsPlainFrom}

@@ -1,4 +1,4 @@
-use Rattle.std.proofs.Common.{◌≡◌, ◌<◌, length, arith}
+use Rattle.std.proofs.Common.{◌<◌, length, arith}
 use Rattle.glob_walk.specs.Listing.{levels}
 use Rattle.glob_walk.proofs.WalkLemmas.MachineSteps.{kept_few}
 use Rattle.glob_walk.proofs.machine.WalkMachine.kept.Goals as goal
