@@ -1,5 +1,6 @@
 -- The walk against the written listing: reading the pattern, turns, frames, the stack, and steps.
 pub mod Charging
+pub mod Depths
 pub mod Driving
 pub mod Entering
 pub mod Giving

@@ -43,6 +43,8 @@ pub record MachineState (P : Progress) : Type 0 where
   pub spent : ℕ
   -- the items that were given, including a refusal
   pub given : ℕ
+  -- the directories that it listed and has not gone through
+  pub kept : ℕ
   -- only `Done` follows
   pub over : Bool
   -- the question that is open

@@ -1,3 +1,4 @@
+pub mod Depths
 pub mod Forms
 pub mod Frames
 pub mod Merging

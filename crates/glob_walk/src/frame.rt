@@ -6,9 +6,10 @@
 //!
 //! Under `**` each entry takes two steps. First the component after the `**` meets it, or at the pattern's end it is
 //! given; then, if it is a directory, the `**` enters it.
-ghost use Rattle.std.specs.Prelude.{◌≡◌, ◌+◌, ◌<◌, ◌≤◌, ◌++◌, false, IfOk, None, OnOk, vec_len};
+ghost use Rattle.std.specs.Prelude.{◌≡◌, ◌+◌, ◌<◌, ◌≤◌, ◌++◌, ℕ, false, IfOk, None, OnOk, vec_len};
 ghost use Rattle.glob_tree.specs.Content.{Content};
 ghost use Rattle.glob_walk.specs.Private.Tasks.{next_marks, next_ready, IsNextSound};
+ghost use Rattle.glob_walk.specs.Private.Depths.{IsFrameDeep, IsNextDeep};
 ghost use Rattle.glob_walk.specs.Private.Frames.{frame_marks, is_done as is_done_frame, steps_left, unmet, IsFrameSound};
 
 mod tasks;
@@ -73,6 +74,9 @@ impl<A: Allocator + Copy> Frame<A> {
             (λ task. next_ready plan.now task + unmet self.new ≤ unmet self.old) }
         ensures sound { IfOk result
             (λ task. (c : Content) → IsFrameSound c self.old → IsNextSound c task) }
+        ensures deep { IfOk result
+            (λ task. (c : Content) → (n : ℕ) → IsFrameDeep c plan.now n self.old
+            → IsNextDeep c plan.now (n + 1) task × IsFrameDeep c plan.now n self.new) }
     {
         match self.cursor {
             Cursor::Parent => {

@@ -14,6 +14,8 @@ mod query;
 mod stack;
 mod step;
 mod task;
+#[cfg(test)]
+mod tests;
 mod walker;
 
 pub use component::is_recursive;

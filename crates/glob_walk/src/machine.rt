@@ -1,10 +1,11 @@
 //! A walk that asks its caller, and reads nothing by itself.
-ghost use Rattle.std.specs.Prelude.{◌≡◌, ◌≤◌, ◌+◌, ℕ, List, [], None, IfOk, IfErr, IsSome, string_bytes, if◌then◌else◌};
+ghost use Rattle.std.specs.Prelude.{◌≡◌, ◌<◌, ◌≤◌, ◌+◌, ℕ, List, [], None, false, IsTrue, IfOk, IfErr, IsSome, string_bytes, if◌then◌else◌};
 ghost use Rattle.std.specs.Path.{root_dir, cur_dir};
 ghost use Rattle.glob_tree.specs.Answers.{IsTold, entry_count};
-ghost use Rattle.glob_tree.specs.Content.{Content};
-ghost use Rattle.glob_walk.specs.Listing.{listing};
-ghost use Rattle.glob_walk.specs.Machines.{IsAskedAfter, IsFresh, Says, StepGoes, list_error_outcome, left_of, saying, listing_of};
+ghost use Rattle.glob_tree.specs.Content.{Content, is_content};
+ghost use Rattle.glob_walk.specs.Goal.{are_plain, is_plain};
+ghost use Rattle.glob_walk.specs.Listing.{levels, listing};
+ghost use Rattle.glob_walk.specs.Machines.{Agrees, IsAskedAfter, IsFresh, Says, StepGoes, list_error_outcome, left_of, saying, listing_of};
 ghost use Rattle.glob_walk.specs.Components.{walk_fault};
 ghost use Rattle.glob_walk.specs.Walks.{NoMemory, RefusesWith};
 ghost use Rattle.glob_walk.specs.Private.Stacks.{aim_of};
@@ -78,6 +79,7 @@ pub struct WalkMachine<A: Allocator = Global> {
 }
 
 impl<A: Allocator> Model for WalkMachine<A> {
+    ghost use Rattle.std.specs.Prelude.{vec_len};
     ghost use Rattle.glob_walk.specs.Machines.{MachineState, listing_of};
     ghost use Rattle.glob_walk.specs.Private.Walkers.{IsGood, Walk};
     ghost use Rattle.glob_walk.specs.Private.Stacks.{aim_of};
@@ -89,6 +91,7 @@ impl<A: Allocator> Model for WalkMachine<A> {
       limit = w.walker.meter.limit;
       spent = w.walker.meter.spent;
       given = w.given;
+      kept = vec_len w.walker.stack.frames;
       over = w.over;
       asked = question_of w.walker.query;
       aim = aim_of w.walker.stack.plan;
@@ -115,6 +118,8 @@ impl<A: Allocator + Copy> WalkMachine<A> {
         ensures fresh { IfOk result (IsFresh limit) }
         ensures aim { IfOk result
             (λ walk. (c : Content) → listing_of c walk.aim ≡ listing c options pattern.now) }
+        ensures plain { IfOk result
+            (λ walk. are_plain false walk.aim.components ≡ is_plain pattern.now) }
     {
         let plan = Plan::read(alloc, pattern, options)?;
         let start = String::from_str(alloc, plan.start())?;
@@ -270,5 +275,16 @@ impl<A: Allocator> WalkMachine<A> {
         ensures few { result ≤ self.now.spent + 1 }
     {
         self.given
+    }
+
+    /// How many directories it keeps with their entries: those that it listed and has not gone through. The last step
+    /// in a directory drops it. With a plain pattern each is below the one before it, so over a content they are at most
+    /// as many as the longest key has names. It is 1 after `*` has given the first of two files, and 0 after the second.
+    pub fn kept(&self) -> usize
+        ensures kept { result ≡ self.now.kept }
+        ensures few { (c : Content) → IsTrue (is_content c) → Agrees c self.now
+            → IsTrue (are_plain false self.now.aim.components) → result < levels c }
+    {
+        self.walker.stack.frames.len()
     }
 }

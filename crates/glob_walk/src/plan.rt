@@ -4,7 +4,8 @@
 //! whether only directories are given. Adjacent `**` mean the same as one of them, and are read as one. A plan does not
 //! change during the walk.
 ghost use Rattle.std.specs.Prelude.{◌≡◌, ◌+◌, ◌<◌, ◌≤◌, [], ◌∷◌, true, false, None, IfOk, IfErr, MatchOption, OnSome, IfNone, drop, vec_len, if◌then◌else◌};
-ghost use Rattle.std.specs.Path.{root_dir, cur_dir};
+ghost use Rattle.std.specs.List.{list_all};
+ghost use Rattle.std.specs.Path.{cur_dir, has_no_slash, root_dir};
 ghost use Rattle.glob_text.specs.Pieces.{pieces};
 ghost use Rattle.glob_walk.specs.Components.{components, first_fault, has_root, walk_fault, wants_directories, without_root, without_end_separator};
 ghost use Rattle.glob_walk.specs.Private.Merging.{merged, are_merged};
@@ -18,7 +19,7 @@ use std::alloc::Allocator;
 /// What a walk looks for: the components of a pattern, in order.
 #[derive(Drop)]
 pub struct Plan<A: Allocator> {
-    /// The components. No two adjacent ones are `**`.
+    /// The components, in which no character is a separator. No two adjacent ones are `**`.
     pub components: Vec<Component<A>, A>,
     /// How names are matched.
     pub options: MatchOptions,
@@ -29,6 +30,7 @@ pub struct Plan<A: Allocator> {
     /// The allocator of the walk.
     pub alloc: A,
     ghost merged: { are_merged components.items ≡ true },
+    ghost names: { list_all has_no_slash components.items ≡ true },
 }
 
 impl<A: Allocator + Copy> Plan<A> {

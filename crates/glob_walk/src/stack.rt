@@ -5,11 +5,12 @@
 //! it, with its names. In a directory listed for `**`, the last step enters the last entry. That comes after the entry
 //! was met, so the directory stays while the components after `**` go on in the entry. Down a chain of directories with
 //! one entry each, the stack so holds at most one directory for each `**` and one more, and not the whole chain (no
-//! clause says this).
+//! clause says this). With a plain pattern each directory is below the one before it, so over a content there are at
+//! most as many as its longest key has names: the clause `few` of `WalkMachine::kept`.
 ghost use Rattle.std.specs.Prelude.{◌≡◌, ◌+◌, ◌<◌, ◌≤◌, ◌++◌, true, false, [], None, Ok, IfOk, OnOk, vec_len};
 ghost use Rattle.glob_tree.specs.Content.{Content};
 ghost use Rattle.std.specs.List.{All};
-ghost use Rattle.glob_walk.specs.Private.Frames.{frame_marks, is_done, unmet, IsFrameSound};
+ghost use Rattle.glob_walk.specs.Private.Frames.{frame_marks, is_done, unmet};
 
 use crate::frame::Frame;
 use crate::plan::Plan;
@@ -31,7 +32,7 @@ pub struct Stack<A: Allocator> {
 }
 
 impl<A: Allocator + Copy> Stack<A> {
-    ghost use Rattle.glob_walk.specs.Private.Stacks.{left, weight, ready, IsSound};
+    ghost use Rattle.glob_walk.specs.Private.Stacks.{left, weight, ready, IsFitting, IsSound};
 
     /// Takes one step in the last directory, which may make a task, and removes the directory if this was its last
     /// step. Returns `false` if there is no directory. Each step lowers the weight, so steps come to an end.
@@ -80,7 +81,7 @@ impl<A: Allocator + Copy> Stack<A> {
         ensures left { OnOk result ((c : Content)
             → left c self.new ≡ frame_marks c self.old.plan frame ++ left c self.old) }
         ensures ready { OnOk result (ready self.new ≤ ready self.old + unmet frame) }
-        ensures sound { OnOk result ((c : Content) → IsFrameSound c frame → IsSound c self.old
+        ensures sound { OnOk result ((c : Content) → IsFitting c self.old frame → IsSound c self.old
             → IsSound c self.new) }
     {
         if frame.is_done() {

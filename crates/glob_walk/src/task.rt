@@ -1,11 +1,12 @@
 //! What a walk does next: a path, and the number of the component from which it goes on there.
 
-ghost use Rattle.std.specs.Prelude.{◌≡◌, ◌≤◌, ◌∷◌, None, string_bytes, if◌then◌else◌};
+ghost use Rattle.std.specs.Prelude.{◌≡◌, ◌≤◌, ◌∷◌, ℕ, None, string_bytes, if◌then◌else◌};
 ghost use Rattle.glob_tree.specs.Content.{Content, look_result};
 ghost use Rattle.glob_tree.specs.Looks.{is_there};
 ghost use Rattle.glob_tree.specs.declared.tree.Look.{Look as LookOf};
 ghost use Rattle.glob_walk.specs.Marks.{Work};
 ghost use Rattle.glob_walk.specs.declared.plan.Plan.{Plan as PlanOf};
+ghost use Rattle.glob_walk.specs.Private.Depths.{IsNextDeep, IsTaskDeep};
 ghost use Rattle.glob_walk.specs.Private.Stacks.{next_weight};
 ghost use Rattle.glob_walk.specs.Private.Tasks.{is_accepted as is_accepted_look, next_marks, next_ready, state_marks, IsNextSound};
 
@@ -88,6 +89,10 @@ pub fn task_after_look<A: Allocator>(
         ≡ Work (string_bytes path) ∷ next_marks c plan result }
     ensures sound { (c : Content) → seen ≡ look_result c (string_bytes path)
         → IsNextSound c result }
+    ensures deep { (c : Content) → (plan : PlanOf A) → (n : ℕ)
+        → seen ≡ look_result c (string_bytes path)
+        → IsTaskDeep c plan n component (string_bytes path) (TaskState.Unseen accepted)
+        → IsNextDeep c plan n result }
     ensures weight { next_weight result ≤ 2 }
     ensures ready { (plan : PlanOf A) → next_ready plan result ≤ 1 }
 {

@@ -22,13 +22,14 @@
 //! The written listing is what a walk does, mark by mark. Each method of [`Walker`] has the same contract, `TurnsTo`:
 //! what was left of the listing starts with what the turn charged and gave, and the rest is what is left of the walk
 //! then. After a turn without a [`Step`] the walk just goes on.
-ghost use Rattle.std.specs.Prelude.{◌≡◌, ◌≢◌, ◌+◌, ◌<◌, ◌≤◌, ◌∷◌, true, false, [], None, string_bytes, vec_len, drop, not, ◌||◌, IfOk, IfErr, IfSome, Some, if◌then◌else◌};
-ghost use Rattle.glob_tree.specs.Content.{Content};
+ghost use Rattle.std.specs.Prelude.{◌≡◌, ◌≢◌, ◌+◌, ◌<◌, ◌≤◌, ◌∷◌, ℕ, IsTrue, true, false, [], None, string_bytes, vec_len, drop, not, ◌||◌, IfOk, IfErr, IfSome, Some, if◌then◌else◌};
+ghost use Rattle.glob_tree.specs.Content.{Content, is_content};
 ghost use Rattle.glob_walk.specs.Machines.{Ends, Says, is_last, list_error_outcome, saying};
 ghost use Rattle.glob_walk.specs.Walks.{NoMemory};
 ghost use Rattle.glob_walk.specs.Components.{is_literal};
 ghost use Rattle.glob_tree.specs.Answers.{entry_count};
 ghost use Rattle.glob_walk.specs.Questions.{IsSomeContent, IsSeenIn, IsListedIn, ListAt, LookAt, question_path};
+ghost use Rattle.glob_walk.specs.Private.Depths.{IsDeepPath, IsNextDeep, IsPlainFrom};
 ghost use Rattle.glob_walk.specs.Private.Tasks.{task_marks, enter_from, IsListedFor, IsOpened, next_ready, IsNextSound};
 ghost use Rattle.glob_walk.specs.Private.Queries.{question_of, IsQueryOpened};
 ghost use Rattle.glob_walk.specs.Private.Stacks.{next_weight, weight};
@@ -350,6 +351,9 @@ fn literal_task<A: Allocator + Copy>(
     ensures weight { IfOk result (λ task. next_weight (Some task) ≡ 1) }
     ensures ready { IfOk result (λ task. next_ready plan.now (Some task) ≡ 0) }
     ensures sound { IfOk result (λ task. (c : Content) → IsNextSound c (Some task)) }
+    ensures deep { IfOk result
+        (λ task. (c : Content) → (n : ℕ) → IsTrue (is_content c) → IsPlainFrom plan.now number
+        → IsDeepPath c n path.now → IsNextDeep c plan.now n (Some task)) }
 {
     let name = component.as_str();
     let accepted = Accepted::of_literal(is_current_or_parent(name), is_dir);

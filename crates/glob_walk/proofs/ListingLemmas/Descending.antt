@@ -55,13 +55,17 @@ longest n (f ∷ es) e in' = ⊎_elim
 abbrev deepest : Content → ℕ
 deepest c = fold (λ n e. max n (length e.0)) 0 c.kinds
 
--- no directory is deeper than the levels of its content
+-- no key is deeper than the levels of its content
+pub key_depth : (c : Content) (k : Key) (kind : Kind) → kind_at c k ≡ Some kind → length k < levels c
+key_depth c k kind held = omega (arith, longest 0 c.kinds (k, kind) (contains_kind_at c k kind held))
+
+-- nor is a directory
 pub depth : (c : Content) (k : Key) → is_dir_at c k ≡ true → length k < levels c
 depth c k d = of_kind (kind_at c k) refl d
   where
     of_kind : (o : Option Kind) → kind_at c k ≡ o → unwrap_or (option_map is_dir o) false ≡ true → length k < levels c
     of_kind None e h = absurd (both_ways false refl h)
-    of_kind (Some kind) e h = omega (arith, longest 0 c.kinds (k, kind) (contains_kind_at c k kind e))
+    of_kind (Some kind) e h = key_depth c k kind e
 
 -- a branch needs to agree only if it is taken
 cond_agree : {X : Type 0} (b : Bool) (x y z : X) → (b ≡ true → x ≡ y) → cond b x z ≡ cond b y z

@@ -18,7 +18,7 @@ use Rattle.glob_walk.specs.Questions.{Question, LookAt, ListAt, IsSomeContent, q
 use Rattle.glob_walk.specs.Machines.{Saying, AsksLook, AsksList, Says, Ends}
 use Rattle.glob_walk.specs.Private.Frames.{is_done}
 use Rattle.glob_walk.specs.Private.Queries.{question_of}
-use Rattle.glob_walk.specs.Private.Walkers.{walk_left, walk_ready}
+use Rattle.glob_walk.specs.Private.Walkers.{walk_left, walk_ready, IsWalkSound}
 use Rattle.glob_walk.specs.Answers.{IsAnswered}
 use Rattle.glob_walk.specs.Private.Turns.{works, Charges, ChargesNext, BreaksOff, TurnOf, TurnCounts, IfGoing, TurnsTo}
 use Rattle.glob_walk.specs.Private.Turns.{said_items, with_task}
@@ -146,15 +146,17 @@ TurnsTo-task {A} Fits n a b below going t x r free next is h =
       plan = h.plan;
       asks = h.asks;
       ready = h.ready;
-      sound = IfGoing-map r (λ keeps c w u. keeps c w (record {
-        query = u.query;
-        stack = record {
-          next = u.stack.next;
-          frames = u.stack.frames;
-        };
-      })) h.sound;
-      takes = λ c w u. h.takes c w (record { query = u.query; stack = record { next = u.stack.next; frames = u.stack.frames } });
+      sound = IfGoing-map r (λ keeps c w u. keeps c w (bounded c u)) h.sound;
+      takes = λ c w u. h.takes c w (bounded c u);
     })
+  where
+    bounded : (c : Content) → IsWalkSound c (with_task t.path t.component x a) → IsWalkSound c
+        (with_task t.path t.component x (record a { stack = record a.stack { components = below; going = going } }))
+    bounded c u = record {
+      query = u.query;
+      deep = u.deep;
+      stack = record { next = u.stack.next; deep = u.stack.deep; frames = u.stack.frames };
+    }
 
 -- an equal saying
 pub TurnsTo-said : {A : Type 0} (Fits : Content → Type 0) (n : ℕ) (a b : Walker A) (x y : Saying) → y ≡ x

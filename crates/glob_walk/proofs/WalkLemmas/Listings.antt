@@ -78,7 +78,7 @@ in_order {A} c w path es sorted answer moved up = of_answer (list_result c path)
     of_answer NoDirectory e h = tt
 
 -- a permutation of the returned entries has no others
-contains_moved : {A : Type 0} (es sorted : List (Entry A)) → IsPermutation es sorted → (e : DirEntry) → Contains
+pub contains_moved : {A : Type 0} (es sorted : List (Entry A)) → IsPermutation es sorted → (e : DirEntry) → Contains
     (entries_of sorted) e → Contains (entries_of es) e
 contains_moved {A} es sorted moved e in' =
     let f : Entry A → DirEntry = λ x. (x.name, x.is_dir) in

@@ -1,16 +1,18 @@
 -- What a step of the machine does.
 use Rattle.std.proofs.Common.{◌≡◌, ◌⊎◌, inl, inr, ⊎_elim, ℕ, ◌+◌, ◌≤◌, ◌<◌, ◌^◌, length, Bool, true, false, cond, List}
-use Rattle.std.proofs.Common.{[], ◌++◌, Option, Some, None, refl, ap, sym, subst, ◌∙◌, arith}
-use Rattle.std.specs.Prelude.{string_bytes, sum_by, nat_le, IfSome, IsSome}
+use Rattle.std.proofs.Common.{[], ◌++◌, Option, Some, None, IsTrue, refl, ap, sym, subst, ◌∙◌, arith}
+use Rattle.std.specs.Prelude.{string_bytes, vec_len, sum_by, nat_le, IfSome, IsSome}
 use Rattle.std.specs.List.{All}
 use Rattle.std.specs.Path.{root_dir, cur_dir}
 use Rattle.std.proofs.lemmas.List.Elements.{All-from_recursion}
 use Rattle.std.proofs.lemmas.Bool.{both_ways}
 use Rattle.glob_text.specs.Text.{Text}
-use Rattle.glob_tree.specs.Content.{Content}
-use Rattle.glob_walk.specs.Listing.{look_up, enter}
+use Rattle.glob_tree.specs.Content.{Content, is_content}
+use Rattle.glob_tree.proofs.ContentLemmas.Contents.{IsContent-from_test}
+use Rattle.glob_walk.specs.Goal.{are_plain}
+use Rattle.glob_walk.specs.Listing.{look_up, enter, levels}
 use Rattle.glob_walk.specs.Questions.{Question, LookAt, ListAt, IsSomeContent}
-use Rattle.glob_walk.specs.Machines.{MachineState, Saying, AsksLook, AsksList, IsAskedAfter, IsCharged, StepCounts, listing_of}
+use Rattle.glob_walk.specs.Machines.{Agrees, MachineState, Saying, AsksLook, AsksList, IsAskedAfter, IsCharged, StepCounts, listing_of}
 use Rattle.glob_walk.specs.Machines.{StepGoes, Says, Ends, is_last, item_number}
 use Rattle.glob_walk.specs.Walks.{Outcome, Gives, LimitAt, NoMemory}
 use Rattle.glob_walk.specs.declared.frame.Frame.{Frame}
@@ -18,7 +20,8 @@ use Rattle.glob_walk.specs.declared.plan.Plan.{Plan}
 use Rattle.glob_walk.specs.declared.walker.Walker.{Walker}
 use Rattle.glob_walk.specs.declared.machine.Answer.{Answer}
 use Rattle.glob_walk.specs.declared.machine.Answer.TheVariants as answer
-use Rattle.glob_walk.specs.Private.Stacks.{aim_of, frames_marks}
+use Rattle.glob_walk.specs.Private.Stacks.{aim_of, frames_marks, AreSound}
+use Rattle.glob_walk.specs.Private.Depths.{IsDeepPath, IsNextDeep, IsPlainFrom, IsPlainOver, IsQueryDeep, IsStateDeep, IsTaskDeep}
 use Rattle.glob_walk.specs.Private.Tasks.{enter_from, state_marks, task_marks, next_marks, next_ready, state_ready}
 use Rattle.glob_walk.specs.Private.Tasks.{IsNextSound, IsStateSound}
 use Rattle.glob_walk.specs.Private.Frames.{unmet, IsFrameSound}
@@ -32,7 +35,9 @@ use Rattle.glob_walk.specs.declared.task.TaskState.TheVariants.{Unseen}
 use Rattle.glob_walk.specs.declared.task.Accepted.TheVariants.{Any}
 use Rattle.glob_walk.specs.Answers.{IfFailed, IsAnswer, IsAnswered, answer_count}
 use Rattle.glob_walk.specs.Private.Turns.{TurnsTo, asking}
+use Rattle.glob_walk.proofs.WalkLemmas.Depths.{deep_few, start_deep}
 use Rattle.glob_walk.proofs.WalkLemmas.Giving.{gives_next, asks_next}
+use Rattle.glob_walk.proofs.WalkLemmas.Stacking.{sound_free, sound_none}
 use Rattle.std.proofs.lemmas.List.{append-nil}
 
 pub one_item : (s : Saying) → item_number s ≤ 1
@@ -47,6 +52,7 @@ view w given over = record {
   limit = w.meter.limit;
   spent = w.meter.spent;
   given = given;
+  kept = vec_len w.stack.frames;
   over = over;
   asked =
       question_of w.query;
@@ -58,13 +64,15 @@ view w given over = record {
 abbrev pub IsCleared : {A : Type 0} → Walker A → Type 0
 IsCleared w = (w.stack.next ≡ None) × (w.stack.frames.items ≡ [])
 
+no_frames : {A : Type 0} (c : Content) (plan : Plan A) (frames : List (Frame A)) → frames ≡ [] → AreSound c plan frames
+no_frames c plan frames empty = subst (AreSound c plan) (sym empty)
+    (record { entries = All-from_recursion (IsFrameSound c) [] tt; deep = λ plain. tt })
+
 cleared_sound : {A : Type 0} (c : Content) (w : Walker A) → w.query ≡ None → IsCleared w → IsWalkSound c w
 cleared_sound c w free h = record {
   query = subst (IsQuerySound c) (sym free) tt;
-  stack = record {
-    next = subst (IsNextSound c) (sym h.0) tt;
-    frames = subst (All (IsFrameSound c)) (sym h.1) (All-from_recursion (IsFrameSound c) [] tt);
-  };
+  deep = λ plain. subst (IsQueryDeep c w.stack.plan (length w.stack.frames.items)) (sym free) tt;
+  stack = sound_none c w.stack h.0 (no_frames c w.stack.plan w.stack.frames.items h.1);
 }
 
 module _ {A : Type 0} (Fits : Content → Type 0) (n : ℕ) (w w' : Walker A) (given : ℕ) (fits : w.meter.limit < 2 ^ 64)
@@ -318,11 +326,30 @@ left-fresh c plan t frames unseen component empty at =
     ∙ ap (look_up c (λ seen. true) (enter c plan.options plan.directories plan.components.items)) at
 
 pub sound-fresh : {A : Type 0} (c : Content) (w : Walker A) (t : Task A) → w.query ≡ None → w.stack.next ≡ Some t
-    → t.state ≡ Unseen Any → w.stack.frames.items ≡ [] → IsWalkSound c w
-sound-fresh c w t free next unseen empty = record {
-  query = subst (IsQuerySound c) (sym free) tt;
-  stack = record {
-    next = subst (IsNextSound c) (sym next) (subst (IsStateSound c (string_bytes t.path)) (sym unseen) tt);
-    frames = subst (All (IsFrameSound c)) (sym empty) (All-from_recursion (IsFrameSound c) [] tt);
-  };
-}
+    → t.state ≡ Unseen Any → t.component ≡ 0 → string_bytes t.path ≡ cond w.stack.plan.rooted root_dir cur_dir
+    → w.stack.frames.items ≡ [] → IsWalkSound c w
+sound-fresh {A} c w t free next unseen component at empty = sound_free c w free (record {
+  next = subst (IsNextSound c) (sym next) (subst (IsStateSound c (string_bytes t.path)) (sym unseen) tt);
+  deep = λ plain. subst (IsNextDeep c w.stack.plan (length w.stack.frames.items)) (sym next) (start plain);
+  frames = no_frames c w.stack.plan w.stack.frames.items empty;
+})
+  where
+    start : IsPlainOver c w.stack.plan → IsTaskDeep c w.stack.plan (length w.stack.frames.items) t.component (string_bytes t.path) t.state
+    start plain = record {
+      plain = subst (IsPlainFrom w.stack.plan) (sym component) plain.plain;
+      deep = subst (IsStateDeep c (length w.stack.frames.items) (string_bytes t.path)) (sym unseen)
+          (λ _. subst (IsDeepPath c (length w.stack.frames.items)) (sym at) (subst (λ n. IsDeepPath c n
+          (cond w.stack.plan.rooted root_dir cur_dir)) (sym (ap length empty))
+          (start_deep c (IsContent-from_test c plain.content) w.stack.plan.rooted)));
+    }
+
+-- a plain walk keeps few directories
+pub kept_few : {A : Type 0} (c : Content) (w : Walker A) (given : ℕ) (over' : Bool) (v : MachineState (Walk A))
+    → view w given over' ≡ v → IsTrue (is_content c) → Agrees c v → IsTrue (are_plain false v.aim.components)
+    → length w.stack.frames.items < levels c
+kept_few {A} c w given over' v e content = subst (λ x. Agrees c x → IsTrue (are_plain false x.aim.components) → length
+    w.stack.frames.items < levels c) e
+    (λ agrees plain. deep_few c w.stack.plan w.stack.frames.items (agrees.stack.frames.deep (record {
+      content = content;
+      plain = plain;
+    })) w.stack.going)

@@ -1,15 +1,17 @@
 -- Adjacent `**` are read as one, which does not change the written listing.
 use Rattle.std.proofs.Common.{◌≡◌, ℕ, zero, suc, ◌+◌, Bool, true, false, cond, not, ◌&&◌, List, [], ◌∷◌, ◌++◌, drop}
-use Rattle.std.proofs.Common.{refl, ap, sym, subst, ◌∙◌, arith}
-use Rattle.std.proofs.lemmas.Bool.{and_parts, both_ways}
+use Rattle.std.proofs.Common.{None, is_none, refl, ap, sym, subst, ◌∙◌, arith}
+use Rattle.std.specs.List.{list_all}
+use Rattle.std.proofs.lemmas.Bool.{and_from, and_parts, both_ways}
 use Rattle.std.proofs.lemmas.List.{append_assoc}
 use Rattle.std.proofs.Math.ListN.{drop_of_length-le}
 use Rattle.glob_text.specs.Text.{Text}
 use Rattle.glob_pattern.specs.declared.options.MatchOptions.{MatchOptions}
 use Rattle.glob_tree.specs.Content.{Content}
 use Rattle.glob_walk.specs.Components.{ComponentKind, Literal, Recursive, Wild, component_kind, components, is_literal}
-use Rattle.glob_walk.specs.Components.{is_recursive, begins_recursive, has_root, start, wants_directories}
+use Rattle.glob_walk.specs.Components.{is_recursive, begins_recursive, has_root, start, walk_fault, wants_directories}
 use Rattle.std.specs.Path.{root_dir, cur_dir}
+use Rattle.glob_walk.specs.Goal.{are_plain, is_plain, is_plain_component}
 use Rattle.glob_walk.specs.Listing.{by_name, by_match, descent, levels, enter, meet, match_at, look_up, listing}
 use Rattle.glob_walk.specs.Machines.{listing_of}
 use Rattle.glob_walk.specs.declared.plan.Plan.{Plan}
@@ -50,6 +52,34 @@ are_merged-drop : (n : ℕ) (ts : List Text) → are_merged ts ≡ true → are_
 are_merged-drop zero ts h = h
 are_merged-drop (suc n) [] h = ap are_merged (drop_of_length-le [] {i = suc n} (omega arith))
 are_merged-drop (suc n) (t ∷ ts) h = are_merged-drop n ts (and_parts (not (is_recursive t && begins_recursive ts)) (are_merged ts) h).1
+
+-- what holds of each component still does
+pub list_all-merged : (p : Text → Bool) (run : Bool) (ts : List Text) → list_all p ts ≡ true → list_all p (merged_after run ts) ≡ true
+list_all-merged p run [] h = refl
+list_all-merged p run (t ∷ ts) h =
+    let both = and_parts (p t) (list_all p ts) h in
+    by_test both.0 (λ r. list_all-merged p r ts both.1) (run && is_recursive t)
+  where
+    by_test : p t ≡ true → ((r : Bool) → list_all p (merged_after r ts) ≡ true) → (b : Bool)
+        → list_all p (cond b (merged_after true ts) (t ∷ merged_after (is_recursive t) ts)) ≡ true
+    by_test one later true = later true
+    by_test one later false = and_from (p t) (list_all p (merged_after (is_recursive t) ts)) one (later (is_recursive t))
+
+-- and merged components are plain exactly if all are
+pub plain-merged : (run : Bool) (ts : List Text) → are_plain run (merged_after run ts) ≡ are_plain run ts
+plain-merged run [] = refl
+plain-merged run (t ∷ ts) = by_test run (is_recursive t) refl (plain-merged (is_recursive t) ts)
+  where
+    by_test : (b r : Bool) → is_recursive t ≡ r → are_plain (is_recursive t) (merged_after (is_recursive t) ts) ≡
+        are_plain (is_recursive t) ts
+        → are_plain b (cond (b && r) (merged_after true ts) (t ∷ merged_after (is_recursive t) ts)) ≡ are_plain b (t ∷ ts)
+    by_test true true h later =
+        ap (λ r. are_plain true (merged_after r ts)) (sym h)
+        ∙ ap (λ r. are_plain r (merged_after (is_recursive t) ts)) (sym h)
+        ∙ later
+        ∙ ap (λ b. b && are_plain (is_recursive t) ts) (sym (ap (is_plain_component true) (recursive_is t h)))
+    by_test true false h later = ap (λ b. is_plain_component true t && b) later
+    by_test false r h later = ap (λ b. is_plain_component false t && b) later
 
 -- so each `**` is the last in its place
 pub opened_run : (ts : List Text) (n : ℕ) (t : Text) → are_merged ts ≡ true → drop n ts ≡ t ∷ drop (n + 1) ts
@@ -167,3 +197,12 @@ pub aim_listing : {A : Type 0} (c : Content) (o : MatchOptions) (pattern : Text)
 aim_listing c o pattern plan options rooted directories parts =
     (λ i. look_up c (λ seen. true) (enter c (options i) (directories i) (parts i)) (cond (rooted i) root_dir cur_dir))
     ∙ merged_listing c o pattern
+
+-- and is plain if the pattern is
+pub aim_plain : {A : Type 0} (pattern : Text) (plan : Plan A) → walk_fault pattern ≡ None
+    → plan.components.items ≡ merged (components pattern) → are_plain false plan.components.items ≡ is_plain pattern
+unfolding is_plain
+aim_plain pattern plan faultless parts =
+    ap (are_plain false) parts
+    ∙ plain-merged false (components pattern)
+    ∙ sym (ap (λ fault. is_none fault && are_plain false (components pattern)) faultless)

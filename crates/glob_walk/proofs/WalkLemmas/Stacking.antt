@@ -16,13 +16,14 @@ use Rattle.glob_walk.specs.declared.plan.Plan.{Plan}
 use Rattle.glob_walk.specs.declared.frame.Frame.{Frame}
 use Rattle.glob_walk.specs.declared.frame.Cursor.{Cursor}
 use Rattle.glob_walk.specs.declared.frame.Cursor.TheVariants.{Parent, Current, At, Inside}
-use Rattle.glob_walk.specs.Private.Frames.{frame_marks, cursor_marks, entries_marks, inside_marks, is_done, is_done_at, IsFrameSound}
+use Rattle.glob_walk.specs.Private.Frames.{frame_marks, cursor_marks, entries_marks, inside_marks, is_done, is_done_at}
 use Rattle.glob_walk.specs.declared.stack.Stack.{Stack}
 use Rattle.glob_walk.specs.declared.query.Query.{Query}
 use Rattle.glob_walk.specs.declared.walker.Walker.{Walker}
 use Rattle.glob_walk.specs.Private.Tasks.{next_marks, IsNextSound}
 use Rattle.glob_walk.specs.Private.Queries.{query_marks, IsQuerySound}
-use Rattle.glob_walk.specs.Private.Stacks.{left, frames_marks, IsSound}
+use Rattle.glob_walk.specs.Private.Stacks.{left, frames_marks, AreSound, IsSound}
+use Rattle.glob_walk.specs.Private.Depths.{IsNextDeep, IsQueryDeep}
 use Rattle.glob_walk.specs.Private.Walkers.{IsWalkSound}
 
 nothing_past : {X : Type 0} (xs : List X) (n : ℕ) → length xs ≤ n → drop n xs ≡ []
@@ -73,11 +74,19 @@ pub left_free : {A : Type 0} (c : Content) (plan : Plan A) (q : Option (Query A)
 left_free c plan q ms free = ap (λ x. query_marks c plan x ++ ms) (sym free)
 
 -- without a task, the directories are sound
-pub sound_none : {A : Type 0} (c : Content) (s : Stack A) → s.next ≡ None → All (IsFrameSound c) s.frames.items → IsSound c s
-sound_none c s none frames = record { next = subst (IsNextSound c) (sym none) tt; frames = frames }
+pub sound_none : {A : Type 0} (c : Content) (s : Stack A) → s.next ≡ None → AreSound c s.plan s.frames.items → IsSound c s
+sound_none c s none frames = record {
+  next = subst (IsNextSound c) (sym none) tt;
+  deep = λ plain. subst (IsNextDeep c s.plan (length s.frames.items)) (sym none) tt;
+  frames = frames;
+}
 
 pub sound_free : {A : Type 0} (c : Content) (w : Walker A) → w.query ≡ None → IsSound c w.stack → IsWalkSound c w
-sound_free c w free stack = record { query = subst (IsQuerySound c) (sym free) tt; stack = stack }
+sound_free c w free stack = record {
+  query = subst (IsQuerySound c) (sym free) tt;
+  deep = λ plain. subst (IsQueryDeep c w.stack.plan (length w.stack.frames.items)) (sym free) tt;
+  stack = stack;
+}
 
 module _ {A : Type 0} (c : Content) (plan : Plan A) where
   pub frames_last : (fs : List (Frame A)) (f : Frame A) → frames_marks c plan (fs ++ f ∷ []) ≡ frame_marks c plan f ++

@@ -1,5 +1,5 @@
 -- What a walk still has to do, as a part of the written listing.
-use Rattle.std.specs.Prelude.{ℕ, ◌+◌, ◌*◌, List, ◌++◌, reverse, flat_map, Option, Some, None, sum_by}
+use Rattle.std.specs.Prelude.{ℕ, ◌+◌, ◌*◌, List, ◌++◌, length, reverse, flat_map, Option, Some, None, sum_by}
 use Rattle.std.specs.List.{All}
 use Rattle.glob_walk.specs.Machines.{Aim}
 use Rattle.glob_walk.specs.Marks.{Mark}
@@ -10,6 +10,7 @@ use Rattle.glob_walk.specs.declared.task.TaskState.{TaskState}
 use Rattle.glob_walk.specs.declared.task.TaskState.TheVariants as state
 use Rattle.glob_walk.specs.declared.frame.Frame.{Frame}
 use Rattle.glob_walk.specs.declared.stack.Stack.{Stack}
+use Rattle.glob_walk.specs.Private.Depths.{AreDeep, IsFrameDeep, IsNextDeep, IsPlainOver}
 use Rattle.glob_walk.specs.Private.Tasks.{next_marks, next_ready, IsNextSound}
 use Rattle.glob_walk.specs.Private.Frames.{frame_marks, steps_left, unmet, IsFrameSound}
 
@@ -49,7 +50,17 @@ weight s = next_weight s.next + sum_by frame_weight s.frames.items
 abbrev pub ready : {A : Type 0} → Stack A → ℕ
 ready s = next_ready s.plan s.next + sum_by unmet s.frames.items
 
--- what is reported as a directory is one
+-- what is reported as a directory is one, and in a plain walk each directory is below the one before it
+pub record AreSound {A : Type 0} (c : Content) (plan : Plan A) (frames : List (Frame A)) : Type 0 where
+  pub entries : All (IsFrameSound c) frames
+  pub deep : IsPlainOver c plan → AreDeep c plan 0 frames
+
 pub record IsSound {A : Type 0} (c : Content) (s : Stack A) : Type 0 where
   pub next : IsNextSound c s.next
-  pub frames : All (IsFrameSound c) s.frames.items
+  pub deep : IsPlainOver c s.plan → IsNextDeep c s.plan (length s.frames.items) s.next
+  pub frames : AreSound c s.plan s.frames.items
+
+-- a directory may be put on top
+pub record IsFitting {A : Type 0} (c : Content) (s : Stack A) (f : Frame A) : Type 0 where
+  pub entries : IsFrameSound c f
+  pub deep : IsPlainOver c s.plan → IsFrameDeep c s.plan (length s.frames.items) f

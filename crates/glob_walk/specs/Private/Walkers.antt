@@ -1,9 +1,10 @@
 -- What a walk still has to do: the open question, and then the stack; and what holds between two steps.
-use Rattle.std.specs.Prelude.{◌≡◌, ℕ, ◌+◌, ◌≤◌, ◌<◌, ◌^◌, Bool, true, false, None, List, ◌++◌}
+use Rattle.std.specs.Prelude.{◌≡◌, ℕ, ◌+◌, ◌≤◌, ◌<◌, ◌^◌, Bool, true, false, None, List, length, ◌++◌}
 use Rattle.glob_walk.specs.Marks.{Mark}
 use Rattle.glob_tree.specs.Content.{Content}
 use Rattle.glob_walk.specs.Machines.{Progress}
 use Rattle.glob_walk.specs.declared.walker.Walker.{Walker}
+use Rattle.glob_walk.specs.Private.Depths.{IsPlainOver, IsQueryDeep}
 use Rattle.glob_walk.specs.Private.Queries.{query_marks, query_ready, IsQuerySound, IsQueryOpened}
 use Rattle.glob_walk.specs.Private.Stacks.{left, ready, IsSound}
 
@@ -15,9 +16,10 @@ walk_left c w = query_marks c w.stack.plan w.query ++ left c w.stack
 abbrev pub walk_ready : {A : Type 0} → Walker A → ℕ
 walk_ready w = query_ready w.query + ready w.stack
 
--- what is reported as a directory is one
+-- what is reported as a directory is one, and in a plain walk each directory is below the one before it
 pub record IsWalkSound {A : Type 0} (c : Content) (w : Walker A) : Type 0 where
   pub query : IsQuerySound c w.query
+  pub deep : IsPlainOver c w.stack.plan → IsQueryDeep c w.stack.plan (length w.stack.frames.items) w.query
   pub stack : IsSound c w.stack
 
 -- what contracts know of a walker

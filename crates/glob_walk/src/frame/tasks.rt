@@ -1,10 +1,12 @@
 //! The tasks that follow from a directory's entries, and from `.` and `..` in it.
 //!
 //! Each step makes at most one task, and builds a child's path only for its task.
-ghost use Rattle.std.specs.Prelude.{◌≡◌, ◌+◌, ◌<◌, None, IfOk, string_bytes, if◌then◌else◌, vec_len};
+ghost use Rattle.std.specs.Prelude.{◌≡◌, ◌+◌, ◌<◌, ℕ, None, IfOk, IfSome, string_bytes, if◌then◌else◌, vec_len};
 ghost use Rattle.glob_tree.specs.Content.{Content};
 ghost use Rattle.glob_walk.specs.Listing.{is_entered as is_entered_entry};
 ghost use Rattle.glob_text.specs.Text.{Text};
+ghost use Rattle.glob_tree.specs.Paths.{child as child_path};
+ghost use Rattle.glob_walk.specs.Private.Depths.{IsDeepPath, IsNextDeep, IsPlainAt, IsPlainFrom};
 ghost use Rattle.glob_walk.specs.Private.Forms.{takes_name};
 ghost use Rattle.glob_walk.specs.Private.Tasks.{next_marks, next_ready, IsNextSound};
 ghost use Rattle.glob_walk.specs.Private.Frames.{first_part, first_marks, second_marks, met_marks, special_marks, IsEntrySound};
@@ -60,6 +62,11 @@ impl<A: Allocator + Copy> Frame<A> {
             (λ task. (c : Content)
             → IsEntrySound c (string_bytes self.now.path) (entry.now.name, entry.now.is_dir)
             → IsNextSound c task) }
+        ensures deep { IfOk result
+            (λ task. (c : Content) → (n : ℕ)
+            → IsPlainAt plan.now self.now.recursive self.now.component
+            → IsDeepPath c n (child_path (string_bytes self.now.path) entry.now.name)
+            → IsNextDeep c plan.now n task) }
     {
         let name = entry.name.as_str();
         let met = meet(plan, self.recursive, self.component, name, entry.is_dir)?;
@@ -89,6 +96,11 @@ impl<A: Allocator + Copy> Frame<A> {
             (λ task. (c : Content)
             → IsEntrySound c (string_bytes self.now.path) (entry.now.name, entry.now.is_dir)
             → IsNextSound c task) }
+        ensures deep { IfOk result
+            (λ task. (c : Content) → (n : ℕ)
+            → IsPlainAt plan.now self.now.recursive self.now.component
+            → IsDeepPath c n (child_path (string_bytes self.now.path) entry.now.name)
+            → IsNextDeep c plan.now n task) }
     {
         let name = entry.name.as_str();
         if !self.recursive || !is_entered(plan.options, name, entry.is_dir) {
@@ -112,10 +124,12 @@ fn meet<A: Allocator + Copy>(
     is_dir: bool,
 ) -> Result<Option<usize>, AllocError>
     requires within { number < vec_len plan.now.components }
-    ensures { IfOk result
+    ensures marks { IfOk result
         (λ at. (c : Content) → (path : Text)
         → first_part c plan.now recursive number path (name.now, is_dir)
         ≡ met_marks c plan.now path (name.now, is_dir) at) }
+    ensures plain { IfOk result
+        (λ at. IsPlainAt plan.now recursive number → IfSome at (IsPlainFrom plan.now)) }
 {
     let next = if recursive { number + 1 } else { number };
     match plan.component(next) {

@@ -1,4 +1,4 @@
-//! Made by `bin/rust_crate` from `crates/glob_walk/src/frame.rt`, where its contracts are: sha256 82bceb180b32acf6.
+//! Made by `bin/rust_crate` from `crates/glob_walk/src/frame.rt`, where its contracts are: sha256 633de6313c27ae90.
 //!
 //! A directory that a walk is going through.
 //!

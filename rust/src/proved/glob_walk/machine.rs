@@ -1,4 +1,4 @@
-//! Made by `bin/rust_crate` from `crates/glob_walk/src/machine.rt`, where its contracts are: sha256 a85a7c52ad588933.
+//! Made by `bin/rust_crate` from `crates/glob_walk/src/machine.rt`, where its contracts are: sha256 8d21070772188323.
 //!
 //! A walk that asks its caller, and reads nothing by itself.
 
@@ -121,6 +121,8 @@ impl WalkMachine {
     /// ensures fresh { IfOk result (IsFresh limit) }
     /// ensures aim { IfOk result
     ///     (λ walk. (c : Content) → listing_of c walk.aim ≡ listing c options pattern.now) }
+    /// ensures plain { IfOk result
+    ///     (λ walk. are_plain false walk.aim.components ≡ is_plain pattern.now) }
     /// ```
     ///
     /// </details>
@@ -327,5 +329,23 @@ impl WalkMachine {
     #[must_use]
     pub fn given(&self) -> u128 {
         self.given
+    }
+
+    /// How many directories it keeps with their entries: those that it listed and has not gone through. The last step
+    /// in a directory drops it. With a plain pattern each is below the one before it, so over a content they are at most
+    /// as many as the longest key has names. It is 1 after `*` has given the first of two files, and 0 after the second.
+    ///
+    /// <details><summary>Contract</summary>
+    ///
+    /// ```text
+    /// ensures kept { result ≡ self.now.kept }
+    /// ensures few { (c : Content) → IsTrue (is_content c) → Agrees c self.now
+    ///     → IsTrue (are_plain false self.now.aim.components) → result < levels c }
+    /// ```
+    ///
+    /// </details>
+    #[must_use]
+    pub fn kept(&self) -> usize {
+        self.walker.stack.frames.len()
     }
 }

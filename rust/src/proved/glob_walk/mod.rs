@@ -1,4 +1,4 @@
-//! Made by `bin/rust_crate` from `crates/glob_walk/src/lib.rt`, where its contracts are: sha256 5aa58c0e8306f44f.
+//! Made by `bin/rust_crate` from `crates/glob_walk/src/lib.rt`, where its contracts are: sha256 54d69e334c4b6d74.
 //!
 //! The walk of a pattern over a tree, as a machine whose caller answers its questions.
 

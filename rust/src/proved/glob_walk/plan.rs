@@ -1,4 +1,4 @@
-//! Made by `bin/rust_crate` from `crates/glob_walk/src/plan.rt`, where its contracts are: sha256 9ed62834cba123e1.
+//! Made by `bin/rust_crate` from `crates/glob_walk/src/plan.rt`, where its contracts are: sha256 951959d5bd3f2e00.
 //!
 //! What a walk looks for.
 //!
@@ -12,7 +12,7 @@ use crate::proved::glob_walk::component::{is_recursive, Component};
 
 /// What a walk looks for: the components of a pattern, in order.
 pub struct Plan {
-    /// The components. No two adjacent ones are `**`.
+    /// The components, in which no character is a separator. No two adjacent ones are `**`.
     pub components: Vec<Component>,
     /// How names are matched.
     pub options: MatchOptions,

@@ -1,4 +1,4 @@
-//! Made by `bin/rust_crate` from `crates/glob_walk/src/stack.rt`, where its contracts are: sha256 4902bc658fee265b.
+//! Made by `bin/rust_crate` from `crates/glob_walk/src/stack.rt`, where its contracts are: sha256 b6c5db595e46ac34.
 //!
 //! What a walk still has to do.
 //!
@@ -7,7 +7,8 @@
 //! it, with its names. In a directory listed for `**`, the last step enters the last entry. That comes after the entry
 //! was met, so the directory stays while the components after `**` go on in the entry. Down a chain of directories with
 //! one entry each, the stack so holds at most one directory for each `**` and one more, and not the whole chain (no
-//! clause says this).
+//! clause says this). With a plain pattern each directory is below the one before it, so over a content there are at
+//! most as many as its longest key has names: the clause `few` of `WalkMachine::kept`.
 
 use crate::proved::glob_walk::frame::Frame;
 use crate::proved::glob_walk::plan::Plan;

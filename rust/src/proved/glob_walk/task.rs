@@ -1,4 +1,4 @@
-//! Made by `bin/rust_crate` from `crates/glob_walk/src/task.rt`, where its contracts are: sha256 9ff60e158f629c6c.
+//! Made by `bin/rust_crate` from `crates/glob_walk/src/task.rt`, where its contracts are: sha256 70662a7a19e9780b.
 //!
 //! What a walk does next: a path, and the number of the component from which it goes on there.
 

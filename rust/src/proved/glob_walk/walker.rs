@@ -1,4 +1,4 @@
-//! Made by `bin/rust_crate` from `crates/glob_walk/src/walker.rt`, where its contracts are: sha256 8ea9fbeaf81b9e15.
+//! Made by `bin/rust_crate` from `crates/glob_walk/src/walker.rt`, where its contracts are: sha256 1475deb83b1070c2.
 //!
 //! The turns of a walk.
 //!

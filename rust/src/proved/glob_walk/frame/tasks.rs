@@ -1,4 +1,4 @@
-//! Made by `bin/rust_crate` from `crates/glob_walk/src/frame/tasks.rt`, where its contracts are: sha256 e52c373d237dba5c.
+//! Made by `bin/rust_crate` from `crates/glob_walk/src/frame/tasks.rt`, where its contracts are: sha256 ff876fc5e00d3f3b.
 //!
 //! The tasks that follow from a directory's entries, and from `.` and `..` in it.
 //!

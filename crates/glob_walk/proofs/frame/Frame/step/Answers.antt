@@ -1,12 +1,14 @@
-use Rattle.std.proofs.Common.{cond, Result, Ok, Err, ◌+◌, ◌≤◌, Bool, true, false, Option, Some, None, length, arith, ap, ◌∙◌, sym}
+use Rattle.std.proofs.Common.{cond, Result, Ok, Err, ◌+◌, ◌≤◌, Bool, true, false, Option, Some, None, length, arith, refl, ap, ◌≡◌, ◌∙◌, sym}
 use Rattle.std.specs.Prelude.{nat_le, string_bytes, OnOk}
-use Rattle.std.proofs.lemmas.Bool.{leb-false}
+use Rattle.std.proofs.lemmas.Bool.{both_ways, leb-false}
 use Rattle.std.proofs.lemmas.Result.{IfOk-weaker}
 use Rattle.glob_walk.specs.declared.plan.Plan.{Plan}
 use Rattle.glob_walk.specs.declared.task.Task.{Task}
 use Rattle.glob_walk.specs.declared.task.TaskState.{TaskState}
 use Rattle.glob_walk.specs.declared.task.TaskState.TheVariants as state
-use Rattle.glob_walk.specs.declared.frame.Cursor.TheVariants.{At, Inside}
+use Rattle.glob_walk.specs.declared.frame.Cursor.TheVariants.{Parent, Current, At, Inside}
+use Rattle.glob_walk.specs.declared.frame.Cursor.{Cursor}
+use Rattle.glob_walk.specs.Private.Depths.{is_special}
 use Rattle.glob_walk.specs.Private.Tasks.{next_marks, next_ready, state_ready}
 use Rattle.glob_walk.specs.Private.Frames.{cursor_steps, cursor_unmet, is_done_at}
 use Rattle.glob_walk.proofs.WalkLemmas.Stepping.{contained_at, at_step, inside_step}
@@ -173,3 +175,44 @@ returns-after-self-clause-ready g c =
       )
     ])
     c.met_task.ensures.marks
+
+-- a plain component looks for no special names
+no_special : {P : Type 0} (p other : Cursor) → p ≡ other → is_special other ≡ true → is_special p ≡ false → P
+no_special p other is yes' named = absurd (both_ways (is_special other) (ap is_special (sym is) ∙ named) yes')
+
+pub returns-in-Parent-clause-deep : goal.returns-in-Parent-clause-deep
+returns-in-Parent-clause-deep g c = IfOk-weaker c.special_task.result _ _ (λ task none c' n h. no_special
+    c.args.self.now.cursor Parent c.in-Parent.is refl h.named) c.special_task.ensures.ready
+
+pub returns-in-Current-clause-deep : goal.returns-in-Current-clause-deep
+returns-in-Current-clause-deep g c = IfOk-weaker c.special_task-in-Current.result _ _ (λ task none c' n h. no_special
+    c.args.self.now.cursor Current c.in-Current.is refl h.named) c.special_task-in-Current.ensures.ready
+
+pub returns-after-self-clause-deep : goal.returns-after-self-clause-deep
+returns-after-self-clause-deep g c =
+    let below = leb-false (length c.args.self.now.entries.items) c.in-At.i
+    (sym (ap (is_done_at (length c.args.self.now.entries.items)) c.in-At.is) ∙ c.requires.going) in
+    let named : is_special c.if-self.self ≡ false = elim c.if-self.branch [
+      | then-self w ↦ ap is_special w.self-is
+      | else-self w ↦ ap is_special w.self-is
+    ] in
+    IfOk-weaker c.met_task.result _ _
+    (λ task deep c' n h. (
+      deep c' (n + 1) h.at (h.entries (c.index.result.now.name, c.index.result.now.is_dir)
+          (contained_at c.args.self.now.entries.items c.in-At.i c.index.result.now below c.index.ensures)),
+      record { at = h.at; entries = h.entries; named = named },
+    ))
+    c.met_task.ensures.deep
+
+pub returns-in-Inside-clause-deep : goal.returns-in-Inside-clause-deep
+returns-in-Inside-clause-deep g c =
+    let below = leb-false (length c.args.self.now.entries.items) c.in-Inside.i
+    (sym (ap (is_done_at (length c.args.self.now.entries.items)) c.in-Inside.is) ∙ c.requires.going) in
+    IfOk-weaker c.entered_task.result _ _
+    (λ task deep c' n h. (
+      deep c' (n + 1) h.at (h.entries (c.index-in-Inside.result.now.name, c.index-in-Inside.result.now.is_dir)
+          (contained_at c.args.self.now.entries.items c.in-Inside.i c.index-in-Inside.result.now below
+          c.index-in-Inside.ensures)),
+      record { at = h.at; entries = h.entries; named = refl },
+    ))
+    c.entered_task.ensures.deep

@@ -14,7 +14,7 @@ returns-clause-fresh g c = record {
   given = refl;
   over = refl;
   asked = refl;
-  agrees = λ c'. sound-fresh c' _ _ refl refl refl (search rules);
+  agrees = λ c'. sound-fresh c' _ _ refl refl refl refl c.requires.start (search rules);
   whole = λ c'. left-fresh c' c.args.plan (record { path = c.args.start; component = 0; state = Unseen Any }) c.new-frames.result.items
       refl refl (search rules) c.requires.start;
 }

@@ -1,17 +1,22 @@
 use Rattle.std.proofs.Common.{false, sym, ap, subst, ◌∙◌}
+use Rattle.std.specs.List.{list_all}
+use Rattle.std.specs.Path.{has_no_slash}
 use Rattle.glob_text.specs.Pieces.{pieces}
 use Rattle.glob_walk.specs.Components.{first_fault}
 use Rattle.glob_walk.specs.Private.Forms.{text_fault}
 use Rattle.glob_walk.specs.Walks.{RefusesWith}
 use Rattle.glob_walk.proofs.WalkLemmas.Reading.{walk_fault-whole, walk_fault-components, IfErr-from_known}
 use Rattle.glob_walk.specs.Private.Merging.{are_merged}
-use Rattle.glob_walk.proofs.WalkLemmas.Merging.{are_merged-merged}
+use Rattle.glob_walk.proofs.GoalLemmas.PatternParts.{pieces-flat}
+use Rattle.glob_walk.proofs.WalkLemmas.Merging.{are_merged-merged, list_all-merged}
 use Rattle.glob_walk.proofs.plan.Plan.read.Goals as goal
 
 pub invariant_of-result : goal.invariant_of-result
 invariant_of-result g c = record {
   merged = ap are_merged c.in_ok-components.ensures.components ∙ are_merged-merged
       false (pieces c.past_root.result.now);
+  names = ap (list_all has_no_slash) c.in_ok-components.ensures.components
+      ∙ list_all-merged has_no_slash false (pieces c.past_root.result.now) (pieces-flat c.past_root.result.now);
 }
 
 pub returns-in_err-check-clause-refused : goal.returns-in_err-check-clause-refused

@@ -1,12 +1,13 @@
 use Rattle.std.proofs.Common.{refl, ◌≡◌, ◌+◌, ◌++◌, ◌∙◌, true, subst, sym, ap, arith}
-use Rattle.std.specs.List.{All, sum_by}
+use Rattle.std.specs.List.{sum_by}
 use Rattle.std.proofs.lemmas.List.Elements.{All-push}
 use Rattle.std.proofs.lemmas.Result.{err_from_is_err_and}
 use Rattle.std.proofs.lemmas.List.Sums.{sum_by_push}
 use Rattle.glob_walk.specs.Private.Frames.{frame_marks, is_done, unmet, IsFrameSound}
 use Rattle.glob_walk.specs.Private.Tasks.{next_marks}
-use Rattle.glob_walk.specs.Private.Stacks.{left, frames_marks}
-use Rattle.glob_walk.proofs.WalkLemmas.Stacking.{done_marks, left_none, frames_last}
+use Rattle.glob_walk.specs.Private.Stacks.{left, frames_marks, AreSound}
+use Rattle.glob_walk.proofs.WalkLemmas.Stacking.{done_marks, left_none, frames_last, sound_none}
+use Rattle.glob_walk.proofs.WalkLemmas.Depths.{deep_opened}
 use Rattle.glob_walk.proofs.stack.Stack.open.Goals as goal
 
 pub returns-then-is_done-clause-left : goal.returns-then-is_done-clause-left
@@ -34,11 +35,12 @@ returns-clause-ready g c =
     omega (arith, more)
 
 pub returns-clause-sound : goal.returns-clause-sound
-returns-clause-sound g c = λ c' f h. record {
-  next = h.next;
-  frames = subst (All (IsFrameSound c'))
-      (sym c.in_ok-push.ensures.items) (All-push (IsFrameSound c') c.args.self.now.frames.items c.args.frame h.frames f);
-}
+returns-clause-sound g c = λ c' f h.
+    let s = c.args.self.now in
+    sound_none c' _ c.requires.none (subst (AreSound c' s.plan) (sym c.in_ok-push.ensures.items) (record {
+      entries = All-push (IsFrameSound c') s.frames.items c.args.frame h.frames.entries f.entries;
+      deep = λ plain. deep_opened c' s.plan s.frames.items c.args.frame (h.frames.deep plain) (f.deep plain);
+    }))
 
 pub returns-then-is_done-clause-plan : goal.returns-then-is_done-clause-plan
 returns-then-is_done-clause-plan g c = refl

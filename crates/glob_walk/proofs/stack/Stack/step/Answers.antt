@@ -2,6 +2,7 @@ use Rattle.std.proofs.Common.{◌≡◌, ℕ, ◌+◌, ◌-◌, ◌<◌, ◌≤�
 use Rattle.std.proofs.Common.{Some, refl, sym, ap, ◌∙◌, ◌++◌, subst, arith}
 use Rattle.std.specs.Prelude.{vec_len, sum_by}
 use Rattle.std.specs.List.{All}
+use Rattle.std.proofs.lemmas.List.{length-set, length-take}
 use Rattle.std.proofs.lemmas.List.Elements.{All-get_or, All-set}
 use Rattle.std.proofs.lemmas.List.Sums.{sum_by-set, sum_by-take-le}
 use Rattle.glob_walk.specs.declared.task.Task.{Task}
@@ -10,6 +11,8 @@ use Rattle.glob_walk.specs.declared.task.TaskState.TheVariants as state
 use Rattle.glob_walk.specs.Private.Tasks.{next_marks}
 use Rattle.glob_walk.specs.Private.Frames.{is_done, unmet, IsFrameSound}
 use Rattle.glob_walk.specs.Private.Stacks.{frames_marks, state_weight, next_weight, frame_weight}
+use Rattle.glob_walk.specs.Private.Depths.{IsFrameDeep, IsPlainOver}
+use Rattle.glob_walk.proofs.WalkLemmas.Depths.{IsNextDeep-fewer, deep_last, deep_rest, deep_step}
 use Rattle.glob_walk.proofs.WalkLemmas.Stacking.{step_left, last_step_left, All-front}
 use Rattle.glob_walk.proofs.stack.Stack.step.Goals as goal
 
@@ -54,18 +57,24 @@ returns-then-is_done-clause-left g c = λ c'.
 
 pub returns-then-is_done-clause-sound : goal.returns-then-is_done-clause-sound
 returns-then-is_done-clause-sound g c = λ c' h.
-    let frame : IsFrameSound c' c.in-Some.frame.now =
-    last-holds (IsFrameSound c') c.args.self.now.frames.items (vec_len c.args.self.now.frames - 1) c.in-Some.frame.now
-    (omega (arith, c.in-Some.ensures.variant.0 refl, c.args.self.now.frames.ok.0)) c.in-Some.ensures.value h.frames
-    in
+    let s = c.args.self.now in
+    let n = vec_len s.frames - 1 in
+    let last : n + 1 ≡ length s.frames.items = omega (arith, c.in-Some.ensures.variant.0 refl, s.frames.ok.0) in
+    let frame = last-holds (IsFrameSound c') s.frames.items n c.in-Some.frame.now last c.in-Some.ensures.value h.frames.entries in
+    let popped = c.pop-then-is_done.ensures.rest in
+    let fewer : length c.pop-then-is_done.new.self.items ≤ n + 1 =
+    omega (arith, ap length popped, length-take n (set s.frames.items n c.step.new.self)) in
     record {
       next = c.in-Ok.ensures.sound c' frame;
-      frames = All-front (IsFrameSound c') c.args.self.now.frames.items c.pop-then-is_done.new.self.items
-          (vec_len c.args.self.now.frames - 1) c.step.new.self (omega (
-            arith,
-            c.in-Some.ensures.variant.0 refl,
-            c.args.self.now.frames.ok.0,
-          )) c.pop-then-is_done.ensures.rest h.frames;
+      deep = λ plain. IsNextDeep-fewer c' s.plan (n + 1) (length c.pop-then-is_done.new.self.items) c.in-Ok.task fewer
+          (c.in-Ok.ensures.deep c' n (deep_last c' s.plan s.frames.items n c.in-Some.frame.now c.step.new.self last
+          c.in-Some.ensures.value (h.frames.deep plain))).0;
+      frames = record {
+        entries = All-front (IsFrameSound c') s.frames.items c.pop-then-is_done.new.self.items n c.step.new.self last popped
+            h.frames.entries;
+        deep = λ plain. deep_rest c' s.plan s.frames.items n c.in-Some.frame.now c.step.new.self last c.in-Some.ensures.value
+            (h.frames.deep plain) c.pop-then-is_done.new.self.items popped;
+      };
     }
 
 pub returns-else-is_done-clause-falls : goal.returns-else-is_done-clause-falls
@@ -114,13 +123,22 @@ step-requires-clause-within g c =
 
 pub returns-else-is_done-clause-sound : goal.returns-else-is_done-clause-sound
 returns-else-is_done-clause-sound g c = λ c' h.
-    let n = vec_len c.args.self.now.frames - 1 in
-    let frame : IsFrameSound c' c.in-Some.frame.now =
-    last-holds (IsFrameSound c') c.args.self.now.frames.items n c.in-Some.frame.now
-    (omega (arith, c.in-Some.ensures.variant.0 refl, c.args.self.now.frames.ok.0)) c.in-Some.ensures.value h.frames
-    in
+    let s = c.args.self.now in
+    let n = vec_len s.frames - 1 in
+    let last : n + 1 ≡ length s.frames.items = omega (arith, c.in-Some.ensures.variant.0 refl, s.frames.ok.0) in
+    let frame = last-holds (IsFrameSound c') s.frames.items n c.in-Some.frame.now last c.in-Some.ensures.value h.frames.entries in
+    let fewer : length (set s.frames.items n c.step.new.self) ≤ n + 1 =
+    omega (arith, last, length-set s.frames.items n c.step.new.self) in
+    let below : IsPlainOver c' s.plan → IsFrameDeep c' s.plan n c.in-Some.frame.now =
+    λ plain. deep_last c' s.plan s.frames.items n c.in-Some.frame.now c.step.new.self last c.in-Some.ensures.value (h.frames.deep plain) in
     record {
       next = c.in-Ok.ensures.sound c' frame;
-      frames = All-set (IsFrameSound c') c.args.self.now.frames.items n c.step.new.self (subst (IsFrameSound c')
-          (sym c.in-Ok.ensures.same) (record { entries = frame.entries })) h.frames;
+      deep = λ plain. IsNextDeep-fewer c' s.plan (n + 1) (length (set s.frames.items n c.step.new.self)) c.in-Ok.task fewer
+          (c.in-Ok.ensures.deep c' n (below plain)).0;
+      frames = record {
+        entries = All-set (IsFrameSound c') s.frames.items n c.step.new.self (subst (IsFrameSound c')
+            (sym c.in-Ok.ensures.same) (record { entries = frame.entries })) h.frames.entries;
+        deep = λ plain. deep_step c' s.plan s.frames.items n c.in-Some.frame.now c.step.new.self last c.in-Some.ensures.value
+            (h.frames.deep plain) (c.in-Ok.ensures.deep c' n (below plain)).1;
+      };
     }

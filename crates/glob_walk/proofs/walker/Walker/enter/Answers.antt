@@ -1,9 +1,10 @@
-use Rattle.std.proofs.Common.{Bool, rules, ◌≡◌, ◌∷◌, ◌++◌, ℕ, ◌+◌, ◌≤◌, true, false, length, drop, refl, ap, sym, ◌∙◌, arith}
+use Rattle.std.proofs.Common.{Bool, rules, ◌≡◌, ◌∷◌, ◌++◌, ℕ, ◌+◌, ◌≤◌, true, false, length, drop, refl, ap, sym, subst, ◌∙◌, arith}
 use Rattle.std.specs.Prelude.{string_bytes, nat_le, not, ◌||◌}
 use Rattle.glob_walk.specs.Marks.{Give, Found}
 use Rattle.glob_walk.specs.Components.{is_literal, is_recursive}
 use Rattle.glob_walk.specs.declared.task.TaskState.TheVariants.{Seen}
 use Rattle.glob_walk.specs.Private.Tasks.{enter_from, next_ready, state_ready, IsOpened}
+use Rattle.glob_walk.specs.Private.Depths.{IsDeepPath}
 use Rattle.glob_walk.specs.Private.Queries.{query_ready}
 use Rattle.glob_walk.specs.Private.Stacks.{frames_marks}
 use Rattle.glob_walk.proofs.WalkLemmas.Charging.{TurnsTo-memory, TurnsTo-said, uncharged, if_given, if_not_given}
@@ -42,7 +43,13 @@ returns-then-is_literal-clause-turn g c =
       plan = refl;
       asks = c.requires.idle.0;
       ready = omega (arith, free, c.in-Ok.ensures.ready);
-      sound = λ c' w h. sound_free c' _ c.requires.idle.0 (record { next = c.in-Ok.ensures.sound c'; frames = h.stack.frames });
+      sound = λ c' w h. sound_free c' _ c.requires.idle.0 (record {
+        next = c.in-Ok.ensures.sound c';
+        deep = λ over. let task = h.stack.deep over in
+            c.in-Ok.ensures.deep c' (length frames) over.content task.plain
+            (subst (IsDeepPath c' (length frames)) (sym c.as_str-path.ensures.value) task.deep);
+        frames = h.stack.frames;
+      });
       takes = λ c' w h. uncharged _ _ _
           (ap (λ ms. ms ++ frames_marks c' plan frames) (ap (λ p. enter_from c' plan c.args.number p c.args.is_dir)
           (sym c.as_str-path.ensures.value) ∙ c.in-Ok.ensures.marks c')

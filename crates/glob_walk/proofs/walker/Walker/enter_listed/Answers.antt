@@ -10,6 +10,8 @@ use Rattle.glob_walk.specs.Private.Frames.{frame_marks, cursor_marks}
 use Rattle.glob_walk.specs.Private.Stacks.{left, frames_marks}
 use Rattle.std.proofs.lemmas.List.{length-map}
 use Rattle.glob_walk.specs.declared.frame.Cursor.TheVariants.{At, Parent}
+use Rattle.glob_walk.specs.Private.Depths.{is_special}
+use Rattle.glob_walk.proofs.WalkLemmas.Depths.{entry_deep, first_named, named}
 use Rattle.glob_walk.proofs.WalkLemmas.Kinds.{opened_answer}
 use Rattle.glob_walk.proofs.WalkLemmas.Listings.{held, is_cut}
 use Rattle.glob_walk.proofs.WalkLemmas.Opening.{held_sound, opened_charges, opened_cut, first_unmet}
@@ -79,10 +81,21 @@ returns-in-Ok g c =
             charged,
           );
       sound = λ c' w h. sound_free c' _ c.requires.idle.0 (c.in-Ok.ensures.sound c' (record {
-        entries = λ e in'. held_sound c' (IsContent-from_test c' w.0) c.args.self.now.stack.plan c.args.recursive
-            c.args.component (string_bytes c.args.path) c.requires.listed.opens h.query e
-            (held c' (string_bytes c.args.path) c.args.kinds c.args.entries.items c.sort_entries.new.entries.items w.1
-            c.sort_entries.ensures.permutation e in');
+        entries = record {
+          entries = λ e in'. held_sound c' (IsContent-from_test c' w.0) c.args.self.now.stack.plan c.args.recursive
+              c.args.component (string_bytes c.args.path) c.requires.listed.opens h.query e
+              (held c' (string_bytes c.args.path) c.args.kinds c.args.entries.items c.sort_entries.new.entries.items w.1
+              c.sort_entries.ensures.permutation e in');
+        };
+        deep = λ over. let asked = h.deep over in record {
+          at = record { opens = c.requires.listed.opens; plain = asked.plain };
+          entries = λ e in'. entry_deep c' (IsContent-from_test c' w.0) _ (string_bytes c.args.path) e.0 h.query
+              (named c' (string_bytes c.args.path) c.args.kinds c.args.entries.items c.sort_entries.new.entries.items w.1
+              c.sort_entries.ensures.permutation e in') asked.deep;
+          named = ap is_special (cursor ∙ ap (λ b. cond b Parent (At 0)) c.is_dotted.ensures)
+              ∙ first_named c.args.recursive (drop c.args.component c.args.self.now.stack.plan.components.items)
+              c.requires.listed.opens asked.plain;
+        };
       }) (sound_none c' c.args.self.now.stack c.requires.idle.1 h.stack.frames));
       takes = λ c' w h.
           let rest = frames_marks c' c.args.self.now.stack.plan c.args.self.now.stack.frames.items in

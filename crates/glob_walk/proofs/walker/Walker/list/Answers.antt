@@ -42,7 +42,11 @@ returns g c =
       plan = refl;
       asks = (refl, (c.requires.idle.1, record { within = search rules; opens = c.requires.opens; names = c.needs_kinds-kinds.ensures }));
       ready = omega (arith, none, c.charge.ensures.charged c.if-not-charge.false);
-      sound = λ c' w h. record { query = h.stack.next refl; stack = sound_none c' s c.requires.idle.1 h.stack.frames };
+      sound = λ c' w h. record {
+        query = h.stack.next refl;
+        deep = λ plain. let task = h.stack.deep plain in record { plain = task.plain; deep = task.deep };
+        stack = sound_none c' s c.requires.idle.1 h.stack.frames;
+      };
       takes = λ c' w h. record {
         before = c.args.self.now.meter.spent;
         charges = record {

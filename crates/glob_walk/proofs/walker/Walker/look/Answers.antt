@@ -32,7 +32,11 @@ returns g c =
       plan = refl;
       asks = (tt, (c.requires.idle.1, tt));
       ready = omega (arith, none, c.charge.ensures.charged c.if-not-charge.false);
-      sound = λ c' w h. record { query = tt; stack = sound_none c' s c.requires.idle.1 h.stack.frames };
+      sound = λ c' w h. record {
+        query = tt;
+        deep = λ plain. let task = h.stack.deep plain in record { plain = task.plain; deep = task.deep };
+        stack = sound_none c' s c.requires.idle.1 h.stack.frames;
+      };
       takes = λ c' w h. record {
         before = c.args.self.now.meter.spent;
         charges = record {

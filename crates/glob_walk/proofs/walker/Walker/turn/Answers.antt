@@ -6,7 +6,7 @@ use Rattle.glob_walk.specs.Private.Queries.{query_marks}
 use Rattle.glob_walk.specs.Private.Turns.{said}
 use Rattle.glob_walk.specs.Private.Stacks.{frames_marks, next_weight, state_weight}
 use Rattle.glob_walk.proofs.WalkLemmas.Charging.{TurnsTo-memory, TurnsTo-said, TurnsTo-task, uncharged}
-use Rattle.glob_walk.proofs.WalkLemmas.Stacking.{left_free, sound_none}
+use Rattle.glob_walk.proofs.WalkLemmas.Stacking.{left_free, sound_free, sound_none}
 use Rattle.glob_walk.proofs.walker.Walker.turn.Goals as goal
 
 pub step-requires : goal.step-requires
@@ -61,11 +61,8 @@ returns-in-Ok-true-clause-turn g c =
       plan = c.step.ensures.plan;
       asks = c.requires.free;
       ready = omega (arith, c.in-Ok-true.ensures.ready, ap (next_ready s.plan) (none ∙ sym c.take.ensures.after));
-      sound = λ c' w h. record {
-        query = h.query;
-        stack = c.in-Ok-true.ensures.sound c'
-            (sound_none c' _ c.take.ensures.after h.stack.frames);
-      };
+      sound = λ c' w h. sound_free c' _ c.requires.free
+          (c.in-Ok-true.ensures.sound c' (sound_none c' _ c.take.ensures.after h.stack.frames));
       takes = λ c' w h. uncharged _ _ _
           (λ i. query_marks c' (sym c.step.ensures.plan i) c.args.self.now.query
           ++ (ap (λ n. next_marks c' s.plan n ++ frames_marks c' s.plan s.frames.items)
@@ -83,11 +80,8 @@ returns-in-Ok-false-clause-turn g c =
       plan = c.step.ensures.plan;
       asks = c.requires.free;
       ready = omega (arith, c.in-Ok-false.ensures.ready, ap (next_ready s.plan) (none ∙ sym c.take.ensures.after));
-      sound = λ c' w h. record {
-        query = h.query;
-        stack = c.in-Ok-false.ensures.sound c'
-            (sound_none c' _ c.take.ensures.after h.stack.frames);
-      };
+      sound = λ c' w h. sound_free c' _ c.requires.free
+          (c.in-Ok-false.ensures.sound c' (sound_none c' _ c.take.ensures.after h.stack.frames));
       takes = λ c' w h.
           let over = c.in-Ok-false.ensures.over c.in-Ok-false.field-0-test c' in (
             uncharged _ _ _
