@@ -9,6 +9,7 @@ use glob_replay_matches::cases::MatchCases;
 use glob_replay_memory::rationing::Rationed;
 use glob_replay_memory::{matches, replay_row};
 use glob_replay_programs::Programs;
+use glob_replay_searches::Searches;
 use glob_replay_walks::cases::add_walk;
 use glob_replay_walks::{Walks, disk, trees, walks};
 use std::io;
@@ -71,6 +72,7 @@ impl Make for All {
                 Walks.make(calls, row)
             }
             ["copy" | "write" | "write whole", ..] => Programs.make(calls, row),
+            ["search at random", ..] => Searches.make(calls, row),
             [
                 "plain.tsv" | "change a tree" | "walk" | "walk far" | "walk to an error",
                 ..

@@ -1,5 +1,5 @@
 //! The calls `glob` and `glob_with` over a folder that the test makes.
-use glob::{GlobCause, MatchOptions, Pattern, PatternRefusal, glob, glob_with};
+use glob::{FilesSystem, GlobCause, MatchOptions, Pattern, PatternRefusal, glob, glob_with};
 use std::io::ErrorKind;
 use std::test::Fail;
 use std::{env, fs, io};
@@ -55,6 +55,28 @@ fn a_folder_that_is_removed_is_an_error(rt: HostRuntime) -> Result<(), Fail> {
         assert!(rt; error.error().kind() == ErrorKind::NotFound);
         assert!(rt; paths.next().is_none());
     }
+    fs::remove_dir(&rt, folder.as_str())?;
+    Ok(())
+}
+
+/// A walk of any `Files` gives what is in a folder, and then ends.
+#[test]
+fn any_files_are_walked(rt: HostRuntime) -> Result<(), Fail> {
+    let files = FilesSystem { files: rt };
+    let folder = new_folder(rt)?;
+    let inner = format!(in rt.alloc(); "{folder}/e")?;
+    let pattern = format!(in rt.alloc(); "{}/*", Pattern::escape(rt.alloc(), folder.as_str())?)?;
+    fs::create_dir(&rt, inner.as_str())?;
+    for options in [None, Some(MatchOptions::new())] {
+        let mut paths = match options {
+            None => glob(files, rt.alloc(), pattern.as_str())?,
+            Some(options) => glob_with(files, rt.alloc(), pattern.as_str(), options)?,
+        };
+        let first = paths.next().expect(&rt, "an item")?;
+        assert_eq!(rt; first.as_str(), inner.as_str());
+        assert!(rt; paths.next().is_none());
+    }
+    fs::remove_dir(&rt, inner.as_str())?;
     fs::remove_dir(&rt, folder.as_str())?;
     Ok(())
 }

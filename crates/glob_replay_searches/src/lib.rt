@@ -1,0 +1,15 @@
+//! Random searches over trees in memory. What each finds is compared with a filter of all paths: those that one of the
+//! patterns matches whole and that one list of all rules does not ignore.
+#![tactic(auto)]
+
+mod case;
+mod chance;
+mod filter;
+mod forest;
+mod found;
+mod rows;
+mod rule_texts;
+#[cfg(test)]
+mod tests;
+
+pub use rows::Searches;
