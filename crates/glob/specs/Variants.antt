@@ -1,4 +1,4 @@
--- The variants of the library's enums, under the name of each.
+-- The variants of the library's enums, listed under the name of each enum.
 pub use Rattle.glob_lines.specs.declared.fault.LineFault.TheVariants as LineFault
 pub use Rattle.glob_pattern.specs.declared.error.PatternRefusal.TheVariants as PatternRefusal
 pub use Rattle.glob_pattern.specs.declared.matcher.Shape.TheVariants as Shape

@@ -12,10 +12,10 @@ use glob_pattern::{MatchOptions, PatternRefusal};
 use glob_tree::{Disk, System};
 use std::alloc::Allocator;
 
-/// Walks the file system that `rt` reaches after the components of a pattern, as [`glob_in`](crate::glob_in) does over
-/// a [`Disk`], with the options of `MatchOptions::new()` and the limit `u64::MAX`, which no walk reaches.
+/// Walks the file system that `rt` reaches, as [`glob_in`](crate::glob_in) walks a [`Disk`], with the options of
+/// `MatchOptions::new()` and the limit `u64::MAX`, which no walk reaches.
 ///
-/// `glob(rt, alloc, "src/*.rs")` gives `src/lib.rs` and `src/walk.rs`, in this order, where these files are there.
+/// If these files exist, `glob(rt, alloc, "src/*.rs")` gives `src/lib.rs` and `src/walk.rs`, in this order.
 /// The errors are those of [`glob_in`](crate::glob_in).
 pub fn glob<R: System, A: Allocator + Copy>(
     rt: R,
@@ -32,7 +32,7 @@ pub fn glob<R: System, A: Allocator + Copy>(
     glob_with(rt, alloc, pattern, MatchOptions::new())
 }
 
-/// As [`glob`], with these options. So with the dot rule `*` gives no dotted name. The errors are those of
+/// [`glob`] with these options: under the dot rule `*` gives no dotted name. The errors are those of
 /// [`glob_in`](crate::glob_in).
 pub fn glob_with<R: System, A: Allocator + Copy>(
     rt: R,

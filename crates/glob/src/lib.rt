@@ -2,7 +2,7 @@
 //!
 //! | Pattern | Matches |
 //! |---|---|
-//! | `main.rs` | that text alone |
+//! | `main.rs` | only that text |
 //! | `?at` | `cat` and `Hat`, not `at` |
 //! | `*.rs` | `main.rs`, `.rs` and, without the separator rule, `src/main.rs` |
 //! | `src/**/*.rs` | `src/main.rs` and `src/a/b/c.rs`: `**` takes any number of whole components |
@@ -12,17 +12,17 @@
 //!
 //! `Pattern::new` parses a [`Pattern`]. If the text is not a pattern, it reports the first fault and its place in
 //! characters: for `a**` place 0, since `**` has to be a whole component. `Pattern::escape` writes the pattern that
-//! stands for a text alone.
+//! matches only the given text.
 //!
 //! [`MatchOptions`] set case, the separator rule and the dot rule. [`filter_lines`] copies the lines of a reader that a
-//! pattern matches, and [`filter_records`] what another byte ends. [`run_positions`] decides for any [`Judge`], of any
-//! alphabet, whether its characters split into pieces.
+//! pattern matches, and [`filter_records`] does so for records that end in another byte. [`run_positions`] decides for
+//! any [`Judge`], over any alphabet, whether characters split into pieces.
 //!
 //! [`glob`] walks the file system and gives each path that a pattern leads to; [`glob_with`] takes options. [`glob_in`]
 //! walks any [`Tree`] within a limit, item by item, and [`walk_in`] gathers a whole walk. [`MemTree`] is a tree in
 //! memory, and [`Disk`] the file system that a [`System`] reaches: the real one, the files of a runtime of your own
-//! ([`FilesSystem`]) or, for tests, a [`MemSystem`]. A [`WalkMachine`] is a walk without a tree, whose questions any
-//! program answers.
+//! ([`FilesSystem`]) or, for tests, a [`MemSystem`]. A [`WalkMachine`] is a walk without a tree: the calling program
+//! answers its questions.
 //!
 //! A call that makes or grows something takes its allocator, and reports an allocation failure as an error.
 #![tactic(auto)]

@@ -16,11 +16,11 @@ use glob_pattern::{MatchOptions, PatternRefusal};
 use glob_tree::Tree;
 use glob_walk::{End, GlobResult, end_of};
 
-/// A whole walk. That of `*` over a file `x` has the item `x`, the end `Done`, and 3 units spent: for the lookup of the
-/// start, its listing, and the entry.
+/// The result of a whole walk. For `*` over a file `x` it has the item `x`, the end `Done`, and 3 units spent: for the
+/// lookup of the start, its listing, and the entry.
 #[derive(Debug, Drop)]
 pub struct Walk<T: Tree> {
-    /// Its items, in order: a beginning of them where it did not end with `Done`.
+    /// The items, in order: only the first ones if the walk did not end with `Done`.
     pub items: Vec<GlobResult<T::Alloc>, T::Alloc>,
     /// How it ended.
     pub end: End,
@@ -30,23 +30,23 @@ pub struct Walk<T: Tree> {
     pub tree: T,
 }
 
-/// The whole walk of [`glob_in`](crate::glob_in), which alone refuses: so an error comes before the first lookup. A
-/// limit that does not suffice, and an allocation failure during the walk, are in `end` and not in `items`. With
-/// `End::Memory` the items are those of what was charged, but for at most the last one.
+/// Runs the walk of [`glob_in`](crate::glob_in) to its end. Its errors are those of `glob_in`, so they come before the
+/// first lookup. A limit that does not suffice, and an allocation failure during the walk, are in `end` and not in
+/// `items`. With `End::Memory` the last item that was charged for may be missing.
 ///
-/// A pattern is plain if no component is empty, `.` or `..`, and if each that has a wildcard and begins with a dot is
-/// right after a `**`. For a plain pattern, case-sensitively, over a tree with a known content, and where `end` is
-/// `Done`:
+/// A pattern is plain if no component is empty, `.` or `..`, and each component that has a wildcard and begins with a
+/// dot is right after a `**`. For a plain pattern, matched case-sensitively, over a tree with a known content, if `end`
+/// is `Done`:
 ///
 /// - The paths are those below the start that the whole pattern, without a `/` at its end, matches under the separator
 ///   rule, and under the dot rule if that is set. If the pattern ends in `/` or `**`, they are the directories among
-///   those. What lies below a directory that could not be listed may be missing: then the error is an item.
-/// - Each path comes once if `**` stands in at most one place, where `**/**` is one, and in order if besides at most
-///   one component follows it.
+///   those. What is below a directory that could not be listed may be missing; then the error is an item.
+/// - Each path comes once if `**` is in at most one place (`**/**` is one place), and the paths come in order if also
+///   at most one component follows it.
 ///
-/// Likewise, case-sensitively or not, the paths are those below the start whose names the components take: one without
-/// wildcards takes its own name alone, unless `**` is right before it; `**` takes any number of names; and another takes
-/// one name that it matches. So over a directory `aaa`, case-insensitively, `AAA` finds nothing, and `**/AAA` finds `aaa`.
+/// Case-sensitively or not, the paths are those below the start whose names the components take. A component without
+/// wildcards takes only its own name, unless it is right after `**`; `**` takes any number of names; any other takes
+/// one name that it matches. Over a directory `aaa`, case-insensitively, `AAA` finds nothing, and `**/AAA` finds `aaa`.
 ///
 /// `limit` is in units of work: lookups, listings and entries. Over files `x` and `y`, `walk_in(alloc, tree, "*",
 /// options, 4)` gives both and `End::Done`; with the limit 3 it gives none, and `End::Limit`.
@@ -79,8 +79,8 @@ pub fn walk_in<T: Tree>(
     walked(alloc, glob_in(alloc, tree, pattern, options, limit))
 }
 
-/// The whole of a walk that was begun, or the refusal of its pattern. Nothing else is refused, so a refusal comes
-/// before the first lookup.
+/// Runs a walk that was begun to its end, or returns the refusal of its pattern. Nothing else is refused, so a refusal
+/// comes before the first lookup.
 fn walked<T: Tree>(
     alloc: T::Alloc,
     begun: Result<Paths<T>, PatternRefusal>,
@@ -95,7 +95,7 @@ fn walked<T: Tree>(
     Ok(whole(alloc, paths))
 }
 
-/// The whole of a walk that has done nothing yet. It cannot fail.
+/// Runs a walk that has done nothing yet to its end. It cannot fail.
 fn whole<T: Tree>(alloc: T::Alloc, mut paths: Paths<T>) -> Walk<T>
     requires fresh { IsFresh paths.machine.limit paths.machine }
     ensures { EndsAs T.asks T.tells paths

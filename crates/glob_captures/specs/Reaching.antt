@@ -15,7 +15,7 @@ TakeFront o tokens text n k = PrefixSplits (table_of o tokens text) (map shape_o
 unfoldable pub Waits : MatchOptions → List Token → Text → (n k : ℕ) → Type 0
 Waits o tokens text n k = IsAlive (table_of o tokens text) (map shape_of tokens) n k
 
--- the last place up to which the first tokens take the text, for some number of them
+-- the last place up to which some number of first tokens take the text
 pub record IsFarthest (o : MatchOptions) (tokens : List Token) (text : Text) (place : ℕ) : Type 0 where
   pub within : place ≤ length text
   pub taken : (n : ℕ) × (n ≤ length tokens) × TakeFront o tokens text n place
@@ -26,7 +26,7 @@ abbrev pub AreWaiting : MatchOptions → List Token → Text → (place : ℕ) �
 AreWaiting o tokens text place waiting =
     (n : ℕ) → Contains waiting n ↔ ((n < length tokens) × Waits o tokens text n place)
 
--- The text can be taken up to this place, in bytes, and the tokens of these numbers wait there.
+-- The first tokens can take the text up to this place, in bytes, and the tokens with these numbers wait there.
 unfoldable pub IsReached : MatchOptions → List Token → Text → (place : ℕ) → (waiting : List ℕ) → Type 0
 IsReached o tokens text place waiting =
     (k : ℕ) × IsFarthest o tokens text k × (place ≡ length (encode_utf8_all (take k text)))

@@ -16,15 +16,15 @@ use std::alloc::{AllocError, Allocator, Global};
 /// How far a pattern got in a text.
 #[derive(Debug, Drop)]
 pub struct Reached<A: Allocator = Global> {
-    /// The last place, in bytes, up to which the first tokens take the text, for some number of them.
+    /// The last place, in bytes, up to which some number of first tokens take the text.
     pub place: usize,
     /// The numbers of the tokens that wait there for a character, ascending, counted from 0.
     pub waiting: Vec<usize, A>,
 }
 
-/// How far the pattern gets in the text: the last place, in bytes, up to which its first tokens take the text (for some
-/// number of them), and the numbers of all tokens that wait for a character there. If the text does not match, this is
-/// where it fails, and what the pattern expected there.
+/// How far the pattern gets in the text: the last place, in bytes, up to which some number of its first tokens take the
+/// text, and the numbers of all tokens that wait for a character there. If the text does not match, this is where it
+/// fails, and what the pattern expected there.
 ///
 /// For `*.rs` and `a.rc` the place is the end: `*` took all, and `*` and `.` wait. For `a[0-9]b` and `a1c` the place is
 /// 2, where token 2, the `b`, waits.
@@ -58,7 +58,7 @@ pub fn reach<A: Allocator + Copy, B: Allocator>(
     })
 }
 
-/// The last place up to which the first tokens take the text, for some number of them.
+/// The last place up to which some number of first tokens take the text.
 fn farthest<A: Allocator + Copy, B: Allocator>(
     alloc: A,
     pattern: &Pattern<B>,
@@ -131,8 +131,8 @@ fn fronts_at_start<A: Allocator>(alloc: A, text: &[char]) -> Result<Vec<bool, A>
     Ok(places)
 }
 
-/// Updates `whole` from the places up to which the tokens before this one take the text to the places up to which they
-/// and this one take it, and sets `alive` to the places where this one waits.
+/// Extends `whole`, the places up to which the tokens before this one take the text, to those up to which they and this
+/// one take it. Sets `alive` to the places where this one waits.
 fn step<A: Allocator>(
     pattern: &Pattern<A>,
     token: usize,

@@ -38,8 +38,8 @@ pub struct WalkSettings<'a> {
 }
 
 /// Walks the tree. Each path that the choice wants becomes a record of `output`, and the choice reports each error to
-/// `errors`, after the paths before it. The first path is written immediately. Later paths are gathered until there are
-/// 8 KiB of them, until an error or the end, or until the walk asks a question after a hundred units more.
+/// `errors`, after the paths before it. The first path is written immediately. Later ones wait until there are 8 KiB of
+/// them, an error comes, the walk ends, or it asks a question after a hundred more units.
 ///
 /// With files `x` and `y`, `*` writes the lines `x` and `y` if every path is wanted. With the limit 3 it writes none,
 /// and the walk ends with `Limit`. If the pattern is refused, `output` is unchanged. If a line cannot be written, the

@@ -13,7 +13,7 @@ one_file name = record {
   current = [];
 }
 
--- the key at which a look has this result
+-- the key at which a look has this result, if it found something
 abbrev pub key_seen : (name : Text) → Look → Option Key
 key_seen name look.Dir = Some []
 key_seen name look.Other = Some (name ∷ [])

@@ -66,8 +66,8 @@ impl<A: Allocator + Copy> CopyRules<A> {
     }
 }
 
-/// The paths found by a plain pattern that the rules copy. Either the walk finishes, or its first error is returned; so
-/// over a tree with known content none is missing. `limit` is in lookups, listings and entries.
+/// The paths found by a plain pattern that the rules copy. Either the walk finishes, or its first error is returned, so
+/// over a tree with known content no path is missing. `limit` is in lookups, listings and entries.
 ///
 /// All paths found are held in memory at once. Directories are paths too. With `src/**/*` and the lists `**/*.rs` and
 /// `**/tests/*`, `src/main.rs` is copied.

@@ -1,4 +1,4 @@
-//! A program's walk over a disk, where what the system holds is known.
+//! Walks over a disk whose system holds a known file system.
 ghost use Rattle.std.specs.Prelude.{IfOk, Some, option_and_then};
 ghost use Rattle.glob_tree.specs.Disks.{content_with_links};
 ghost use Rattle.glob_tree.specs.Followed.{followed};
@@ -9,8 +9,8 @@ use glob::{Disk, MatchOptions, MemSystem, MemTree, PatternRefusal, System, Walk,
 use glob_tree::{PhysicalDisk, Strays};
 use std::alloc::Allocator;
 
-/// The whole walk of a pattern over the disk that a system reaches. Where the system holds a known file system without
-/// symbolic links to directories and names that are not UTF-8, it finds in it what a walk over a tree in memory does.
+/// Walks the disk that a system reaches, for a pattern. If the system holds a known file system in which all names are
+/// UTF-8 and no symbolic link points to a directory, it finds what a walk over a tree in memory with this content does.
 pub fn walk_disk<S: System, A: Allocator + Copy>(
     alloc: A,
     system: S,
@@ -28,9 +28,9 @@ pub fn walk_disk<S: System, A: Allocator + Copy>(
     walk_in(alloc, Disk::new(system, alloc), pattern, options, limit)
 }
 
-/// The whole walk of a pattern over the disk that a system reaches, where symbolic links are kept. Where the system holds
-/// a known file system, it finds in it what a walk over a tree in memory does in which each symbolic link is a file, also
-/// one to a directory: nothing below a link is found. Names that are not UTF-8 go to `strays`.
+/// Walks the disk that a system reaches, for a pattern, with symbolic links kept. If the system holds a known file
+/// system, it finds what a walk over a tree in memory does in which each symbolic link is a file, even one to a
+/// directory: nothing below a link is found. Names that are not UTF-8 go to `strays`.
 pub fn walk_physical<R: System, S: Strays, A: Allocator + Copy>(
     alloc: A,
     system: R,
@@ -50,8 +50,8 @@ pub fn walk_physical<R: System, S: Strays, A: Allocator + Copy>(
     walk_in(alloc, disk, pattern, options, limit)
 }
 
-/// The whole walk of a pattern over a disk whose files are those of a tree in memory, with directories that are read in
-/// pieces of that many bytes. It finds what a walk over the tree itself does.
+/// Walks, for a pattern, a disk with the files of a tree in memory, whose directories are read in pieces of the given
+/// number of bytes. It finds what a walk over the tree itself does.
 pub fn walk_files<A: Allocator + Copy>(
     alloc: A,
     files: MemTree<A>,

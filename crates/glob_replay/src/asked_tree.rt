@@ -1,4 +1,4 @@
-//! A tree that counts what it is asked. Contracts know no content of it, so any answer is allowed.
+//! A tree that counts what it is asked. Contracts know nothing of its content, so it may give any answer.
 ghost use Rattle.std.specs.Prelude.{◌≡◌, ◌+◌, None};
 
 use crate::contents::tree_of;
@@ -13,13 +13,13 @@ use std::io;
 /// The answer of a listing.
 pub type Listed<A> = Result<Vec<Entry<A>, A>, ListError>;
 
-/// What answers.
+/// Where the answers come from.
 #[derive(Drop)]
 pub enum Source<'a, M: Memory> {
-    /// What is in a tree in memory.
+    /// From a tree in memory.
     Known(MemTree<M>),
-    /// In this memory the answers of the lookups, and those of the listings, in words: the first word is the answer of
-    /// the first call, and so on. The last word is the answer of all later calls.
+    /// From words in this memory, one list for lookups and one for listings: the first word is the answer to the first
+    /// call, and so on. The last word answers all later calls.
     Written(M, &'a str, &'a str),
 }
 
@@ -50,14 +50,14 @@ impl<M: Memory> Source<'_, M> {
     }
 }
 
-/// The first of the words, which is taken away, if it is not the last.
+/// Returns the first of the words, and removes it unless it is the last.
 fn next_word<'a>(words: &mut &'a str) -> &'a str {
     let (word, rest) = words.split_once(' ').unwrap_or((*words, *words));
     *words = rest;
     word
 }
 
-/// The entries of names between commas, with `/` after directories. `''` is none.
+/// The entries of a word: names separated by commas, with `/` after directories. `''` has none.
 fn entries_of<M: Memory>(alloc: M, names: &str) -> Listed<M> {
     let mut entries = Vec::new(alloc);
     for name in names.split(',').filter(|name| *name != "''") {
@@ -78,7 +78,7 @@ pub struct AskedTree<'a, M: Memory> {
 }
 
 impl<'a, M: Memory> AskedTree<'a, M> {
-    /// A tree that counts there.
+    /// A tree that counts in `counts`.
     pub fn new(source: Source<'a, M>, counts: &'a Counts) -> Self {
         AskedTree {
             source,
@@ -93,7 +93,7 @@ impl<'a, M: Memory> AskedTree<'a, M> {
         Ok(AskedTree::new(Source::Known(tree), counts))
     }
 
-    /// Counts so many lookups, listings or entries.
+    /// Counts this many lookups, listings or entries.
     fn count(&mut self, more: usize)
         ensures asks { self.new.asks ≡ self.old.asks + more }
     {

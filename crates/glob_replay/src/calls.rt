@@ -5,12 +5,12 @@ use std::io;
 
 /// The calls that rows of some subject are about.
 pub trait Make {
-    /// Makes the calls of a row, and adds what they answer. The error is memory that was refused, or a row that is not
-    /// one of the subject.
+    /// Makes the calls of a row, and adds their answers. The error is that memory was refused, or that the row is not
+    /// one of this subject.
     fn make<M: Memory>(&self, calls: &mut Calls<M>, row: &[&str]) -> io::Result<()>;
 }
 
-/// The calls of a row: the memory that they take, which is counted, and what they have answered.
+/// The calls of a row: the memory that they take, which is counted, and their answers.
 #[derive(Drop)]
 pub struct Calls<M: Memory> {
     pub alloc: M,
@@ -20,7 +20,7 @@ pub struct Calls<M: Memory> {
 }
 
 impl<M: Memory> Calls<M> {
-    /// Calls that have answered nothing yet. Their words are in memory that is not counted.
+    /// Calls that have answered nothing yet. Their answers are kept in memory that is not counted.
     pub fn new(alloc: M, other: M) -> Self {
         Calls {
             alloc,

@@ -7,7 +7,7 @@ use glob_tree::{MemTree, TreeRefusal};
 use std::alloc::{Allocator, Global};
 use std::io::{self, ErrorKind};
 
-/// The tree of a content in this memory, whose paths are written in `inner`, below a folder, which is then the current directory. The directory `shut` cannot be listed.
+/// The tree of a content, with paths in `inner`, from a folder on, its current directory. `shut` cannot be listed.
 pub fn tree_of<A: Allocator + Copy>(
     alloc: A,
     inner: Global,
@@ -46,7 +46,7 @@ fn plant<A: Allocator + Copy>(tree: &mut MemTree<A>, path: &str, is_shut: bool) 
     Ok(())
 }
 
-/// The error of a change that was refused.
+/// The error for a refused change.
 fn fault_of(refusal: TreeRefusal) -> io::Error {
     match refusal {
         TreeRefusal::Memory => out_of_memory(),
@@ -54,12 +54,12 @@ fn fault_of(refusal: TreeRefusal) -> io::Error {
     }
 }
 
-/// The path that a word of a content writes: `#a` and `a/` write `a`.
+/// The path that a word of a content has: `#a` and `a/` have `a`.
 pub fn name_of(word: &str) -> &str {
     word.trim_start_matches('#').trim_end_matches('/')
 }
 
-/// Whether a word of a content writes a directory.
+/// Whether a word of a content is that of a directory.
 pub fn is_directory(word: &str) -> bool {
     word.starts_with('#') || word.ends_with('/')
 }

@@ -1,15 +1,15 @@
-//! Counts of what is asked.
+//! Counts of the questions to a tree.
 
 use std::cell::Cell;
 
-/// How much was asked of a tree.
+/// How much a tree was asked.
 #[derive(Default, Drop)]
 pub struct Counts {
-    /// Lookups, listings and the entries of these.
+    /// Lookups, listings, and entries of listings.
     pub asked: Cell<u64>,
     /// How often entries or names were listed.
     pub listings: Cell<u64>,
-    /// How often names alone were.
+    /// How often only names were listed.
     pub namings: Cell<u64>,
 }
 

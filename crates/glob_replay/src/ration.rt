@@ -23,7 +23,7 @@ impl Model for Ration {
 }
 
 impl Ration {
-    /// Nothing was asked yet. The request of this number, counted from 1, is refused, if there is a number.
+    /// Nothing was asked yet. If there is a number, the request of this number, counted from 1, will be refused.
     pub fn new(refused: Option<u64>) -> Self
         ensures { result ≡ refused }
     {
@@ -35,12 +35,12 @@ impl Ration {
         }
     }
 
-    /// How many requests were counted so far, those that were refused among them.
+    /// How many requests were counted so far, including refused ones.
     pub fn asked(&self) -> u64 {
         self.asked.get()
     }
 
-    /// How many bytes these requests were for, in total. To grow a block counts with its new size.
+    /// How many bytes these requests were for, in total. A block that grows counts with its new size.
     pub fn bytes(&self) -> u64 {
         self.bytes.get()
     }
@@ -52,7 +52,7 @@ impl Ration {
             .is_some_and(|number| 0 < number && number <= asked)
     }
 
-    /// How many blocks are held: those that were asked for and not refused, without those that were given back.
+    /// How many blocks are held: those that were requested and not refused, minus those that were given back.
     pub fn held(&self) -> u64 {
         let given = self.asked().saturating_sub(u64::from(self.has_refused()));
         given.saturating_sub(self.given_back.get())
@@ -64,7 +64,7 @@ impl Ration {
         self.given_back.set(number);
     }
 
-    /// Counts a request for so many bytes, and says whether it is the refused one.
+    /// Counts a request for this many bytes, and returns whether it is the one to be refused.
     pub fn refuses_next(&self, size: usize) -> bool
         ensures { self.now ≡ None → result ≡ false }
     {
@@ -75,11 +75,11 @@ impl Ration {
     }
 }
 
-/// Memory whose requests are counted, one of which may be refused. What makes calls knows no more of it.
+/// Memory whose requests are counted, and one of which may be refused. That is all that callers know of it.
 pub trait Memory: Allocator + Copy {
-    /// What was asked so far.
+    /// The requests so far.
     fn ration(&self) -> &Ration;
 
-    /// Memory that is not counted, for what is written and compared.
+    /// Memory that is not counted, for output and comparisons.
     fn inner(&self) -> Global;
 }

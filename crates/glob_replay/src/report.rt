@@ -1,7 +1,7 @@
 //! Replays tables.
 //!
-//! The head of each file says how its lines are read. A table begins with a line `= NAME`. Of each table its name is
-//! printed, how many cases were compared and how many disagree, after each case that disagrees with what was found.
+//! The head of each file says how its lines are read. A table begins with a line `= NAME`. For each table, the cases
+//! that disagree are printed, then its name, how many cases were compared, and how many disagree.
 
 use crate::counts::raise;
 use crate::ration::Memory;
@@ -12,9 +12,9 @@ use std::alloc::Global;
 use std::cell::Cell;
 use std::{fs, io};
 
-/// Rows of all files.
+/// The rows of all files.
 pub trait Rows {
-    /// Replays a row of a file: what is asked, and the answer that is wanted.
+    /// Replays a row of a file: what is asked, and the answer that is expected.
     fn replay<M: Memory>(
         &self,
         report: &mut Report<M>,
@@ -41,7 +41,7 @@ impl<M: Memory> Report<M> {
         self.memory.inner()
     }
 
-    /// Counts a case, and prints it if what was found is not what is wanted.
+    /// Counts a case, and prints it if what was found is not what is expected.
     pub fn compare(&self, case: &str, wanted: &str, found: &str) -> io::Result<()> {
         raise(&self.cases, 1);
         if wanted == found {
@@ -52,8 +52,8 @@ impl<M: Memory> Report<M> {
     }
 }
 
-/// Replays these files, with a blank between each two names, with this memory, and prints each of their tables. Returns whether a case
-/// disagrees.
+/// Replays these files, whose names are separated by spaces, with this memory, and prints each of their tables. Returns
+/// whether a case disagrees.
 pub fn replay_files<M: Memory, R: Rows>(
     rt: HostRuntime,
     memory: M,
@@ -75,8 +75,8 @@ pub fn replay_files<M: Memory, R: Rows>(
     Ok(has_failed)
 }
 
-/// Replays the tables of a file, and returns whether a case disagrees. In a file of words a line that begins with a
-/// blank goes on with the one before.
+/// Replays the tables of a file, and returns whether a case disagrees. In a file of words, a line that begins with a
+/// space continues the one before.
 fn replay_file<M: Memory, R: Rows>(
     rows: &R,
     report: &mut Report<M>,

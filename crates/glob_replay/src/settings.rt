@@ -17,7 +17,7 @@ pub struct Settings {
 }
 
 impl Settings {
-    /// Nothing is set.
+    /// No settings.
     pub fn new(alloc: Global) -> Self {
         Settings {
             alloc,
@@ -25,12 +25,12 @@ impl Settings {
         }
     }
 
-    /// What this name is set to. What was not set is empty.
+    /// The value of this name; empty if it was not set.
     pub fn get(&self, name: &str) -> &str {
         self.values.get(name).map_or("", |value| value.as_str())
     }
 
-    /// Sets what a line `NAME: VALUE` says. With a content, a tree or calls all begins anew.
+    /// Sets what a line `NAME: VALUE` says. A content, a tree or calls start everything anew.
     pub fn set(&mut self, line: &str) -> io::Result<()> {
         let (name, value) = cut(line, ":")?;
         match name {
@@ -51,7 +51,7 @@ impl Settings {
         format!(in self.alloc; "{content} {more} {extra}")
     }
 
-    /// The tree of the walks of a row, which counts there.
+    /// The tree of the walks of a row, which counts its questions.
     pub fn tree<'a, M: Memory>(
         &'a self,
         alloc: M,

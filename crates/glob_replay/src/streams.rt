@@ -1,4 +1,4 @@
-//! A stream over memory that moves few bytes a call, counts its calls, and fails at a call that is picked.
+//! A stream over memory that moves few bytes a call, counts its calls, and fails at a chosen call.
 ghost use Rattle.std.specs.Prelude.{◌≤◌, IfOk, None};
 
 use crate::counts::raise;
@@ -7,19 +7,19 @@ use std::alloc::Global;
 use std::cell::Cell;
 use std::io::{self, ErrorKind, Read, Write};
 
-/// What goes wrong with a stream, at the call of this number, from 0 on.
+/// What goes wrong with a stream, at the call of this number, counted from 0.
 #[derive(Clone, Copy)]
 pub enum Trouble {
     Never,
-    /// It answers this error.
+    /// It returns this error.
     Errs(u64, io::Error),
-    /// It moves no byte, and answers 0.
+    /// It moves no byte, and returns 0.
     Idles(u64),
     /// It is interrupted at three of four calls, from the first on.
     Interrupts,
-    /// Each flush answers this error.
+    /// Each flush returns this error.
     Holds(io::Error),
-    /// It gives the same bytes again and again.
+    /// It returns the same bytes again and again.
     Repeats,
 }
 
@@ -27,7 +27,7 @@ pub enum Trouble {
 #[derive(Drop)]
 pub struct Stream<'a> {
     rest: &'a [u8],
-    /// How many bytes it moves a call at most.
+    /// The most bytes that it moves in a call.
     pub most: usize,
     pub trouble: Trouble,
     /// What was written.
@@ -35,9 +35,9 @@ pub struct Stream<'a> {
     /// How many reads or writes there were, and how many flushes.
     pub calls: u64,
     pub flushes: u64,
-    /// A clock, which each write moves on by one.
+    /// A clock that each write advances by one.
     pub clock: Option<&'a Cell<u64>>,
-    /// From when to when each write is due. Where none is, writes come at any time.
+    /// From when to when each write is due. If this is empty, writes may come at any time.
     pub due: Vec<(u64, u64)>,
 }
 
@@ -70,14 +70,14 @@ impl<'a> Stream<'a> {
         str::from_utf8(self.written.as_slice()).map_err(|_| unusable())
     }
 
-    /// Whether a write is due now, as each is where no times are written.
+    /// Whether a write is due now; always, if no times are given.
     fn is_due(&self) -> bool {
         let now = self.clock.map_or(0, |clock| clock.get());
         let times = self.due.get(self.calls as usize);
         self.due.is_empty() || times.is_some_and(|&(first, last)| first <= now && now <= last)
     }
 
-    /// Counts a call, and gives how many of so many bytes it moves.
+    /// Counts a call, and returns how many of `len` bytes it moves.
     fn count(&mut self, len: usize) -> io::Result<usize>
         ensures { IfOk result (λ moved. moved ≤ len) }
     {

@@ -4,19 +4,19 @@ use glob_pattern::{MatchOptions, Pattern, PatternRefusal};
 use std::alloc::{AllocError, Allocator, Global};
 use std::io::{self, ErrorKind, Write};
 
-/// The error of commands, lines or files that are not what is answered.
+/// The error for commands, lines or files that have no answer.
 pub fn unusable() -> io::Error {
     io::Error::other(
         "not what a command or a table takes: see the heads of src/main.rt and of the files in data",
     )
 }
 
-/// The error of memory that ran out.
+/// The error for memory that ran out.
 pub fn out_of_memory() -> io::Error {
     io::Error::from(ErrorKind::OutOfMemory)
 }
 
-/// The error of a text that is no pattern, or of memory that ran out.
+/// The error for a text that is not a pattern, or for memory that ran out.
 pub fn refused(refusal: PatternRefusal) -> io::Error {
     match refusal {
         PatternRefusal::Syntax(_) => unusable(),
@@ -34,7 +34,7 @@ pub fn options_of(setting: &str) -> io::Result<MatchOptions> {
     MatchOptions::from_letters(setting.trim_start_matches('-')).ok_or(unusable())
 }
 
-/// The pattern of a text.
+/// The pattern with this text.
 pub fn pattern_of<A: Allocator + Copy>(alloc: A, text: &str) -> io::Result<Pattern<A>> {
     Pattern::new(alloc, text).map_err(refused)
 }
@@ -47,12 +47,12 @@ pub fn add_fault(refusal: PatternRefusal, front: &str, words: &mut String) -> io
     }
 }
 
-/// The number that a word writes.
+/// The number that a word stands for.
 pub fn number_of(word: &str) -> io::Result<usize> {
     word.parse::<usize>().map_err(|_| unusable())
 }
 
-/// Whether both errors have the same kind, the same code of the system and the same words.
+/// Whether both errors have the same kind, the same code of the system and the same text.
 pub fn are_same(alloc: Global, one: &io::Error, other: &io::Error) -> Result<bool, AllocError> {
     let (words, other_words) = (format!(in alloc; "{one}")?, format!(in alloc; "{other}")?);
     let is_kind = one.kind() == other.kind() && one.raw_os_error() == other.raw_os_error();
@@ -76,7 +76,7 @@ pub fn text_of(alloc: Global, word: &str) -> io::Result<String> {
     Ok(text.replace(alloc, "␀", "\0")?)
 }
 
-/// So many copies of a text, each with its number, from 0 on, in place of `№`.
+/// `times` copies of a text, each with its number, from 0 on, in place of `№`.
 fn copies_of(alloc: Global, text: &str, times: usize) -> Result<String, AllocError> {
     if !text.contains('№') {
         return text.repeat(alloc, times);

@@ -111,8 +111,8 @@ fn add_reached<M: Memory>(
     Ok(())
 }
 
-/// Adds the answer to `set` or to a row of a set: of the pattern that has a fault the number, or where patterns have
-/// braces what is printed of it.
+/// Adds the answer to `set` or to a row of a set. For a pattern with a fault that is its number or, if patterns have
+/// braces, the printed fault.
 pub fn add_set<M: Memory>(calls: &mut Calls<M>, row: &[&str]) -> io::Result<()> {
     let [call, letters, many, fields @ ..] = row else {
         return Err(unusable());
@@ -140,7 +140,7 @@ pub fn add_set<M: Memory>(calls: &mut Calls<M>, row: &[&str]) -> io::Result<()> 
     Ok(())
 }
 
-/// The set of the patterns, which may have braces, or `None` after what is said of a fault.
+/// The set of the patterns, which may have braces; `None` after adding what a fault has to say.
 fn set_of<M: Memory>(
     calls: &mut Calls<M>,
     patterns: &[&str],
@@ -163,8 +163,8 @@ fn set_of<M: Memory>(
     Ok(None)
 }
 
-/// Adds whether any pattern of a set matches a text, the numbers of the first and the last that do, and these of all.
-/// About the text as a path each answer is the same.
+/// Adds whether any pattern of a set matches a text, the numbers of the first and the last that do, and the numbers of
+/// all. The answers for the text as a path are the same.
 fn add_found<M: Memory>(
     set: &PatternSet<M>,
     text: &str,

@@ -15,7 +15,7 @@ struct WrittenJudge<'a> {
     characters: usize,
     /// The places that open.
     opening: &'a [usize],
-    /// Each token with a character that it does not take. It takes all others.
+    /// Pairs of a token and a character that it does not take. It takes all others.
     refused: &'a [(usize, usize)],
     place: usize,
     count: u128,
@@ -57,8 +57,8 @@ impl Judge for WrittenJudge<'_> {
     }
 }
 
-/// Adds whether the characters split into pieces of these shapes, in words, and what is wrong with the questions: more
-/// than shapes times characters, or for a split fewer than the characters.
+/// Adds whether the characters split into pieces of these shapes, in words, and what is wrong with the number of
+/// questions: more than shapes times characters or, for a split, fewer than characters.
 pub fn split<M: Memory>(calls: &mut Calls<M>, fields: &[&str]) -> io::Result<()> {
     let [shapes, characters, opening, taken] = *fields else {
         return Err(unusable());
@@ -98,7 +98,7 @@ fn shape_of(word: &str) -> io::Result<Shape> {
     }
 }
 
-/// The token and the character of a word as `1.2`.
+/// The token and the character of a word such as `1.2`.
 fn pair_of(word: &str) -> io::Result<(usize, usize)> {
     let (token, character) = cut(word, ".")?;
     Ok((number_of(token)?, number_of(character)?))

@@ -9,14 +9,14 @@ use std::alloc::{AllocError, Global};
 use std::io::{self, Write};
 use std::path::Path;
 
-/// Up to so many tokens a match needs no memory.
+/// The most tokens with which a match needs no memory.
 const SHORT: usize = 63;
 
 /// A pattern, a text and the options of a match.
 type Asked<'a> = (&'a str, &'a str, MatchOptions);
 
-/// Matches by a row of the options, a pattern, a text, and the most questions, or an empty field. Adds `yes` or `no`,
-/// and what is wrong: a call that answers otherwise, another number of questions, and memory that is asked for though
+/// Matches by a row: the options, a pattern, a text, and the most questions, which may be empty. Adds `yes` or `no`,
+/// and what is wrong: another call with another answer, another number of questions, or a request for memory although
 /// the pattern is short.
 pub fn add_match<M: Memory>(calls: &mut Calls<M>, fields: &[&str]) -> io::Result<()> {
     let [setting, source, text, most] = *fields else {
@@ -29,7 +29,7 @@ pub fn add_match<M: Memory>(calls: &mut Calls<M>, fields: &[&str]) -> io::Result
     add_again(calls, asked, found)
 }
 
-/// Adds whether a pattern matches, and what is wrong with the number of questions. Returns it with the number of tokens.
+/// Adds whether a pattern matches, and what is wrong with the questions. Returns the answer and the number of tokens.
 fn add_counted<M: Memory>(
     calls: &mut Calls<M>,
     pattern: &Pattern<M>,
@@ -45,7 +45,7 @@ fn add_counted<M: Memory>(
     Ok((is_match, tokens))
 }
 
-/// Adds that memory was asked for after so many requests, though the pattern is short.
+/// Adds that memory was requested after this many requests, although the pattern is short.
 fn add_memory<M: Memory>(calls: &mut Calls<M>, tokens: usize, requests: u64) -> io::Result<()> {
     if tokens <= SHORT && calls.alloc.ration().asked() != requests {
         calls.words.push_str(", with memory")?;
@@ -67,7 +67,7 @@ fn add_same<M: Memory>(
     add_memory(calls, tokens, requests)
 }
 
-/// Asks the pattern that another call reads, and a copy of it.
+/// Asks the pattern that another call parses, and a copy of it.
 fn add_again<M: Memory>(
     calls: &mut Calls<M>,
     asked: Asked<'_>,
@@ -100,7 +100,7 @@ fn add_questions<M: Memory>(
     Ok(())
 }
 
-/// Whether each other call of a pattern, too, answers so.
+/// Whether every other call of a pattern gives this answer, too.
 fn is_answer<M: Memory>(pattern: &Pattern<M>, asked: Asked<'_>, answer: bool) -> io::Result<bool> {
     let ((_, text, options), path) = (asked, Path::new(asked.1));
     let is_usual = options == MatchOptions::new();
@@ -112,8 +112,8 @@ fn is_answer<M: Memory>(pattern: &Pattern<M>, asked: Asked<'_>, answer: bool) ->
     )
 }
 
-/// The fewest and the most questions: exactly those that are counted, where only literals, `?` and `*` decide. Else a
-/// match takes as many as there are characters, and at most the tokens times the characters are asked.
+/// The fewest and the most questions. If the pattern has only literals, `?` and `*`, both are the exact count.
+/// Otherwise a match takes at least as many as there are characters, and at most tokens times characters.
 fn bounds(alloc: Global, asked: Asked<'_>, found: (bool, usize)) -> io::Result<(usize, usize)> {
     let ((pattern, text, options), (is_match, tokens)) = (asked, found);
     if options == MatchOptions::new() && !pattern.contains('[') && !pattern.contains("**") {
@@ -141,7 +141,7 @@ fn questions(alloc: Global, pattern: &str, text: &str) -> Result<usize, AllocErr
     Ok(count)
 }
 
-/// Goes on by a token, and returns about how many characters it is asked.
+/// Moves on by a token, and returns how many characters it is asked about.
 fn step(reached: &mut [bool], token: char, text: &str) -> usize {
     let (mut count, mut before) = (0usize, false);
     for (reaches, character) in reached.iter_mut().zip("\0".chars().chain(text.chars())) {
@@ -157,7 +157,7 @@ fn step(reached: &mut [bool], token: char, text: &str) -> usize {
     count
 }
 
-/// The pattern of a text by another call than `new`.
+/// The pattern of a text, parsed by another call than `new`.
 fn read_again<M: Memory>(alloc: M, text: &str) -> io::Result<Pattern<M>> {
     if text.is_empty() {
         return Ok(Pattern::default(alloc));

@@ -33,7 +33,7 @@ impl Make for Matches {
     }
 }
 
-/// Adds what parsing a text gives: `ok`, or the place of its fault and the message of its kind, which is to be its own.
+/// Adds the result of parsing a text: `ok`, or the place of its fault and its message, which must be that of its kind.
 fn parse<M: Memory>(calls: &mut Calls<M>, text: &str) -> io::Result<()> {
     match Pattern::new(calls.alloc, text) {
         Ok(pattern) if pattern.as_str() == text => Ok(calls.words.push_str("ok")?),
@@ -50,7 +50,7 @@ fn parse<M: Memory>(calls: &mut Calls<M>, text: &str) -> io::Result<()> {
     }
 }
 
-/// Adds the pattern that is written for a text, which matches it.
+/// Adds the escaped pattern of a text, which has to match the text.
 fn escape<M: Memory>(calls: &mut Calls<M>, text: &str) -> io::Result<()> {
     let found = Pattern::escape(calls.alloc, text)?;
     calls.words.push_str(found.as_str())?;
@@ -100,7 +100,7 @@ fn add_read<M: Memory>(
     }
 }
 
-/// Adds whether a pattern matches a text, by one call alone.
+/// Adds whether a pattern matches a text, by a single call.
 fn add_answer<M: Memory>(calls: &mut Calls<M>, pattern: &str, text: &str) -> io::Result<()> {
     let is_match = pattern_of(calls.alloc, pattern)?.matches(text)?;
     Ok(calls.words.push_str(if is_match { "yes" } else { "no" })?)

@@ -1,4 +1,4 @@
-//! Replays rows with counted memory, each of whose requests is refused in turn.
+//! Replays rows with counted memory, and again with each request for memory refused in turn.
 #![tactic(auto)]
 
 pub mod matches;

@@ -8,7 +8,7 @@ use glob_replay::report::Report;
 use glob_replay::words::{cut, text_of};
 use std::io;
 
-/// Replays a row of fields, of which the options are the first.
+/// Replays a row of fields, the first of which are the options.
 pub fn replay_fields<M: Memory, S: Make>(
     subject: &S,
     report: &Report<M>,

@@ -1,12 +1,12 @@
-//! An allocator that counts the requests for memory, their bytes and the blocks that are held, and refuses a chosen
+//! An allocator that counts the requests for memory, their bytes and the blocks in use, and refuses a chosen
 //! request.
 ghost use Rattle.std.specs.Prelude.{◌≡◌, Option, None};
 
 use glob_replay::ration::{Memory, Ration};
 use std::alloc::{AllocError, Allocator, Global};
 
-/// The allocator `inner`, each of whose requests is first counted by `ration`, which may refuse it. To grow or to
-/// shrink a block is one request, and to give a block back is none. A reference to it is an allocator, too.
+/// The allocator `inner`, with each request first counted by `ration`, which may refuse it. Growing or shrinking a
+/// block is one request, and giving a block back is none. A reference to it is an allocator, too.
 #[derive(Debug, Drop)]
 pub struct Rationed<A> {
     pub ration: Ration,
@@ -24,14 +24,14 @@ impl Memory for &Rationed<Global> {
 }
 
 impl<A> Rationed<A> {
-    /// The allocator `inner`, none of whose requests is refused.
+    /// The allocator `inner`, with no request refused.
     pub fn ample(inner: A) -> Self
         ensures { result.ration ≡ None }
     {
         Rationed::refusing(None, inner)
     }
 
-    /// The allocator `inner`, whose request of this number, counted from 1, is refused, if there is a number.
+    /// The allocator `inner`, with the request of this number, counted from 1, refused, if there is a number.
     pub fn refusing(refused: Option<u64>, inner: A) -> Self
         ensures { result.ration ≡ refused }
     {

@@ -1,19 +1,19 @@
-//! Calls whose memory is counted, and each of whose requests is then refused in turn. The first word of a row is the name
-//! of its file or of its calls, and the others are its fields.
+//! Makes the calls of a row with counted memory, and then again with each request refused in turn. The first word of a
+//! row is the name of its file or of its calls, and the others are its fields.
 
 use crate::rationing::Rationed;
 use glob_replay::calls::{Calls, Make};
 use std::alloc::Global;
 use std::io::{self, ErrorKind, Write};
 
-/// The most requests for memory, and the most bytes of these.
+/// The most requests for memory, and the most bytes in all.
 pub type Most = (u64, u64);
 
-/// Where a row names none.
+/// The same if a row gives none.
 pub const FREELY: Most = (u64::MAX, u64::MAX);
 
-/// What calls answer with ample memory, and what is wrong with their requests: that they or their bytes are more than
-/// the most, or that a block is held in the end. And how many requests there are.
+/// The answers of calls with ample memory, and what is wrong with their requests: more requests or bytes than allowed,
+/// or a block that is still held at the end. And the number of requests.
 pub fn found_by<S: Make>(
     subject: &S,
     alloc: Global,
@@ -34,7 +34,7 @@ pub fn found_by<S: Make>(
     Ok((found, asked))
 }
 
-/// What calls answer with ample memory, and what is wrong where one of their requests is refused.
+/// The answers of calls with ample memory, and what is wrong if one of their requests is refused.
 pub fn found_if_refused<S: Make>(
     subject: &S,
     alloc: Global,

@@ -1,5 +1,5 @@
-//! Rows that are by themselves: `FIELDS => ANSWER`, each of whose requests for memory is refused in turn. In files of words
-//! ` | ` is between two fields, and after the answer may follow ` ; `, the most requests, and the most bytes of these.
+//! Rows that need no other row: `FIELDS => ANSWER`, replayed with each request for memory refused in turn. In files of
+//! words ` | ` separates fields, and ` ; `, the most requests and the most bytes may follow the answer.
 
 use crate::refusing::{FREELY, Most, found_at_each, found_by, found_if_refused};
 use glob_replay::calls::Make;
@@ -8,7 +8,7 @@ use glob_replay::report::Report;
 use glob_replay::words::{in_words, number_of, text_of};
 use std::io;
 
-/// Replays a row of a file. In files of words `''` is an empty field, and what is found has blanks in place of tabs.
+/// Replays a row of a file. In files of words `''` is an empty field, and answers have spaces instead of tabs.
 pub fn replay_row<M: Memory, S: Make>(
     subject: &S,
     report: &Report<M>,
@@ -43,7 +43,7 @@ pub fn replay_row<M: Memory, S: Make>(
     report.compare(asked, answer.trim(), found.trim())
 }
 
-/// An answer, and the most requests for memory and the most bytes of these, if it says so.
+/// An answer, and the most requests for memory and the most bytes in all, if the row gives them.
 fn with_most(answer: &str) -> io::Result<(&str, Most)> {
     let Some((answer, most)) = answer.split_once(" ; ") else {
         return Ok((answer, FREELY));

@@ -1,5 +1,5 @@
-//! Rows of records that are copied: `SELECTION | END | READER | WRITER | INPUT`: what is copied, and how many calls of
-//! the reader and of the writer there are.
+//! Rows of copied records: `SELECTION | END | READER | WRITER | INPUT`, with what is copied, and how many calls of the
+//! reader and of the writer there are.
 ghost use Rattle.std.specs.Prelude.{◌==◌, slice_index_or};
 
 use glob_lines::{LineFault, Selection, Watch, copy_selected, filter_lines, filter_records};
@@ -11,7 +11,7 @@ use glob_replay::words::{are_same, out_of_memory, pattern_of, unusable};
 use std::alloc::{AllocError, Global};
 use std::io::{self, ErrorKind, Write};
 
-/// Selects the records that begin with `#`. About one that begins with `!` it is out of memory.
+/// Selects the records that begin with `#`. Runs out of memory at one that begins with `!`.
 #[derive(Drop)]
 struct Marked;
 
@@ -27,7 +27,7 @@ impl Selection for Marked {
     }
 }
 
-/// What a copy of records came to: its answer, of how many bytes, whether the reader and the writer failed, and both.
+/// The result of a copy: its answer, the number of bytes, whether the reader and the writer failed, and both of them.
 #[derive(Drop)]
 struct Copied<'a> {
     answer: Result<u64, LineFault>,
@@ -37,8 +37,8 @@ struct Copied<'a> {
     writer: Stream<'a>,
 }
 
-/// Copies records from the reader to the writer of a row: those that are `marked`, or else that the pattern matches.
-/// The ones that a line feed ends are lines.
+/// Copies records from the reader to the writer of a row: those that are `marked`, or those that the pattern matches.
+/// If a line feed ends them, they are copied as lines.
 fn copy<'a, M: Memory>(alloc: M, row: &[&'a str]) -> io::Result<Copied<'a>> {
     let [selection, end, reading, writing, input] = *row else {
         return Err(unusable());
@@ -64,8 +64,8 @@ fn copy<'a, M: Memory>(alloc: M, row: &[&'a str]) -> io::Result<Copied<'a>> {
     })
 }
 
-/// Copies by a row. Adds the output and the number of records or what fails, and after few bytes a call also how many
-/// reads and writes there are.
+/// Copies by a row. Adds the output and the number of records or what failed and, if few bytes move in a call, also the
+/// number of reads and writes.
 pub fn add_copy<M: Memory>(calls: &mut Calls<M>, row: &[&str]) -> io::Result<()> {
     let (alloc, words) = (calls.alloc, &mut calls.words);
     let copied = copy(alloc, row)?;
@@ -81,7 +81,7 @@ pub fn add_copy<M: Memory>(calls: &mut Calls<M>, row: &[&str]) -> io::Result<()>
     add_calls(&copied, words)
 }
 
-/// Whether the stream alone failed that the answer names, with the error of its trouble.
+/// Whether only the stream that the answer names failed, with the error that it was to have.
 fn is_its_fault(alloc: Global, copied: &Copied<'_>) -> Result<bool, AllocError> {
     let (trouble, error, failed) = match &copied.answer {
         Err(LineFault::Read(error)) => (copied.reader.trouble, error, (true, false)),
@@ -95,7 +95,7 @@ fn is_its_fault(alloc: Global, copied: &Copied<'_>) -> Result<bool, AllocError> 
     Ok(copied.failed == failed && are_same(alloc, error, &known)?)
 }
 
-/// Adds how many reads and writes of few bytes there were, and of others where they are more than needed.
+/// Adds the number of reads and writes if few bytes move in a call, and otherwise only if it is more than needed.
 fn add_calls(copied: &Copied<'_>, words: &mut String) -> io::Result<()> {
     let (reader, writer) = (&copied.reader, &copied.writer);
     let are_few = reader.calls <= most_calls(copied.len, reader.most)
@@ -106,8 +106,8 @@ fn add_calls(copied: &Copied<'_>, words: &mut String) -> io::Result<()> {
     Ok(write!(words, " {} {}", reader.calls, writer.calls)?)
 }
 
-/// The most calls for so many bytes, in pieces of 64 KiB, of which a call moves so many at most: for each piece and for
-/// the rest one that is not full, and a read of nothing or a write of the last record.
+/// The most calls for `len` bytes, in pieces of 64 KiB, if a call moves at most `most`: the full ones, one that is not
+/// full for each piece and for the rest, and a read of nothing or a write of the last record.
 fn most_calls(len: usize, most: usize) -> u64 {
     let full = len / most.max(1);
     (full as u64).saturating_add(len as u64 / 65_536 + 2)

@@ -12,7 +12,7 @@ use glob_replay::words::{cut, out_of_memory, unusable};
 use glob_tree::Tree;
 use std::io::{self, Write};
 
-/// What a job came to.
+/// The result of a job.
 #[derive(Drop)]
 struct Ran<'a> {
     status: u8,
@@ -20,9 +20,9 @@ struct Ran<'a> {
     errors: Stream<'a>,
 }
 
-/// Does a row's job as the program `name` over a tree of its content: `text`, `fault` or `arguments`, and what is
-/// written or reported, or `find` and a pattern. The clock of the writers is how much was asked. The error is memory
-/// that was refused.
+/// Does a row's job as the program `name`, over a tree of its content. The job is `text`, `fault` or `arguments` with
+/// what is written or reported, or `find` with a pattern. The clock of the writers counts questions. The error is
+/// refused memory.
 fn run<'a, M: Memory>(alloc: M, row: &[&str], counts: &'a Counts) -> io::Result<Ran<'a>> {
     let [job, content, output, errors] = *row else {
         return Err(unusable());
@@ -52,7 +52,7 @@ fn run<'a, M: Memory>(alloc: M, row: &[&str], counts: &'a Counts) -> io::Result<
     })
 }
 
-/// Writes what is found in a tree, and returns the status.
+/// Writes what a walk finds in a tree, and returns the status.
 fn find<T: Tree, W: Write, E: Write>(
     alloc: T::Alloc,
     tree: T,
@@ -107,7 +107,7 @@ fn add_written(writer: &Stream<'_>, words: &mut String) -> io::Result<()> {
     Ok(words.push_str(writer.text()?)?)
 }
 
-/// Adds how often `find_in` lists a directory, and how often its names alone.
+/// Adds how often `find_in` lists a directory, and how often only its names.
 pub fn add_listings<M: Memory>(
     calls: &mut Calls<M>,
     content: &str,

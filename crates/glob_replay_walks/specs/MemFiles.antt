@@ -1,4 +1,4 @@
--- Files in memory, as lists of what is at keys.
+-- Files in memory, as lists of pairs: a key and what is there.
 use Rattle.std.specs.Prelude.{◌==◌, ◌&&◌, not, if◌then◌else◌, Bool, List, [], map, filter_map, find, Option, Some, None, option_map, option_and_then}
 use Rattle.std.specs.Borrow.{Bor}
 use Rattle.std.specs.List.{filter, list_any, list_all}
@@ -12,7 +12,7 @@ use Rattle.glob_replay_walks.specs.declared.mem_files.Keyed.{Keyed}
 use Rattle.glob_replay_walks.specs.declared.mem_files.LinkTo.{LinkTo}
 use Rattle.glob_replay_walks.specs.declared.mem_files.LinkTo.TheVariants as to
 
--- the key of names
+-- the key with these names
 abbrev pub key_of : List (Bor Text) → Key
 key_of names = map (λ n. n.now) names
 
@@ -28,7 +28,7 @@ target_of to.Nowhere = Nowhere
 target_of to.AFile = AFile
 target_of to.ADirectory = ADirectory
 
--- the content of kinds, where the root is the current directory
+-- the content with these kinds, and the root as the current directory
 abbrev pub content_of : {A : Type 0} → List (Keyed Kind A) → Content
 content_of kinds = record { kinds = map (λ e. (key_at e, e.what)) kinds; current = [] }
 
@@ -42,14 +42,14 @@ strays_of strays = map (λ e. (key_at e, e.what.now)) strays
 abbrev pub is_stray : Text → Bool
 is_stray name = not (is_utf8 name) && not (list_any (λ b. b == nul) name)
 
--- what is held, if each stray is one
+-- the file system that is held, if no stray name is UTF-8 or has a NUL
 unfoldable pub files_of : {A : Type 0} → List (Keyed Kind A) → List (Keyed LinkTo A) → List (Keyed (Bor Text) A) → Option FileSystem
 files_of kinds links strays =
     if list_all (λ s. is_stray s.what.now) strays
     then Some (record { content = content_of kinds; links = links_of links; strays = strays_of strays })
     else None
 
--- the name of a key in a directory
+-- the name that a key has in this directory, if it is directly in it
 abbrev pub name_in : (directory key : Key) → Option Text
 name_in directory key = option_and_then only_name (names_past directory key)
 

@@ -14,7 +14,7 @@ use std::{env, fs, io};
 /// The name of the folder.
 const FOLDER: &str = "content_of_walks";
 
-/// Removes the folder, if it is there.
+/// Removes the folder, if it exists.
 pub fn remove(rt: &HostRuntime) -> io::Result<()> {
     if fs::exists(rt, FOLDER)? {
         fs::remove_dir_all(rt, FOLDER)?;
@@ -22,7 +22,7 @@ pub fn remove(rt: &HostRuntime) -> io::Result<()> {
     Ok(())
 }
 
-/// Makes the content in the folder, in place of what was there.
+/// Makes the content in the folder, and replaces what was there.
 fn make(rt: &HostRuntime, settings: &Settings) -> io::Result<()> {
     remove(rt)?;
     fs::create_dir(rt, FOLDER)?;
@@ -38,7 +38,7 @@ fn make(rt: &HostRuntime, settings: &Settings) -> io::Result<()> {
     Ok(())
 }
 
-/// Replays a walk below the folder. Each name in the folder's path is a look more, unless it is escaped.
+/// Replays a walk below the folder. Each name in the folder's path costs one more look, unless it is escaped.
 pub fn replay<M: Memory>(
     report: &Report<M>,
     job: Job<'_>,
@@ -60,7 +60,7 @@ pub fn replay<M: Memory>(
     replay_whole(report, job, (folder.as_str(), items, units))
 }
 
-/// Replays a walk over the disk by `glob_with`, and under the usual options also by `glob`.
+/// Replays a walk over the disk by `glob_with` and, under the usual options, also by `glob`.
 fn replay_whole<M: Memory>(
     report: &Report<M>,
     job: Job<'_>,

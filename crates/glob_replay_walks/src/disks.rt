@@ -1,5 +1,5 @@
-//! Rows of disks: over files in memory, also where a call fails, and over a scripted system, for what no still file system
-//! does, and for the number of system calls.
+//! Rows of disks: over files in memory, also with a call that fails, and over a scripted system, which does what no
+//! constant file system does, and counts system calls.
 
 pub mod contents;
 pub mod failing;
@@ -25,9 +25,9 @@ use std::alloc::{AllocError, Global};
 use std::cell::Cell;
 use std::io::{self, ErrorKind, Write};
 
-/// Disks that rows name.
+/// The disks that rows name.
 pub trait Disks: Copy {
-    /// Asks the disk of this name over a system. What is reported is noted.
+    /// Asks the disk of this name over a system, and notes what it reports.
     fn ask<M: Memory, R: System>(
         &self,
         calls: &mut Calls<M>,
@@ -81,7 +81,7 @@ fn answer_of<M: Memory, D: Disks>(
     }
 }
 
-/// A call, and the path that it is about.
+/// A call, and the path that it is made for.
 pub type Asked<'a> = (&'a str, &'a str);
 
 /// Adds what a tree answers to a call about a path, or to looks at the paths between `,`. What these find is `Dir`,
@@ -126,8 +126,8 @@ fn add_first_error<M: Memory, T: Tree<Alloc = M>>(
     }
 }
 
-/// Adds the path and the cause of a walk's error, and what is wrong with it. Its calls take no memory. Of the path at
-/// which memory ran out nothing is said.
+/// Adds the path and the cause of a walk's error, and what is wrong with it. The calls on it take no memory. If memory
+/// ran out, nothing is said about its path.
 fn add_error<M: Memory>(
     calls: &mut Calls<M>,
     error: GlobError<M>,
@@ -145,7 +145,7 @@ fn add_error<M: Memory>(
     Ok(())
 }
 
-/// Whether a walk's error is this one, and is printed with it.
+/// Whether a walk's error is this one, and prints it.
 fn is_known<M: Memory>(
     inner: Global,
     error: GlobError<M>,
@@ -180,7 +180,7 @@ pub fn ask_each<M: Memory, D: Disks>(
     Ok(())
 }
 
-/// Adds the answer of a disk, which is that of those before, or else which disk it is of.
+/// Adds the answer of a disk; if it differs from the one before, also the disk.
 fn add_same(words: &mut String, answer: &str, disk: (&str, &str)) -> Result<(), AllocError> {
     if words.is_empty() {
         words.push_str(answer)?;
@@ -190,8 +190,8 @@ fn add_same(words: &mut String, answer: &str, disk: (&str, &str)) -> Result<(), 
     Ok(())
 }
 
-/// Makes a call of each disk over files in memory, whose directories are read in pieces of each size, and over a tree in
-/// memory, where the content is one. The words are the answer, which is the same for all, and how much was reported.
+/// Makes a call of each disk over files in memory, with directories read in pieces of each size, and over a tree in
+/// memory, if the content is one. The words are the answer, the same for all, and how much was reported.
 pub fn ask_in_memory<M: Memory>(calls: &mut Calls<M>, fields: &[&str]) -> io::Result<()> {
     let [names, pieces, content, call, path] = *fields else {
         return Err(unusable());
@@ -220,7 +220,7 @@ pub fn ask_in_memory<M: Memory>(calls: &mut Calls<M>, fields: &[&str]) -> io::Re
     Ok(())
 }
 
-/// What a disk answers over a system, and how much was reported.
+/// The answer of a disk over a system, and how much was reported.
 fn answer_over<M: Memory, R: System>(
     alloc: M,
     files: R,

@@ -1,5 +1,5 @@
 //! Compares the walk of a plain pattern with the paths of the content that the whole pattern matches, under both
-//! settings of each rule: as sets, and where the pattern says so, in order.
+//! settings of each rule: as sets and, if the pattern promises it, in order.
 
 use crate::walking::{Found, Job, gathered};
 use glob::{MatchOptions, is_plain};
@@ -12,7 +12,7 @@ use glob_replay::words::{options_of, pattern_of};
 use std::alloc::{AllocError, Global};
 use std::io;
 
-/// Compares a walk under each setting, if its pattern is plain, and case and the limit are the usual ones.
+/// Compares a walk under each setting, if its pattern is plain, and case and limit are as usual.
 pub fn replay<M: Memory>(report: &Report<M>, job: Job<'_>) -> io::Result<()> {
     let (alloc, settings) = (report.alloc(), &report.settings);
     let is_content = settings.get("tree").is_empty();
@@ -37,7 +37,7 @@ pub fn replay<M: Memory>(report: &Report<M>, job: Job<'_>) -> io::Result<()> {
     Ok(())
 }
 
-/// The paths of a content that the whole pattern matches: of directories alone, if it ends in `/` or `**`.
+/// The paths of a content that the whole pattern matches: only those of directories if it ends in `/` or `**`.
 fn goals_of(alloc: Global, settings: &Settings, job: Job<'_>) -> io::Result<Vec<String>> {
     let whole = pattern_of(alloc, job.pattern.strip_suffix('/').unwrap_or(job.pattern))?;
     let are_directories = job.pattern.ends_with('/') || job.pattern.ends_with("**");
@@ -72,8 +72,8 @@ fn is_lost(path: &str, lost: &[String]) -> bool {
     })
 }
 
-/// Whether the paths of a walk come once, if the pattern has at most one place with `**`, and if at most one component
-/// follows it, rising as lists of names. Errors are left out.
+/// Whether the paths of a walk come once, if the pattern has `**` in at most one place, and ascend as lists of names,
+/// if also at most one component follows it. Errors are left out.
 fn is_orderly(alloc: Global, pattern: &str, walk: &Found) -> Result<bool, AllocError> {
     let (_, rest) = pattern.split_once("**").unwrap_or(("", ""));
     let rest = rest.trim_start_matches("/**").trim_end_matches('/');

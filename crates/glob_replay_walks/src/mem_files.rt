@@ -55,11 +55,11 @@ fn value_at<T: Copy, A: Allocator>(list: &[Keyed<'_, T, A>], key: &[&str]) -> Op
     Some(entry.what)
 }
 
-/// A system that holds a file system in memory: what is at each key, where a symbolic link is [`Kind::Other`], what each
-/// link points to, and the names that are not UTF-8, by the keys of their directories. The root is the current directory.
+/// A system that holds a file system in memory: what is at each key (links are [`Kind::Other`]), what links point to,
+/// and the names that are not UTF-8, with the keys of their directories. The root is the current directory.
 ///
 /// A directory is read in pieces of at most `piece` bytes, or of one if that is 0. Names that are not UTF-8 come first,
-/// then `.` and `..`. One that cannot be listed is opened, and fails when it is read.
+/// then `.` and `..`. A directory that cannot be listed is opened, and fails when it is read.
 #[derive(Drop)]
 pub struct MemFiles<'a, A: Allocator = Global> {
     pub kinds: Vec<Keyed<'a, Kind, A>, A>,
@@ -197,7 +197,7 @@ fn add_name<A: Allocator>(bytes: &mut Vec<u8, A>, name: &[u8]) -> Result<(), All
     Ok(())
 }
 
-/// What `lstat` answers of what was found.
+/// The answer of `lstat` for what was found.
 fn lstat_answer(found: Option<(Kind, Option<LinkTo>)>) -> io::Result<Metadata>
     ensures { IsStatAnswer (lstat_of found) result }
 {
@@ -209,7 +209,7 @@ fn lstat_answer(found: Option<(Kind, Option<LinkTo>)>) -> io::Result<Metadata>
     }
 }
 
-/// And `stat`.
+/// The answer of `stat`.
 fn stat_answer(found: Option<(Kind, Option<LinkTo>)>) -> io::Result<Metadata>
     ensures { IsStatAnswer (stat_of found) result }
 {
@@ -221,7 +221,7 @@ fn stat_answer(found: Option<(Kind, Option<LinkTo>)>) -> io::Result<Metadata>
     }
 }
 
-/// What `stat` answers of a link.
+/// The answer of `stat` for a link.
 fn target_answer(to: LinkTo) -> io::Result<Metadata>
     ensures { IsStatAnswer (stat_reports Other (Some (target_of to))) result }
 {

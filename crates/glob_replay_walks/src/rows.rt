@@ -59,8 +59,8 @@ fn walk<M: Memory>(calls: &mut Calls<M>, content: &str, pattern: &str) -> io::Re
     Ok(words.push_str("\t-")?)
 }
 
-/// Walks over a content that other memory has made, up to so many paths: adds how many there are, of how many bytes in
-/// all, and how many units are spent.
+/// Walks over a content in other memory, up to a number of paths: adds how many there are, their bytes in total, and
+/// the units spent.
 fn walk_far<M: Memory>(
     calls: &mut Calls<M>,
     content: &str,
@@ -79,7 +79,7 @@ fn walk_far<M: Memory>(
     Ok(write!(calls.words, "{count} {bytes} {}", paths.spent())?)
 }
 
-/// Adds how often a walk by `walk_in` lists a directory, and how often its names alone.
+/// Adds how often a walk by `walk_in` lists a directory, and how often only its names.
 fn add_listings<M: Memory>(calls: &mut Calls<M>, content: &str, pattern: &str) -> io::Result<()> {
     let (alloc, counts) = (calls.alloc, Counts::default());
     let tree = AskedTree::of(alloc, content, &counts)?;

@@ -1,4 +1,4 @@
-//! Rows of calls of a tree in memory: `CALL PATHS => ANSWER`, each over what the ones before have left.
+//! Rows of calls of a tree in memory: `CALL PATHS => ANSWER`, each for the tree that the rows before it left.
 
 use glob::{ListError, MemTree, Tree, TreeRefusal};
 use glob_replay::asked_tree::Listed;
@@ -41,7 +41,7 @@ pub fn change<M: Memory>(calls: &mut Calls<M>, changes: &[&str]) -> io::Result<(
     Ok(())
 }
 
-/// Adds what a call and its path are answered, in words.
+/// Adds the answer to a call for a path, in words.
 fn add_answer<M: Memory>(tree: &mut MemTree<M>, asked: &str, words: &mut String) -> io::Result<()> {
     let (call, path) = cut(asked, " ")?;
     let changed = match call {
@@ -60,7 +60,7 @@ fn add_answer<M: Memory>(tree: &mut MemTree<M>, asked: &str, words: &mut String)
     }
 }
 
-/// Adds what a listing answers: the names of entries, with `/` after those of directories, or after `!` the error.
+/// Adds the answer of a listing: the names of entries, with `/` after those of directories, or the error after `!`.
 pub fn add_entries<A: Allocator>(words: &mut String, listed: Listed<A>) -> io::Result<()> {
     match listed {
         Ok(entries) => {

@@ -1,4 +1,4 @@
-//! A walk, item by item and whole, and what it gives in words.
+//! A walk, item by item and whole, and its results in words.
 
 use glob::{
     End, GlobCause, GlobError, GlobResult, MatchOptions, Paths, PatternRefusal, Tree, Walk,
@@ -29,7 +29,7 @@ impl<'a> Job<'a> {
     }
 }
 
-/// What a walk gave, and what it spent.
+/// The results of a walk: what it gave and spent.
 #[derive(Drop)]
 pub struct Found {
     /// Each item after a tab: `=` and a path, or `!`, the path of a directory that could not be listed, `:` and the
@@ -46,7 +46,7 @@ pub struct Found {
 }
 
 impl Found {
-    /// Nothing yet.
+    /// No results yet.
     fn new(alloc: Global) -> Self {
         Found {
             items: String::new(alloc),
@@ -58,7 +58,7 @@ impl Found {
         }
     }
 
-    /// What a whole walk gave.
+    /// The results of a whole walk.
     pub fn of<T: Tree>(alloc: Global, walk: Walk<T>) -> Result<Self, AllocError> {
         let mut found = Found::new(alloc);
         for item in walk.items.iter() {
@@ -107,7 +107,7 @@ impl Found {
         }
     }
 
-    /// Adds an error, and what is printed of it, if it is wrong.
+    /// Adds an error and, if it prints wrongly, what it prints.
     fn add_error<A: Allocator>(&mut self, error: &GlobError<A>) -> Result<(), AllocError> {
         let alloc = *self.items.allocator();
         let path = String::from_str(alloc, error.path().as_str())?;
@@ -130,8 +130,8 @@ impl Found {
         Ok(self.lost.push(path)?)
     }
 
-    /// Adds what is wrong with what a tree was asked: each unit is a question, and where the limit refuses one, the
-    /// walk spent the limit.
+    /// Adds what is wrong with the questions to a tree: each unit is a question, and if the limit refused one, the walk
+    /// spent the limit.
     fn check(&mut self, asked: u64, limit: u64) -> Result<(), AllocError> {
         let spent = self.spent;
         let is_right = match self.end {
@@ -145,7 +145,7 @@ impl Found {
     }
 }
 
-/// What is found where a walk refuses its pattern: what is printed of its fault. Nothing may have been asked before.
+/// The result if a walk refuses its pattern: the printed fault. Nothing may have been asked before.
 fn fault(alloc: Global, refusal: PatternRefusal, asked: u64) -> io::Result<Found> {
     let mut found = Found::new(alloc);
     match refusal {

@@ -8,7 +8,7 @@ use Rattle.glob_pattern.specs.Computing.Deciding.{is_match}
 use Rattle.glob_rules.specs.Lists.{Ignores, rule_options}
 use Rattle.glob_rules.specs.declared.rule.Rule.{Rule}
 
--- the rule of a number
+-- the rule with this number
 abbrev pub rule_at : Ignores → (number : ℕ) → Rule
 rule_at list number =
     slice_index_or list.rules number (record { line = 0; negative = false; directories = false })
@@ -29,7 +29,7 @@ last_naming list path is_directory (suc n) =
 unfoldable pub last_named : Ignores → (path : Text) → (is_directory : Bool) → Option ℕ
 last_named list path is_directory = last_naming list path is_directory (length list.rules)
 
--- the same rule, if there is one
+-- the rule with that number, if there is one
 unfoldable pub naming_rule : Ignores → (path : Text) → (is_directory : Bool) → Option Rule
 naming_rule list path is_directory = option_map (rule_at list) (last_named list path is_directory)
 

@@ -37,7 +37,7 @@ none_read = record { list = record { lines = 0; rules = []; patterns = [] }; ref
 unfoldable pub is_pattern : Text → Bool
 is_pattern glob = is_utf8 glob && is_ok (reading_of (chars glob))
 
--- the outcome of a line whose translation is this: it is also refused if that is not a valid pattern
+-- the outcome of a line with this translation, which is also refused if it is not a valid pattern
 abbrev pub settled : Text → Outcome → Outcome
 settled glob Nothing = Nothing
 settled glob Named = if is_pattern glob then Named else Refused reasons.Pattern
@@ -59,7 +59,7 @@ with_rule line list l = record {
   patterns = list.patterns ++ l.glob ∷ [];
 }
 
--- the list after a line with this outcome: one that is refused has no rule
+-- the list after a line with this outcome; a refused line has no rule
 abbrev pub with_outcome : (line : ℕ) → Ignores → Line → Outcome → Ignores
 with_outcome line list l Nothing = without_rule line list
 with_outcome line list l Named = with_rule line list l

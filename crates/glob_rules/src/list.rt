@@ -50,8 +50,8 @@ impl<A: Allocator> Model for IgnoreList<A> {
 impl<A: Allocator + Copy> IgnoreList<A> {
     /// Parses a text, with one rule per line. Comments, blank lines and lines that can match nothing give no rule.
     ///
-    /// The error is [`Line`](RuleRefusal::Line) for the first line that is refused, or
-    /// [`Memory`](RuleRefusal::Memory) if an allocation fails.
+    /// The error is [`Line`](RuleRefusal::Line) for the first refused line, or [`Memory`](RuleRefusal::Memory) if an
+    /// allocation fails.
     pub fn new(alloc: A, text: &str) -> Result<Self, RuleRefusal>
         ensures rules { IfOk result (λ list. list ≡ rules_of text.now) }
         ensures taken { IfOk result (λ _. AreTaken text.now) }

@@ -1,4 +1,4 @@
-//! Numbers, the first few without an allocation.
+//! A list of numbers whose first few need no allocation.
 ghost use Rattle.std.specs.Prelude.{◌≡◌, ◌≤◌, ◌<◌, ◌++◌, ◌∷◌, ℕ, [], false, length, All, OnErr, OnOk, IsPermutation};
 ghost use Rattle.std.specs.List.Sorted.{IsNonDecreasing};
 ghost use Rattle.glob_set.specs.Private.Keyed.{Keeps, KeepsAll};

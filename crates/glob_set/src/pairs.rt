@@ -20,7 +20,7 @@ pub fn pair_class(a: u8, b: u8) -> u8
     ((u32::from(a % 32) * 13 + u32::from(b % 32) * 3) % 128) as u8
 }
 
-/// The bit of a class.
+/// The bit that a class has in a word.
 #[inline(always)]
 pub fn class_bit(class: u8) -> u128
     requires { class < 128 }

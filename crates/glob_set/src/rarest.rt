@@ -46,8 +46,8 @@ impl<A: Allocator + Copy> Listed<A> {
     }
 }
 
-/// The rarest key of each pattern, if it is rare: that of `mod17` for `src/mod17/*.rs`. If few patterns have one, no
-/// pattern gets one.
+/// The rarest key of each pattern, if it is rare enough: that of `mod17` for `src/mod17/*.rs`. If few patterns have
+/// such a key, no pattern gets one.
 pub fn keys_of<A: Allocator + Copy>(
     alloc: A,
     patterns: &[Pattern<A>],
@@ -151,7 +151,7 @@ fn rarest(keys: &[Key], counts: &[u8]) -> Option<Key>
     rarest
 }
 
-/// The slot in which a key is counted. Keys of different kinds with the same hash are counted apart.
+/// The slot in which a key is counted. Keys of different kinds are counted apart, even if their hashes are equal.
 fn count_slot(key: Key, slots: usize) -> usize
     requires { 0 < slots }
     ensures { result < slots }

@@ -28,7 +28,7 @@ pub enum Cursor {
     Current,
     /// Before the entry of this number.
     At(usize),
-    /// Inside the entry of this number: it was met, and `**` has yet to enter it.
+    /// Inside the entry of this number: the component has met it, and `**` still has to enter it.
     Inside(usize),
 }
 

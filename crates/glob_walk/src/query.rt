@@ -7,7 +7,7 @@ use std::alloc::Allocator;
 pub struct Query<A: Allocator> {
     /// The path that it is about, as the walk gives it.
     pub path: String<A>,
-    /// The number of the component with which the walk goes on there.
+    /// The index of the component with which the walk goes on there.
     pub component: usize,
     /// What is asked of the path.
     pub kind: QueryKind,
@@ -20,9 +20,9 @@ pub enum QueryKind {
     Look(Accepted),
     /// The entries of the directory that it leads to.
     List {
-        /// Whether it is for `**`, and not for a component with wildcards.
+        /// Whether the listing is for `**`, and not for a component with wildcards.
         recursive: bool,
-        /// Whether it is with the kinds of the entries, and not only for their names.
+        /// Whether the kinds of the entries are asked for, and not only their names.
         kinds: bool,
     },
 }

@@ -18,7 +18,7 @@ use crate::task::Task;
 use std::alloc::{AllocError, Allocator};
 
 /// What a walk looks for, and what it still has to do: a task, if there is one, and then what is left in the
-/// directories that it is in, from the last to the first.
+/// directories on its stack, from the last to the first.
 #[derive(Drop)]
 pub struct Stack<A: Allocator> {
     /// What it looks for.

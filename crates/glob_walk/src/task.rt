@@ -1,4 +1,4 @@
-//! What a walk does next: a path, and the number of the component from which it goes on there.
+//! What a walk does next: a path, and the index of the component from which it goes on there.
 
 ghost use Rattle.std.specs.Prelude.{◌≡◌, ◌≤◌, ◌∷◌, ℕ, None, string_bytes, if◌then◌else◌};
 ghost use Rattle.glob_tree.specs.Content.{Content, look_result};
@@ -40,7 +40,7 @@ pub enum TaskState {
 pub struct Task<A: Allocator> {
     /// The path, as the walk gives it.
     pub path: String<A>,
-    /// The number of the component.
+    /// The index of the component.
     pub component: usize,
     /// What is known of the path.
     pub state: TaskState,

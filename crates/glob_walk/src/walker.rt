@@ -19,9 +19,9 @@
 //!                       none: Stack::step, to the next task
 //! ```
 //!
-//! The written listing is what a walk does, mark by mark. Each method of [`Walker`] has the same contract, `TurnsTo`:
-//! what was left of the listing starts with what the turn charged and gave, and the rest is what is left of the walk
-//! then. After a turn without a [`Step`] the walk just goes on.
+//! The written listing is what a walk does, mark by mark. All methods of [`Walker`] have one contract, `TurnsTo`: what
+//! was left of the listing begins with what the turn charged and gave, and the rest is what is then left of the walk.
+//! After a turn without a [`Step`] the walk just goes on.
 ghost use Rattle.std.specs.Prelude.{◌≡◌, ◌≢◌, ◌+◌, ◌<◌, ◌≤◌, ◌∷◌, ℕ, IsTrue, true, false, [], None, string_bytes, vec_len, drop, not, ◌||◌, IfOk, IfErr, IfSome, Some, if◌then◌else◌};
 ghost use Rattle.glob_tree.specs.Content.{Content, is_content};
 ghost use Rattle.glob_walk.specs.Machines.{Ends, Says, is_last, list_error_outcome, saying};

@@ -1,4 +1,4 @@
--- What is true of a walk over a tree between two items, and of a whole one.
+-- What holds of a walk over a tree between two items, and of a whole one.
 use Rattle.std.specs.Prelude.{◌≡◌, ℕ, ◌+◌, ◌≤◌, false, List, [], length, Option, None, Result}
 use Rattle.std.specs.declared.path.buf.PathBuf.{PathBuf}
 use Rattle.glob_tree.specs.Content.{Content}
@@ -10,14 +10,14 @@ use Rattle.glob_walk.specs.declared.error.GlobError.{GlobError}
 use Rattle.glob_walk.specs.declared.ending.End.{End}
 use Rattle.glob_walk.specs.Machines.{MachineState, Progress, HasGiven, listing_of}
 
--- What is true of a walk over a tree between two items: no question is open, and over the tree's content some items of the
--- written listing were given.
+-- What holds of a walk over a tree between two items: no question is open, and over the tree's content some items of
+-- the written listing were given.
 pub record IsDriven {X : Type 0} {P : Progress} (tells : X → Option Content) (tree : X) (machine : MachineState P) : Type 0 where
   pub free : machine.asked ≡ None
   pub gave : (c : Content) → IsTold (tells tree) c → machine.over ≡ false
       → (given : List Item) × HasGiven (listing_of c machine.aim) c given machine
 
--- A walk that has done nothing yet, from its beginning to its end: its items, its units and its questions, and the tree.
+-- A whole walk, from one that has done nothing yet: its items, its units and questions, and the tree.
 pub record EndsAs {X A : Type 0} {P : Progress} (asks : X → ℕ) (tells : X → Option Content) (first : Walking X P) (e : End) (spent : ℕ)
     (answers : List (Result (PathBuf A) (GlobError A))) (tree : X) : Type 0 where
   pub within : spent ≤ first.machine.limit

@@ -1,4 +1,4 @@
--- Rows with an answer per place: whether the first tokens take the text up to there, and whether a token waits there.
+-- Rows of answers, one a place: whether the first tokens take the text up to there, or whether a token waits there.
 use Rattle.std.specs.Prelude.{◌≡◌, ℕ, ◌+◌, ◌≤◌, ◌↔◌, Bool, false, List, length, map, slice_index_or, IsTrue}
 use Rattle.glob_text.specs.Text.{Text}
 use Rattle.glob_pattern.specs.Grammar.Tokens.{Token, shape_of}

@@ -24,7 +24,7 @@ abbrev pub item_record : {A : Type 0} → (end : ℕ) → Result (PathBuf A) (Gl
 item_record end (Ok path) = ended_record end (path_buf_bytes path)
 item_record end (Err error) = []
 
--- whether an item of a walk is wanted; every error is
+-- an item of a walk is wanted; an error always is
 abbrev pub is_item_wanted : {A : Type 0} → (wanted : Text → Bool) → Result (PathBuf A) (GlobError A) → Bool
 is_item_wanted wanted (Ok path) = wanted (path_buf_bytes path)
 is_item_wanted wanted (Err error) = true

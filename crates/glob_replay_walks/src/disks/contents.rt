@@ -1,6 +1,6 @@
-//! Files in memory by the words of a content: `a/` is a directory and `#a` one that cannot be listed, `a@` is a symbolic
-//! link that points nowhere, `a@b` to a file and `a@b/` to a directory, and `a/?` is a name in `a` that is not UTF-8. Any
-//! other is a file. A directory comes before what is in it.
+//! Files in memory from the words of a content: `a/` is a directory, `#a` one that cannot be listed, `a@` a symbolic
+//! link that points nowhere, `a@b` one to a file, `a@b/` one to a directory, and `a/?` a name in `a` that is not UTF-8.
+//! Any other word is a file. A directory comes before what is in it.
 
 use crate::mem_files::{Keyed, LinkTo, MemFiles};
 use glob_replay::contents::{is_directory, name_of};
@@ -31,7 +31,7 @@ pub fn files_of<'a, A: Allocator + Copy>(
     Ok(files)
 }
 
-/// Adds what a word writes.
+/// Adds what a word stands for.
 fn add<'a, A: Allocator + Copy>(
     files: &mut MemFiles<'a, A>,
     word: &'a str,
@@ -46,7 +46,7 @@ fn add<'a, A: Allocator + Copy>(
     add_kind(files, name_of(word), kind_of(word))
 }
 
-/// What a word writes that is no link.
+/// What a word stands for that is not a link.
 fn kind_of(word: &str) -> Kind {
     if word.starts_with('#') {
         return Kind::Shut(ErrorKind::PermissionDenied);

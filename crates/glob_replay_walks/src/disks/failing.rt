@@ -1,4 +1,4 @@
-//! A system of which one call fails.
+//! A system in which one call fails.
 
 use glob_replay::raise;
 use glob_tree::{Directory, System};
@@ -14,7 +14,7 @@ pub struct Fault {
 }
 
 impl Fault {
-    /// Makes a call: the error is that it fails.
+    /// Makes a call. The error is that it is the one that fails.
     fn call(&self) -> io::Result<()> {
         let number = self.calls.get();
         raise(&self.calls, 1);

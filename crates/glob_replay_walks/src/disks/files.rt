@@ -6,13 +6,13 @@ use std::cell::Cell;
 use std::fs::Metadata;
 use std::io::{self, ErrorKind};
 
-/// What stands at a path.
+/// What is at a path.
 #[derive(Clone, Copy)]
 pub enum Kind<'a> {
     File,
-    /// A directory. These blocks are its names, with a NUL after each. A read gives one block.
+    /// A directory. These blocks are its names, with a NUL after each; a read returns one block.
     Dir(&'a [&'a [u8]]),
-    /// A directory of which these blocks are read, and then a read fails, and why.
+    /// A directory with these blocks, after which a read fails, and why.
     Torn(&'a [&'a [u8]], ErrorKind),
     /// A directory that cannot be opened, and one that cannot be read, and why.
     Unopened(io::Error),
@@ -22,11 +22,11 @@ pub enum Kind<'a> {
     LinkToDir,
     /// A link that cannot be followed, and why.
     Link(ErrorKind),
-    /// What cannot be looked at or opened, and why.
+    /// Something that cannot be looked up or opened, and why.
     Lost(ErrorKind),
 }
 
-/// Paths, with a blank between each two, and what stands there.
+/// Paths, separated by spaces, and what is there.
 pub type Planted<'a> = (&'a str, Kind<'a>);
 
 /// How many system calls were made, and for how much.
@@ -42,7 +42,7 @@ pub struct SystemCalls {
     pub reports: Cell<u64>,
 }
 
-/// Counts the names and paths that are reported: 1 for one that is known, with its error, and 9 for any other.
+/// Counts the names and paths that are reported: 1 for an expected one, with its error, and 9 for any other.
 #[derive(Drop)]
 pub struct Noted<'a> {
     pub system: &'a SystemCalls,
@@ -64,14 +64,14 @@ impl Strays for Noted<'_> {
     }
 }
 
-/// A file system of some paths. All others are missing. A directory's path ends in a separator where it is opened.
+/// A file system with these paths and no others. A directory is opened by its path with a separator at the end.
 #[derive(Clone, Copy)]
 pub struct Written<'a> {
     pub paths: &'a [Planted<'a>],
     pub system: &'a SystemCalls,
 }
 
-/// The names of a directory that are not yet read, and why no more can be read after them, if so.
+/// The names of a directory that are not read yet, and why no more can be read after them, if that is so.
 #[derive(Drop)]
 pub struct Names<'a> {
     blocks: &'a [&'a [u8]],
@@ -101,7 +101,7 @@ impl Directory for Names<'_> {
 const NO_BLOCKS: &[&[u8]] = &[];
 
 impl<'a> Written<'a> {
-    /// What stands at a path.
+    /// What is at a path.
     fn kind(&self, path: &str) -> Kind<'a> {
         let mut paths = self.paths.iter();
         let found = paths.find(|(keys, _)| has_word(keys, path));

@@ -18,11 +18,11 @@ abbrev pub few_or_many : (few many : List ℕ) → List ℕ
 few_or_many few [] = few
 few_or_many few (n ∷ ns) = n ∷ ns
 
--- the number is there, or one was left out
+-- the number is there, or a number was left out
 abbrev pub Keeps : FoundNumbers → ℕ → Type 0
 Keeps found number = IsTrue found.is_full ⊎ Contains found.items number
 
--- no number is lost, and left-out numbers stay reported
+-- no number is lost, and it stays known that one was left out
 unfoldable pub KeepsAll : (old new : FoundNumbers) → Type 0
 KeepsAll old new = (number : ℕ) → Keeps old number → Keeps new number
 

@@ -11,7 +11,7 @@ use Rattle.glob_set.specs.declared.pairs.Need.{Need}
 abbrev pub pair_class : ℕ → ℕ → ℕ
 pair_class a b = (a % 32 * 13 + b % 32 * 3) % 128
 
--- the bit of a class
+-- the bit that a class has in a word
 abbrev pub class_bit : (class : ℕ) → ℕ
 class_bit class = 1 * 2 ^ class % 2 ^ 128
 

@@ -4,7 +4,7 @@ use std::io::ErrorKind;
 use std::test::Fail;
 use std::{env, fs, io};
 
-/// The path of a new folder in that of temporary files, which is the first of these that is not there yet.
+/// The path of a new folder among the temporary files: the first of these names that does not exist yet.
 fn new_folder(rt: HostRuntime) -> io::Result<String> {
     let top = env::temp_dir(&rt)?;
     for number in 0..1_000 {
@@ -16,7 +16,7 @@ fn new_folder(rt: HostRuntime) -> io::Result<String> {
     Err(io::Error::from(ErrorKind::AlreadyExists))
 }
 
-/// The fault of a pattern is the answer of both calls.
+/// Both calls return the fault of a pattern.
 #[test]
 fn a_faulty_pattern_is_refused(rt: HostRuntime) {
     for (pattern, pos) in [("a/**b", 4), ("x/a[/]b", 1), ("abc[def", 3)] {
@@ -32,7 +32,7 @@ fn a_faulty_pattern_is_refused(rt: HostRuntime) {
     }
 }
 
-/// A folder that is given and then removed before it is listed is an error, and the walk goes on to its end.
+/// A folder that is removed between being given and being listed is an error, and the walk goes on to its end.
 #[test]
 fn a_folder_that_is_removed_is_an_error(rt: HostRuntime) -> Result<(), Fail> {
     let folder = new_folder(rt)?;

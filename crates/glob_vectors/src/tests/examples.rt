@@ -1,4 +1,4 @@
-//! Each call of `glob_examples`, and each law that takes arguments, once, with ample memory: that it answers.
+//! Calls each function of `glob_examples` and each law that takes arguments once, with ample memory: it has to answer.
 use glob::laws::{path_matches_as_its_text, text_is_an_equal_pattern};
 use glob::{MatchOptions, Pattern};
 use glob_examples::copy::{CopyRules, paths_to_copy, pattern_below};

@@ -1,4 +1,4 @@
-//! What is printed of each public error but that of a walk, and of a pattern.
+//! What each public error prints, except those of a walk and of a pattern.
 use glob::{LineFault, ListError, Pattern, PatternError, PatternRefusal, TreeRefusal};
 use glob_captures::CapturesError;
 use glob_set::braces::BraceRefusal;
@@ -6,7 +6,7 @@ use glob_set::{BraceSetRefusal, SetRefusal};
 use std::io::{self, ErrorKind};
 use std::test::Fail;
 
-/// A fault has the digits of its place, in a set after the number of the text. A listing's error is that of its I/O.
+/// A fault has the digits of its place, in a set after the number of the text. A listing's error is its I/O error.
 #[test]
 fn errors_and_patterns_are_printed(rt: HostRuntime) -> Result<(), Fail> {
     let (pos, msg) = (usize::MAX, "\u{e9}\u{20ac}\u{10fffe}");

@@ -35,13 +35,13 @@ first_of c o dirs true (t ∷ u ∷ us) path e = take_at o (enter c o dirs us) u
 abbrev pub first_part : {A : Type 0} → Content → Plan A → Bool → ℕ → Text → DirEntry → List Mark
 first_part c plan recursive component path e = first_of c plan.options plan.directories recursive (drop component plan.components.items) path e
 
--- and then `**` enters it
+-- after that, `**` enters it
 abbrev pub second_part : {A : Type 0} → Content → Plan A → Bool → ℕ → Text → DirEntry → List Mark
 second_part c plan false component path e = []
 second_part c plan true component path e =
     if is_entered plan.options e.0 e.1 then enter_from c plan component (child path e.0) true else []
 
--- the two parts, for an entry of a directory
+-- both parts, for an entry of a directory
 abbrev pub first_marks : {A : Type 0} → Content → Plan A → Frame A → DirEntry → List Mark
 first_marks c plan f e = first_part c plan f.recursive f.component (string_bytes f.path) e
 

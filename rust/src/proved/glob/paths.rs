@@ -1,4 +1,4 @@
-//! Made by `bin/rust_crate` from `crates/glob/src/paths.rt`, where its contracts are: sha256 c1b6bbc58186c5ee.
+//! Made by `bin/rust_crate` from `crates/glob/src/paths.rt`, where its contracts are: sha256 b42f04e1c34a6712.
 //! Public there: `spent`, `given`. A trait of a user may have a function of such a name.
 //!
 //! A walk over a tree, item by item.
@@ -11,8 +11,8 @@ use std::fmt;
 /// The items of a walk: the paths that a pattern leads to in a tree, in order, and an error for each directory that
 /// could not be listed. Over files `x` and `y`, `*` gives `x` and then `y`.
 ///
-/// An item may also be a refusal, which is the last one: the limit was reached, and the item's path is where. After a
-/// refusal, and after the first `None`, only `None` follows.
+/// The last item may be a refusal: the limit was reached, at the path of the item. After a refusal, and after the first
+/// `None`, only `None` follows.
 ///
 /// ```
 /// use cadmiumdove::walk::{glob_in, Disk, Paths};
@@ -35,7 +35,7 @@ impl<T: Tree> fmt::Debug for Paths<T> {
 }
 
 impl<T: Tree> Paths<T> {
-    /// The tree answers a walk that has done nothing yet.
+    /// A walk that has done nothing yet, whose questions the tree answers.
     pub(crate) fn new(tree: T, machine: WalkMachine) -> Self {
         Paths { tree, machine }
     }
@@ -45,7 +45,7 @@ impl<T: Tree> Paths<T> {
         self.machine.spent()
     }
 
-    /// How many items `next` gave, a refusal too: at most one more than `spent`. After two paths it is 2.
+    /// How many items `next` gave, including a refusal: at most one more than `spent`. After two paths it is 2.
     pub(crate) fn given(&self) -> u128 {
         self.machine.given()
     }
@@ -54,11 +54,11 @@ impl<T: Tree> Paths<T> {
 impl<T: Tree> Iterator for Paths<T> {
     type Item = GlobResult;
 
-    /// The next item, or `None` where none is left. So a walk by `*` over a file `x` gives `Ok` of `x`, and then
+    /// The next item, or `None` if none is left. A walk by `*` over a file `x` gives `Ok` of `x`, and then
     /// `None`.
     ///
-    /// An error's cause is `Read` where a directory could not be listed, and the walk goes on; `Limit` where the next
-    /// unit of work does not fit the limit. After any but `Read` only `None` follows.
+    /// The cause of an error is `Read` if a directory could not be listed, and the walk goes on; `Limit` if the next
+    /// unit of work does not fit the limit. After any cause other than `Read` only `None` follows.
     fn next(&mut self) -> Option<GlobResult> {
         loop {
             match self.machine.advance(&mut self.tree) {
@@ -70,11 +70,11 @@ impl<T: Tree> Iterator for Paths<T> {
     }
 }
 
-/// Walks `tree` after the components of a pattern, with at most `limit` units of work: one for each lookup, one for
-/// each listing, and one for each entry of a listing. Nothing is looked up before the first call of `next`.
+/// Walks `tree` for a pattern, with at most `limit` units of work: one for each lookup, one for each listing, and one
+/// for each entry of a listing. Nothing is looked up before the first call of `next`.
 ///
-/// So `a/*` gives `a/b` if `b` is the only entry of `a`, for 4 units: the lookup of the start, that of `a`, the listing
-/// of `a`, and its entry.
+/// If `b` is the only entry of `a`, then `a/*` gives `a/b`, for 4 units: the lookups of the start and of `a`, the
+/// listing of `a`, and its entry.
 ///
 /// ```
 /// use cadmiumdove::walk::{glob_in, Disk};
@@ -87,9 +87,9 @@ impl<T: Tree> Iterator for Paths<T> {
 ///
 /// # Errors
 ///
-/// A pattern with a fault is refused: the fault of the whole text, or else that of the first component that has one, as
-/// where a bracket holds `/`. Its place counts characters, from the start of the text or of that component: for
-/// `x/a[/]b` it is 1. The tree is then dropped.
+/// A pattern with a fault is refused: the fault of the whole text, or else that of the first component with one, for
+/// example if a bracket has a `/`. Its place is in characters, from the start of the text or of that component: for
+/// `x/a[/]b` it is 1. A refusal drops the tree.
 ///
 /// <details><summary>Contract</summary>
 ///

@@ -1,4 +1,4 @@
-//! Made by `bin/rust_crate` from `crates/glob_captures/src/reaching.rt`, where its contracts are: sha256 921d11ee849d56bd.
+//! Made by `bin/rust_crate` from `crates/glob_captures/src/reaching.rt`, where its contracts are: sha256 35f187e12c99fa2e.
 //! Not derived there: `Reached`.
 //! `Vec::with_capacity` and `resize` are there `vec![x; n]`: memory that is asked for as zeros is never what was freed
 //! last, and costs more.
@@ -21,15 +21,15 @@ use crate::proved::glob_pattern::{characters_of, opens, tokens_len, MatchOptions
 /// ```
 #[derive(Debug, Clone, PartialEq, Eq)]
 pub struct Reached {
-    /// The last place, in bytes, up to which the first tokens take the text, for some number of them.
+    /// The last place, in bytes, up to which some number of first tokens take the text.
     pub place: usize,
     /// The numbers of the tokens that wait there for a character, ascending, counted from 0.
     pub waiting: Vec<usize>,
 }
 
-/// How far the pattern gets in the text: the last place, in bytes, up to which its first tokens take the text (for some
-/// number of them), and the numbers of all tokens that wait for a character there. If the text does not match, this is
-/// where it fails, and what the pattern expected there.
+/// How far the pattern gets in the text: the last place, in bytes, up to which some number of its first tokens take the
+/// text, and the numbers of all tokens that wait for a character there. If the text does not match, this is where it
+/// fails, and what the pattern expected there.
 ///
 /// For `*.rs` and `a.rc` the place is the end: `*` took all, and `*` and `.` wait. For `a[0-9]b` and `a1c` the place is
 /// 2, where token 2, the `b`, waits.
@@ -71,7 +71,7 @@ pub fn reach(pattern: &Pattern, text: &str, options: MatchOptions) -> Result<Rea
     Ok(Reached { place: bytes_of(&characters[..place]), waiting })
 }
 
-/// The last place up to which the first tokens take the text, for some number of them.
+/// The last place up to which some number of first tokens take the text.
 fn farthest(pattern: &Pattern, options: MatchOptions, text: &[char]) -> usize {
     let mut whole = fronts_at_start(text);
     let mut alive = fronts_at_start(text);
@@ -108,8 +108,8 @@ fn fronts_at_start(text: &[char]) -> Vec<bool> {
     places
 }
 
-/// Updates `whole` from the places up to which the tokens before this one take the text to the places up to which they
-/// and this one take it, and sets `alive` to the places where this one waits.
+/// Extends `whole`, the places up to which the tokens before this one take the text, to those up to which they and this
+/// one take it. Sets `alive` to the places where this one waits.
 fn step(pattern: &Pattern, token: usize, options: MatchOptions, text: &[char], whole: &mut [bool], alive: &mut [bool]) {
     let form = form_of(pattern, token);
     let mut took = false;

@@ -1,4 +1,4 @@
-//! Made by `bin/rust_crate` from `crates/glob_rules/src/list.rt`, where its contracts are: sha256 89c9f1c3b6ec7ecf.
+//! Made by `bin/rust_crate` from `crates/glob_rules/src/list.rt`, where its contracts are: sha256 0f7c150af6738ae6.
 //! Not derived there: `IgnoreList`.
 //!
 //! Ignore lists: which paths they ignore, and by which rule.
@@ -48,7 +48,7 @@ impl IgnoreList {
     ///
     /// # Errors
     ///
-    /// The error is [`Line`](RuleRefusal::Line) for the first line that is refused.
+    /// The error is [`Line`](RuleRefusal::Line) for the first refused line.
     ///
     /// <details><summary>Contract</summary>
     ///

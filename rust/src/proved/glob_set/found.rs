@@ -1,4 +1,4 @@
-//! Made by `bin/rust_crate` from `crates/glob_set/src/found.rt`, where its contracts are: sha256 6ad46da4b110fa8c.
+//! Made by `bin/rust_crate` from `crates/glob_set/src/found.rt`, where its contracts are: sha256 1e6e94326f6114a9.
 
 const ROOM: usize = 16;
 

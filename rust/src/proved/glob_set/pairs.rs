@@ -1,4 +1,4 @@
-//! Made by `bin/rust_crate` from `crates/glob_set/src/pairs.rt`, where its contracts are: sha256 0dc4c3abe3ab6083.
+//! Made by `bin/rust_crate` from `crates/glob_set/src/pairs.rt`, where its contracts are: sha256 206376cf7d665b45.
 //!
 //! Pairs of neighbouring bytes, as bits of one word.
 
@@ -17,7 +17,7 @@ pub fn pair_class(a: u8, b: u8) -> u8 {
     ((u32::from(a % 32) * 13 + u32::from(b % 32) * 3) % 128) as u8
 }
 
-/// The bit of a class.
+/// The bit that a class has in a word.
 #[inline(always)]
 pub fn class_bit(class: u8) -> u128 {
     1 << class

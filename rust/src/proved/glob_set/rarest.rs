@@ -1,4 +1,4 @@
-//! Made by `bin/rust_crate` from `crates/glob_set/src/rarest.rt`, where its contracts are: sha256 bc4043dbf5973417.
+//! Made by `bin/rust_crate` from `crates/glob_set/src/rarest.rt`, where its contracts are: sha256 acf548313f194aec.
 //! `Vec::with_capacity` and `resize` are there `vec![x; n]`: memory that is asked for as zeros is never what was freed
 //! last, and costs more.
 //!
@@ -43,8 +43,8 @@ impl Listed {
     }
 }
 
-/// The rarest key of each pattern, if it is rare: that of `mod17` for `src/mod17/*.rs`. If few patterns have one, no
-/// pattern gets one.
+/// The rarest key of each pattern, if it is rare enough: that of `mod17` for `src/mod17/*.rs`. If few patterns have
+/// such a key, no pattern gets one.
 pub fn keys_of(patterns: &[Pattern]) -> Vec<Option<Key>> {
     if patterns.len() < FEWEST_WITH_KEYS {
         return no_keys(patterns);
@@ -118,7 +118,7 @@ fn rarest(keys: &[Key], counts: &[u8]) -> Option<Key> {
     rarest
 }
 
-/// The slot in which a key is counted. Keys of different kinds with the same hash are counted apart.
+/// The slot in which a key is counted. Keys of different kinds are counted apart, even if their hashes are equal.
 fn count_slot(key: Key, slots: usize) -> usize {
     let salt = match key {
         Key::Component(_) => 0,

@@ -1,4 +1,4 @@
-//! Made by `bin/rust_crate` from `crates/glob_walk/src/frame.rt`, where its contracts are: sha256 633de6313c27ae90.
+//! Made by `bin/rust_crate` from `crates/glob_walk/src/frame.rt`, where its contracts are: sha256 7e937caa95bf89fa.
 //!
 //! A directory that a walk is going through.
 //!
@@ -24,7 +24,7 @@ pub enum Cursor {
     Current,
     /// Before the entry of this number.
     At(usize),
-    /// Inside the entry of this number: it was met, and `**` has yet to enter it.
+    /// Inside the entry of this number: the component has met it, and `**` still has to enter it.
     Inside(usize),
 }
 

@@ -1,4 +1,4 @@
-//! Made by `bin/rust_crate` from `crates/glob_walk/src/query.rt`, where its contracts are: sha256 73b989e7e2eaa52f.
+//! Made by `bin/rust_crate` from `crates/glob_walk/src/query.rt`, where its contracts are: sha256 4735860350c695b7.
 //!
 //! An open question.
 
@@ -8,7 +8,7 @@ use crate::proved::glob_walk::task::Accepted;
 pub struct Query {
     /// The path that it is about, as the walk gives it.
     pub path: String,
-    /// The number of the component with which the walk goes on there.
+    /// The index of the component with which the walk goes on there.
     pub component: usize,
     /// What is asked of the path.
     pub kind: QueryKind,
@@ -21,9 +21,9 @@ pub enum QueryKind {
     Look(Accepted),
     /// The entries of the directory that it leads to.
     List {
-        /// Whether it is for `**`, and not for a component with wildcards.
+        /// Whether the listing is for `**`, and not for a component with wildcards.
         recursive: bool,
-        /// Whether it is with the kinds of the entries, and not only for their names.
+        /// Whether the kinds of the entries are asked for, and not only their names.
         kinds: bool,
     },
 }

@@ -1,4 +1,4 @@
-//! Made by `bin/rust_crate` from `crates/glob_walk/src/stack.rt`, where its contracts are: sha256 b6c5db595e46ac34.
+//! Made by `bin/rust_crate` from `crates/glob_walk/src/stack.rt`, where its contracts are: sha256 627a029a34af280f.
 //!
 //! What a walk still has to do.
 //!
@@ -15,7 +15,7 @@ use crate::proved::glob_walk::plan::Plan;
 use crate::proved::glob_walk::task::Task;
 
 /// What a walk looks for, and what it still has to do: a task, if there is one, and then what is left in the
-/// directories that it is in, from the last to the first.
+/// directories on its stack, from the last to the first.
 pub struct Stack {
     /// What it looks for.
     pub plan: Plan,

@@ -1,6 +1,6 @@
-//! Made by `bin/rust_crate` from `crates/glob_walk/src/task.rt`, where its contracts are: sha256 70662a7a19e9780b.
+//! Made by `bin/rust_crate` from `crates/glob_walk/src/task.rt`, where its contracts are: sha256 6a9f669411207ece.
 //!
-//! What a walk does next: a path, and the number of the component from which it goes on there.
+//! What a walk does next: a path, and the index of the component from which it goes on there.
 
 use crate::proved::glob_tree::Look;
 
@@ -30,7 +30,7 @@ pub enum TaskState {
 pub struct Task {
     /// The path, as the walk gives it.
     pub path: String,
-    /// The number of the component.
+    /// The index of the component.
     pub component: usize,
     /// What is known of the path.
     pub state: TaskState,

@@ -1,4 +1,4 @@
-//! Made by `bin/rust_crate` from `crates/glob_walk/src/walker.rt`, where its contracts are: sha256 1475deb83b1070c2.
+//! Made by `bin/rust_crate` from `crates/glob_walk/src/walker.rt`, where its contracts are: sha256 9fefb09e18af0c16.
 //!
 //! The turns of a walk.
 //!
@@ -21,9 +21,9 @@
 //!                       none: Stack::step, to the next task
 //! ```
 //!
-//! The written listing is what a walk does, mark by mark. Each method of [`Walker`] has the same contract, `TurnsTo`:
-//! what was left of the listing starts with what the turn charged and gave, and the rest is what is left of the walk
-//! then. After a turn without a [`Step`] the walk just goes on.
+//! The written listing is what a walk does, mark by mark. All methods of [`Walker`] have one contract, `TurnsTo`: what
+//! was left of the listing begins with what the turn charged and gave, and the rest is what is then left of the walk.
+//! After a turn without a [`Step`] the walk just goes on.
 
 use crate::proved::glob_tree::{child, Entry, Look};
 use crate::proved::glob_walk::component::{is_current_or_parent, Component};
