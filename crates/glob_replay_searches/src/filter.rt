@@ -1,15 +1,16 @@
 //! What a search has to find, by a filter of all paths.
 //!
-//! A search hears many lists of rules, those of files from their own directories on. The filter has one list, at the
-//! start: the rules that come after those of files, then those of each file, those of a directory before those of the
-//! directories in it, and last the rules that come before those of files. There `b/` of a file in `a` is `/a/**/b/`, and
-//! `!/b` is `!/a/b`. The last rule that names a path decides.
+//! In a search the rules of a file are about what is below its directory. The filter has one list of rules, about what
+//! is below the start. As the last rule that names a path decides, it begins with the rules that come after those of
+//! files. Then come those of each file, a directory's before those of the directories in it, and at the end the rules
+//! that come before those of files. `b/` of a file in `a` becomes `/a/**/b/`, and `!/b` becomes `!/a/b`.
 
 use crate::case::Case;
 use crate::forest::path_in;
 use glob_pattern::Pattern;
 use glob_replay::words::{pattern_of, unusable};
 use glob_rules::IgnoreList;
+use glob_search::Wanted;
 use std::alloc::{AllocError, Global};
 use std::io::{self, Write};
 
@@ -62,7 +63,12 @@ impl Case {
 
     /// Whether a path is found if no rule ignores it.
     fn is_taken(&self, patterns: &[Pattern], path: &str, is_dir: bool) -> Result<bool, AllocError> {
-        if !self.wanted.takes(is_dir) || path.split('/').count() > self.depth {
+        let is_wanted = match self.wanted {
+            Wanted::All => true,
+            Wanted::Directories => is_dir,
+            Wanted::Others => !is_dir,
+        };
+        if !is_wanted || path.split('/').count() > self.depth {
             return Ok(false);
         }
         let mut options = self.options;

@@ -9,7 +9,5 @@ mod forest;
 mod found;
 mod rows;
 mod rule_texts;
-#[cfg(test)]
-mod tests;
 
 pub use rows::Searches;

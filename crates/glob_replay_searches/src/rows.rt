@@ -31,7 +31,7 @@ impl Make for Searches {
 /// How many searches there are, how many agree with the filter, how many of these find something, and in how many of
 /// them rules leave something out.
 #[derive(Default, Drop)]
-pub struct Tally {
+struct Tally {
     all: usize,
     agree: usize,
     find: usize,
@@ -40,7 +40,7 @@ pub struct Tally {
 
 impl Tally {
     /// Adds how many agree, whether a quarter of all find something, and whether in a tenth rules leave something out.
-    pub fn add_to(&self, words: &mut String) -> io::Result<()> {
+    fn add_to(&self, words: &mut String) -> io::Result<()> {
         let find = amount(self.find, self.all / 4);
         let ignore = amount(self.ignore, self.all / 10);
         Ok(write!(words, "{} agree, {find} find, {ignore} ignore", self.agree)?)
@@ -71,7 +71,7 @@ fn amount<'a>(number: usize, least: usize) -> &'a str {
 }
 
 /// Makes so many random searches, from a seed on, and adds those that do not agree with the filter.
-pub fn search_at_random(words: &mut String, count: usize, seed: usize) -> io::Result<Tally> {
+fn search_at_random(words: &mut String, count: usize, seed: usize) -> io::Result<Tally> {
     let alloc = *words.allocator();
     let mut chance = Chance::new(alloc, seed as u64);
     let mut tally = Tally::default();
