@@ -9,6 +9,7 @@ pub mod Looking
 pub mod Names
 pub mod Patterns
 pub mod Queries
+pub mod Refusing
 pub mod SameTexts
 pub mod Trees
 pub mod Walking

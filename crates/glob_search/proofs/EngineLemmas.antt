@@ -1,3 +1,4 @@
+pub mod Ending
 pub mod Entering
 pub mod Falling
 pub mod Fresh

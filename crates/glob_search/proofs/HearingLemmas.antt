@@ -50,7 +50,7 @@ pub lists_at-child : (a : Aim) (directory : Key) (n : Text) → lists_at a (dire
     ++ lists_in a (directory ++ n ∷ [])
 lists_at-child a directory n = ap (λ lists. lists ++ lists_in a (directory ++ n ∷ [])) (lists_above-child a directory n)
 
-or-none : {A : Type 0} (o : Option A) → option_or o None ≡ o
+pub or-none : {A : Type 0} (o : Option A) → option_or o None ≡ o
 or-none None = refl
 or-none (Some x) = refl
 

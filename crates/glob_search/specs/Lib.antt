@@ -1,6 +1,7 @@
 pub mod Aims
 pub mod Laws
 pub mod Private
+pub mod Refusals
 pub mod Searching
 pub mod States
 pub mod Visiting

@@ -7,6 +7,7 @@ pub mod NodeGrowth
 pub mod NodeNumbers
 pub mod Nodes
 pub mod Order
+pub mod Refusing
 pub mod Steps
 pub mod Ways
 pub mod Weights

@@ -1,11 +1,12 @@
 -- What contracts see of a search, and what it has given over a known content.
-use Rattle.std.specs.Prelude.{◌≡◌, ℕ, List, [], ◌∷◌, ◌++◌, Option, Some, None, Result, Ok, Err, string_bytes, ⊤}
+use Rattle.std.specs.Prelude.{◌≡◌, ℕ, List, [], ◌∷◌, ◌++◌, Contains, Option, Some, None, Result, Ok, Err, string_bytes, ⊤}
 use Rattle.std.specs.IoError.{error_kind}
 use Rattle.std.specs.declared.io.ErrorKind.{ErrorKind}
 use Rattle.std.specs.Option.{ForSome}
 use Rattle.std.specs.declared.cmp.Ordering.TheVariants.{Less}
 use Rattle.glob_text.specs.Text.{Text}
 use Rattle.glob_tree.specs.Content.{Content, Key, is_dir_at}
+use Rattle.glob_tree.specs.Paths.{child}
 use Rattle.glob_rules.specs.declared.error.RuleRefusal.{RuleRefusal}
 use Rattle.glob_search.specs.Aims.{AreRefused, path_down, path_of}
 use Rattle.glob_search.specs.Laws.{key_cmp}
@@ -16,8 +17,8 @@ use Rattle.glob_search.specs.declared.fault.SearchFault.TheVariants as fault
 use Rattle.glob_search.specs.declared.found.Found.{Found as FoundPath}
 
 -- How far a search has come is its own affair, of a type of its own. What a caller knows of it is what is left of the
--- gifts over a content, and whether the answers so far agree with that content and the known texts of files. Over any tree, each path that is still
--- to be found comes after the names that the search is past.
+-- gifts over a content, and whether the answers so far agree with that content and the known texts of files. Over any
+-- tree, each path that is still to be found comes after the names that the search is past.
 pub record Progress : Type 1 where
   pub State : Type 0
   pub left : Content → Aim → State → List Gift
@@ -35,6 +36,8 @@ pub record SearchState (P : Progress) : Type 0 where
   pub levels : ℕ
   -- the names of files with rules
   pub files : List Text
+  -- at most so many paths and faults are still to come
+  pub remaining : ℕ
   -- how far it has come
   pub state : P.State
 
@@ -105,3 +108,18 @@ abbrev pub GoesAfter : {A : Type 0} {P : Progress} → (past : Key) → Option (
 GoesAfter past None s = IsPast past s
 GoesAfter past (Some (Ok found)) s = FindsAfter past found s
 GoesAfter past (Some (Err f)) s = IsPast past s
+
+-- The path is that of a file in some directory, with one of these names.
+pub record IsRuleFile (files : List Text) (path : Text) : Type 0 where
+  pub directory : Text
+  pub file : Text
+  pub named : Contains files file
+  pub at : path ≡ child directory file
+
+-- A fault of a file with rules is that of one with these names, so that there is none where no names are given.
+abbrev pub FitsFiles : {A : Type 0} → (files : List Text) → SearchFault A → Type 0
+FitsFiles files (fault.Unread path e) = ⊤
+FitsFiles files (fault.UnreadRules path e) = IsRuleFile files (string_bytes path)
+FitsFiles files (fault.RefusedRules path refusals) = IsRuleFile files (string_bytes path)
+FitsFiles files fault.Limit = ⊤
+FitsFiles files fault.Memory = ⊤

@@ -3,12 +3,14 @@
 //! Patterns that begin with the same components share their beginnings: each is a node, and goes on to others by one
 //! component. In a directory those are alive that take the names of its path, as `src` and `src/**` do in `src`, and
 //! `src/**` alone in `src/a`. Nothing else of the patterns is needed there.
-ghost use Rattle.std.specs.Prelude.{◌≡◌, ◌<◌, vec_len, IfOk, false, not, map, [], ◌∷◌, ◌++◌};
+ghost use Rattle.std.specs.Prelude.{◌≡◌, ◌<◌, vec_len, IfErr, IfOk, false, not, map, [], ◌∷◌, ◌++◌};
 ghost use Rattle.std.specs.Cmp.Lexicographic.{slice_cmp};
 ghost use Rattle.std.specs.List.{All, AllPairs, list_any};
 ghost use Rattle.std.specs.Ordering.{nat_cmp};
 ghost use Rattle.std.specs.declared.cmp.Ordering.TheVariants.{Less};
+ghost use Rattle.glob_set.specs.Sets.{refusal_of};
 ghost use Rattle.glob_search.specs.Private.NodeNumbers.{IsWithin};
+ghost use Rattle.glob_search.specs.Refusals.{AreSearchable, RefusesPatterns};
 
 mod growing;
 mod node;
@@ -43,6 +45,8 @@ impl<A: Allocator + Copy> Beginnings<A> {
     /// component that has one.
     pub fn of(alloc: A, patterns: &[&str], options: MatchOptions) -> Result<Self, SetRefusal>
         ensures beginnings { IfOk result (AreBeginnings options (map (λ p. p.now) patterns.now)) }
+        ensures accepted { IfOk result (λ _. AreSearchable (map (λ p. p.now) patterns.now)) }
+        ensures refused { IfErr result (RefusesPatterns (map (λ p. p.now) patterns.now)) }
     {
         let mut nodes = Vec::new(alloc);
         nodes.push(Node::new(alloc, false))?;
@@ -315,7 +319,9 @@ impl<A: Allocator + Copy> Beginnings<A> {
 }
 
 /// The refusal of the pattern with a number.
-fn refusal_of(number: usize, refusal: PatternRefusal) -> SetRefusal {
+fn refusal_of(number: usize, refusal: PatternRefusal) -> SetRefusal
+    ensures { result ≡ refusal_of number refusal }
+{
     match refusal {
         PatternRefusal::Syntax(error) => SetRefusal::Syntax(number, error),
         PatternRefusal::Memory => SetRefusal::Memory,

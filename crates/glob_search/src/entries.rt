@@ -5,7 +5,7 @@ ghost use Rattle.glob_tree.specs.Answers.{IsListError, IsTold, entries_of, names
 ghost use Rattle.glob_tree.specs.Content.{Content, Key, children, is_content, is_dir_at, list_result, look_result};
 ghost use Rattle.glob_search.specs.Aims.{path_of};
 ghost use Rattle.glob_search.specs.Searching.{Aim, is_listed};
-ghost use Rattle.glob_search.specs.Private.Faults.{is_last};
+ghost use Rattle.glob_search.specs.Private.Faults.{IsOfListing, is_last};
 ghost use Rattle.glob_search.specs.Private.Listings.{AreFalling, AreLookedUp, IsListed, IsSourceAnswer, looked, names_down};
 ghost use Rattle.glob_search.specs.Private.Nodes.{AreAlive, AreBeginnings};
 
@@ -115,6 +115,7 @@ pub fn list<A: Allocator + Copy, T: Tree<Alloc = A>>(
         → IsTrue (is_dir_at c (c.current ++ names)) → string_bytes opening.now.path ≡ path_of names
         → IsListed c names source (string_bytes opening.now.path) result }
     ensures falls { IfOk result (λ entries. AreFalling entries.items) }
+    ensures fails { IfErr result (IsOfListing meter.old.spent meter.new.spent) }
 {
     meter.charge(1)?;
     let mut entries = match listed(tree, opening.path.as_str(), source) {

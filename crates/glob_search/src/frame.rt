@@ -44,7 +44,8 @@ impl<A: Allocator> Frame<A> {
     /// The number of the next of these names that may be in it, which is passed by this.
     pub fn next_file(&mut self, names: &[String<A>]) -> Option<usize>
         ensures entries { self.new.entries ≡ self.old.entries }
-        ensures passes { NextFile (map (λ name. string_bytes name) names.now) self.old result self.new }
+        ensures passes { NextFile (map (λ name. string_bytes name) names.now)
+            self.old result self.new }
     {
         while self.files < names.len() {
             let number = self.files;

@@ -1,11 +1,12 @@
 //! Searches.
-ghost use Rattle.std.specs.Prelude.{◌≡◌, ◌≤◌, List, [], map, Option, Some, MatchOption, IfOk, IsTrue, ⊤};
+ghost use Rattle.std.specs.Prelude.{◌≡◌, ◌+◌, ◌<◌, ◌≤◌, List, [], map, Option, Some, MatchOption, IfErr, IfOk, IfSome, IsTrue, ⊤};
 ghost use Rattle.glob_text.specs.Text.{Text};
 ghost use Rattle.glob_tree.specs.Answers.{IsTold};
 ghost use Rattle.glob_tree.specs.Content.{Content, Key, is_content};
 ghost use Rattle.glob_search.specs.Aims.{AreTextsOf, aim_of, files_of};
+ghost use Rattle.glob_search.specs.Refusals.{AreSearchable, RefusesPatterns};
 ghost use Rattle.glob_search.specs.Searching.{Aim};
-ghost use Rattle.glob_search.specs.States.{IsBegun, IsPast, HasGiven, GivesNext, GoesAfter};
+ghost use Rattle.glob_search.specs.States.{IsBegun, IsPast, FitsFiles, HasGiven, GivesNext, GoesAfter};
 ghost use Rattle.glob_search.specs.Visiting.{Gift, gifts};
 
 use crate::fault::SearchFault;
@@ -44,7 +45,8 @@ impl<A: Allocator> Model for Search<A> {
 impl<A: Allocator + Copy> Search<A> {
     /// A search for what some patterns match. It has asked nothing, and all is left that it has to give.
     ///
-    /// The error is the number of the first pattern with a fault, and that fault, or a failed allocation.
+    /// A pattern is read as a whole, and then each of its components, so that `a/[/]` is refused for its `[`. The error is
+    /// the number of the first pattern with a fault, counted from 0, and its first fault, or a failed allocation.
     pub fn new(alloc: A, patterns: &[&str], settings: Settings<A>) -> Result<Self, SetRefusal>
         ensures begun { IfOk result (IsBegun settings.limit settings.depth (files_of settings)) }
         ensures fresh { IfOk result (λ search. (c : Content) (known : Text → Option Text)
@@ -52,6 +54,9 @@ impl<A: Allocator + Copy> Search<A> {
             → let a = aim_of (map (λ p. p.now) patterns.now) settings known in
             HasGiven (gifts c a) c a known [] search) }
         ensures past { IfOk result (λ search. IsPast [] search) }
+        ensures few { IfOk result (λ search. search.remaining ≤ settings.limit + 1) }
+        ensures accepted { IfOk result (λ _. AreSearchable (map (λ p. p.now) patterns.now)) }
+        ensures refused { IfErr result (RefusesPatterns (map (λ p. p.now) patterns.now)) }
     {
         let searcher = Searcher::new(alloc, patterns, settings)?;
         Ok(Search { searcher })
@@ -62,7 +67,9 @@ impl<A: Allocator + Copy> Search<A> {
     /// Where the content of the tree and the texts of the files with rules are known, the paths and the directories that
     /// cannot be listed are exactly those that the search has to give, one after another, and `None` comes after the last.
     /// Where lines of a file with rules are refused, the search goes on by its other lines, and after a file that cannot
-    /// be read by other files.
+    /// be read by other files. Both happen only where files with rules were asked for.
+    ///
+    /// With each path and each fault less is still to come, so that a loop of calls up to `None` ends.
     pub fn next<T: Tree<Alloc = A>, R: RuleTexts<Alloc = A>>(
         &mut self,
         tree: &mut T,
@@ -81,6 +88,9 @@ impl<A: Allocator + Copy> Search<A> {
             → (all given : List Gift) → HasGiven all c a known given self.old
             → GivesNext all c a known given result self.new }
         ensures ascends { (past : Key) → IsPast past self.old → GoesAfter past result self.new }
+        ensures falls { MatchOption result (self.new.remaining ≤ self.old.remaining)
+            (λ _. self.new.remaining < self.old.remaining) }
+        ensures rules { IfSome result (λ item. IfErr item (FitsFiles self.old.files)) }
     {
         self.searcher.next(tree, texts)
     }

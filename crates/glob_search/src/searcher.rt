@@ -2,7 +2,7 @@
 //!
 //! A search has a frame for each directory on the way down to where it is. A turn enters a directory, reads one of its
 //! files with rules, meets one of its entries, or leaves it.
-ghost use Rattle.std.specs.Prelude.{◌≡◌, ℕ, suc, ◌+◌, ◌≤◌, ◌<◌, ◌&&◌, ◌++◌, ◌∷◌, [], List, Option, None, Some, Bool, true, false, IsTrue, OnOk, IfOk, IfErr, MatchOption, map, option_map, unwrap_or, string_bytes, length, ⊤};
+ghost use Rattle.std.specs.Prelude.{◌≡◌, ℕ, suc, ◌+◌, ◌≤◌, ◌<◌, ◌&&◌, ◌++◌, ◌∷◌, [], List, Option, None, Some, Bool, true, false, IsTrue, OnOk, IfOk, IfErr, IfSome, MatchOption, map, option_map, unwrap_or, string_bytes, length, ⊤};
 ghost use Rattle.std.specs.Option.{ForSome};
 ghost use Rattle.std.specs.List.{list_all};
 ghost use Rattle.glob_text.specs.Text.{Text};
@@ -12,15 +12,17 @@ ghost use Rattle.glob_tree.specs.Content.{Content, Key, is_content, is_dir, kind
 ghost use Rattle.glob_tree.specs.Paths.{is_proper};
 ghost use Rattle.glob_tree.specs.declared.kind.Kind.{Kind};
 ghost use Rattle.glob_search.specs.Aims.{AreTextsOf, aim_of, files_of, path_of, wants};
+ghost use Rattle.glob_search.specs.Refusals.{AreSearchable, RefusesPatterns};
 ghost use Rattle.glob_search.specs.Searching.{Aim, is_ignored};
+ghost use Rattle.glob_search.specs.States.{IsRuleFile};
 ghost use Rattle.glob_search.specs.Visiting.{Gift, gifts};
 ghost use Rattle.glob_search.specs.Private.Engine.{AreAnswers, GoesOn, HasWork, IsKindless, IsReading, Turns, file_names, found_if, work_left};
-ghost use Rattle.glob_search.specs.Private.Faults.{is_last};
+ghost use Rattle.glob_search.specs.Private.Faults.{IsOfRules, is_last};
 ghost use Rattle.glob_search.specs.Private.Hearing.{Hears};
 ghost use Rattle.glob_search.specs.Private.Order.{IsPastSearch, IsPastWork, TurnsLater};
 ghost use Rattle.glob_search.specs.Private.Steps.{MayEnter};
 ghost use Rattle.glob_search.specs.Private.Ways.{search_left};
-ghost use Rattle.glob_search.specs.Private.Weights.{way_weight, weight, work_weight};
+ghost use Rattle.glob_search.specs.Private.Weights.{Takes, items_left, stock, way_weight, weight, work_stock, work_weight};
 
 mod entering;
 
@@ -56,7 +58,7 @@ pub struct Searcher<A: Allocator> {
 impl<A: Allocator + Copy> Searcher<A> {
     ghost use Rattle.glob_search.specs.Private.Finding.{state_of};
     ghost use Rattle.glob_search.specs.Private.Ways.{IsDone};
-    ghost use Rattle.glob_search.specs.States.{GivesNext, GoesAfter, HasGiven, IsBegun};
+    ghost use Rattle.glob_search.specs.States.{FitsFiles, GivesNext, GoesAfter, HasGiven, IsBegun};
 
     /// A search that has asked nothing.
     pub fn new(alloc: A, patterns: &[&str], settings: Settings<A>) -> Result<Self, SetRefusal>
@@ -67,6 +69,9 @@ impl<A: Allocator + Copy> Searcher<A> {
             → let a = aim_of (map (λ p. p.now) patterns.now) settings known in
             HasGiven (gifts c a) c a known [] (state_of s)) }
         ensures past { IfOk result (λ s. IsPastSearch [] s) }
+        ensures few { IfOk result (λ s. items_left s.meter s.way ≤ settings.limit + 1) }
+        ensures accepted { IfOk result (λ _. AreSearchable (map (λ p. p.now) patterns.now)) }
+        ensures refused { IfErr result (RefusesPatterns (map (λ p. p.now) patterns.now)) }
     {
         let Settings {
             options,
@@ -122,6 +127,11 @@ impl<A: Allocator + Copy> Searcher<A> {
             → GivesNext all c a known given result (state_of self.new) }
         ensures ascends { (past : Key) → IsPastSearch past self.old
             → GoesAfter past result (state_of self.new) }
+        ensures falls { MatchOption result
+            (items_left self.new.meter self.new.way ≤ items_left self.old.meter self.old.way)
+            (λ _. items_left self.new.meter self.new.way
+            < items_left self.old.meter self.old.way) }
+        ensures rules { IfSome result (λ item. IfErr item (FitsFiles (file_names self.old))) }
     {
         while let Some(work) = self.way.next(self.rule_files.as_slice()) {
             match self.turn(work, tree, texts) {
@@ -181,6 +191,9 @@ impl<A: Allocator + Copy> Searcher<A> {
             result self.new }
         ensures later { (past : Key) → IsPastWork past work self.old.way
             → TurnsLater past result self.new.way }
+        ensures takes { Takes (stock self.old.meter self.old.way + work_stock work)
+            (stock self.new.meter self.new.way) result }
+        ensures rules { IfErr result (FitsFiles (file_names self.old)) }
     {
         match work {
             Work::Enter(opening) => self.enter(tree, opening)?,
@@ -213,6 +226,8 @@ impl<A: Allocator + Copy> Searcher<A> {
             result self.new }
         ensures later { (past : Key) → IsPastWork past (Work.Meet entry) self.old.way
             → TurnsLater past result self.new.way }
+        ensures frames { OnOk result (self.new.way.frames ≡ self.old.way.frames) }
+        ensures last { IfErr result (λ fault. is_last fault ≡ true) }
     {
         let Some(frame) = self.way.frames.last() else {
             return Ok(None);
@@ -331,6 +346,9 @@ impl<A: Allocator + Copy> Searcher<A> {
             → AreTextsOf c a (file_names self.old) known
             → HasWork c a known self.old (Work.Read number)
             → GoesOn c a known (search_left c a self.old) result self.new }
+        ensures paid { IfErr result (λ fault. is_last fault ≡ false
+            → self.old.meter.spent < self.new.meter.spent) }
+        ensures fails { IfErr result (IsOfRules (file_names self.old)) }
     {
         self.meter.charge(1)?;
         let Some(frame) = self.way.frames.last() else {
@@ -366,6 +384,8 @@ fn read_list<A: Allocator + Copy, R: RuleTexts<Alloc = A>>(
         (λ read. option_map (λ r. r.1.items) read ≡ option_map refusals_of (known path.now)) }
     ensures last { (known : Text → Option Text) → R.texts texts.old ≡ Some known
         → IfErr result (λ fault. is_last fault ≡ true) }
+    ensures fails { (files : List Text) → IsRuleFile files path.now
+        → IfErr result (IsOfRules files) }
 {
     let text = match texts.text(path) {
         Ok(Some(text)) => text,

@@ -6,6 +6,7 @@ mod rows;
 use crate::{RuleTexts, Search, SearchFault, Settings, Wanted};
 use glob_pattern::MatchOptions;
 use glob_rules::IgnoreList;
+use glob_set::SetRefusal;
 use glob_tree::{Entry, ListError, Look, MemTree, Tree};
 use rows::{ROWS, SOURCE};
 use std::alloc::{AllocError, Global};
@@ -225,4 +226,18 @@ fn finds_what_rows_say(rt: HostRuntime) -> Result<(), AllocError> {
         assert_eq!(rt; tree.looks, row.looks, "looks: {text}");
     }
     Ok(())
+}
+
+/// `b/[/]` is accepted as a whole, and its component `[` is not.
+#[test]
+fn refuses_the_first_pattern_with_a_fault(rt: HostRuntime) {
+    let patterns = ["a", "b/[/]", "["];
+    match Search::new(rt.alloc(), &patterns, Settings::new(rt.alloc())) {
+        Err(SetRefusal::Syntax(number, error)) => {
+            assert_eq!(rt; number, 1);
+            assert_eq!(rt; error.pos, 0);
+            assert_eq!(rt; error.msg, "invalid range pattern");
+        }
+        _ => assert!(rt; false, "accepted, or out of memory"),
+    }
 }

@@ -36,7 +36,8 @@ impl<A: Allocator> Way<A> {
             (λ work. way_weight self.new + work_weight work ≡ way_weight self.old) }
         ensures ends { MatchOption result (IsDone self.new) (λ _. ⊤) }
         ensures stays { IsDone self.old → (result ≡ None) × (self.new ≡ self.old) }
-        ensures work { NextWork (map (λ name. string_bytes name) names.now) self.old result self.new }
+        ensures work { NextWork (map (λ name. string_bytes name) names.now)
+            self.old result self.new }
     {
         if let Some(opening) = self.entering.take() {
             return Some(Work::Enter(opening));

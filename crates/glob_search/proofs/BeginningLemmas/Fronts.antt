@@ -1,6 +1,6 @@
 -- The beginnings of patterns and their numbers in a tree.
 use Rattle.std.proofs.Common.{◌≡◌, ℕ, zero, suc, ◌<◌, ◌≤◌, ◌⊎◌, inl, inr, ⊎_elim, List, [], ◌∷◌, ◌++◌, length, map}
-use Rattle.std.proofs.Common.{refl, ap, ap₂, sym, ◌∙◌, arith}
+use Rattle.std.proofs.Common.{refl, ap, sym, ◌∙◌, arith}
 use Rattle.std.specs.List.{All}
 use Rattle.std.proofs.lemmas.List.{append_assoc, length-append, map-append}
 use Rattle.std.proofs.lemmas.Option.{slice_get_within}
@@ -9,6 +9,7 @@ use Rattle.glob_pattern.specs.declared.options.MatchOptions.{MatchOptions}
 use Rattle.glob_search.specs.Private.NodeNumbers.{IsWithin}
 use Rattle.glob_search.specs.Private.Nodes.{IsTree, recursive}
 use Rattle.glob_search.specs.declared.beginnings.node.Node.{Node}
+use Rattle.glob_search.proofs.EngineLemmas.Lasts.{same-last}
 use Rattle.glob_search.proofs.BeginningLemmas.Trees.{ByOther, ByRecursive, led-by}
 
 -- the last of some elements
@@ -20,23 +21,13 @@ pub push-not-nil : {X : Type 0} (xs : List X) (x : X) → xs ++ x ∷ [] ≡ [] 
 push-not-nil [] x e = cc
 push-not-nil (y ∷ ys) x e = cc
 
-pub push-same : {X : Type 0} (xs ys : List X) (x y : X) → xs ++ x ∷ [] ≡ ys ++ y ∷ [] → (xs ≡ ys) × (x ≡ y)
-push-same [] [] x y e = let same : x ≡ y = cc in (refl, same)
-push-same [] (z ∷ zs) x y e = let none : [] ≡ zs ++ y ∷ [] = cc in absurd (push-not-nil zs y (sym none))
-push-same (w ∷ ws) [] x y e = let none : ws ++ x ∷ [] ≡ [] = cc in absurd (push-not-nil ws x none)
-push-same (w ∷ ws) (z ∷ zs) x y e =
-    let first : w ≡ z = cc in
-    let rest : ws ++ x ∷ [] ≡ zs ++ y ∷ [] = cc in
-    let both = push-same ws zs x y rest in
-    (ap₂ (λ v vs. v ∷ vs) first both.0, both.1)
-
 -- a list whose elements are read, without the last
 pub map-push : {X Y : Type 0} (f : X → Y) (xs : List X) (ys : List Y) (y : Y) → map f xs ≡ ys ++ y ∷ [] → (us : List X)
     × (u : X) × (xs ≡ us ++ u ∷ []) × (map f us ≡ ys) × (f u ≡ y)
 map-push f [] ys y e = absurd (push-not-nil ys y (sym e))
 map-push f (x ∷ xs) ys y e =
     let (us, u, is) = last-of x xs in
-    let mapped = push-same (map f us) ys (f u) y (sym (map-append f us (u ∷ [])) ∙ ap (map f) (sym is) ∙ e) in
+    let mapped = same-last (map f us) ys (f u) y (sym (map-append f us (u ∷ [])) ∙ ap (map f) (sym is) ∙ e) in
     (us, u, is, mapped.0, mapped.1)
 
 module _ {A : Type 0} (o : MatchOptions) (nodes : List (Node A)) (front : ℕ → List Text) (tree : IsTree o nodes front)
@@ -53,12 +44,12 @@ module _ {A : Type 0} (o : MatchOptions) (nodes : List (Node A)) (front : ℕ �
   goes-from n c lt us t [] le is = ⊎_elim
       (λ zero. absurd (push-not-nil us t (sym is ∙ ap front zero ∙ tree.root)))
       (⊎_elim
-      (λ up. let both = push-same (front up.parent) us up.text t (sym up.front_is ∙ is) in record {
+      (λ up. let both = same-last (front up.parent) us up.text t (sym up.front_is ∙ is) in record {
         number = c;
         way =
             inl (up, both.0, both.1);
       })
-      (λ up. let both = push-same (front up.parent) us recursive t (sym up.front_is ∙ is) in record {
+      (λ up. let both = same-last (front up.parent) us recursive t (sym up.front_is ∙ is) in record {
         number = c;
         way =
             inr (up, both.0, both.1);
@@ -73,7 +64,7 @@ module _ {A : Type 0} (o : MatchOptions) (nodes : List (Node A)) (front : ℕ �
       (λ zero. absurd (push-not-nil (us ++ t ∷ ws) w (sym whole ∙ ap front zero ∙ tree.root)))
       (⊎_elim
       (λ up. goes-from n up.parent (slice_get_within nodes up.parent up.node up.at) us t ws shorter
-      (push-same (front up.parent) (us ++ t ∷ ws) up.text w (sym up.front_is ∙ whole)).0)
+      (same-last (front up.parent) (us ++ t ∷ ws) up.text w (sym up.front_is ∙ whole)).0)
       (λ up. goes-from n up.parent (slice_get_within nodes up.parent up.node up.at) us t ws shorter
-      (push-same (front up.parent) (us ++ t ∷ ws) recursive w (sym up.front_is ∙ whole)).0))
+      (same-last (front up.parent) (us ++ t ∷ ws) recursive w (sym up.front_is ∙ whole)).0))
       (led-by o nodes front tree within c lt)

@@ -15,14 +15,19 @@ use Rattle.std.proofs.lemmas.Slice.Eq.{bytes_eq-Decides}
 use Rattle.std.proofs.lemmas.Str.{encode_ascii, encodes-chars, inside_one}
 use Rattle.std.proofs.lemmas.Str.Ascii.{lowercase_is}
 use Rattle.glob_text.specs.Text.{Text}
+use Rattle.glob_pattern.specs.Computing.Reading.{units_from}
 use Rattle.glob_pattern.specs.Grammar.Characters.{star, question_mark, open_bracket, is_wildcard}
+use Rattle.glob_pattern.specs.Grammar.Units.{IsAccepted}
+use Rattle.glob_pattern.specs.Matching.Options.{new_options}
+use Rattle.glob_pattern.specs.declared.token.Token.TheVariants.{AnySequence, Recursive}
 use Rattle.glob_pattern.specs.Matching.Components.{is_open, is_recursive}
 use Rattle.glob_pattern.specs.Matching.Texts.{Matches}
 use Rattle.glob_pattern.specs.Computing.Deciding.{is_match}
 use Rattle.glob_pattern.specs.declared.options.MatchOptions.{MatchOptions}
 use Rattle.glob_pattern.specs.Laws.{SameTexts}
 use Rattle.glob_pattern.proofs.GrammarLemmas.Accepted.{one_reading}
-use Rattle.glob_pattern.proofs.MatchingLemmas.Computed.{match_decided}
+use Rattle.glob_pattern.proofs.MatchingLemmas.Computed.{accepted_by_reading, match_decided}
+use Rattle.glob_pattern.proofs.MatchingLemmas.Matched.{accepted_by_match}
 use Rattle.glob_pattern.proofs.MatchingLemmas.PlainPatterns.{plain_matches_same}
 use Rattle.glob_tree.specs.Content.{Key}
 use Rattle.glob_search.specs.Searching.{takes, ends_recursive}
@@ -88,6 +93,20 @@ pub folded-literal : (o : MatchOptions) (t n : Text) → IsUtf8 t → IsUtf8 n �
     → is_match o (chars t) (chars n) ≡ true
 folded-literal o t n u v literal e =
     (match_decided o (chars t) (chars n)).1 ((literal-same o t u literal (chars n)).1 (folded-SameTexts o.case_sensitive n t v u e))
+
+-- and itself, so that it is accepted
+pub literal-accepted : (t : Text) → IsUtf8 t → list_any is_wildcard t ≡ false → IsAccepted (chars t)
+literal-accepted t utf8 literal = accepted_by_match new_options (chars t) (chars t)
+    (match-true new_options (chars t) (chars t) (folded-literal new_options t t utf8 utf8 literal refl))
+
+-- `**` is accepted, and so is `*`
+pub stars-accepted : IsAccepted (chars recursive)
+unfolding chars units_from
+stars-accepted = accepted_by_reading (chars recursive) (Recursive ∷ []) refl
+
+pub star-accepted : IsAccepted (chars (star ∷ []))
+unfolding chars units_from
+star-accepted = accepted_by_reading (chars (star ∷ [])) (AnySequence ∷ []) refl
 
 lower-wild : (c : ℕ) → is_wildcard (to_ascii_lowercase c) ≡ is_wildcard c
 lower-wild c = ⊎_elim (λ low. ap is_wildcard ((lowercase_is c).1 low)) (λ from. ⊎_elim (λ above. ap is_wildcard

@@ -1,6 +1,7 @@
 -- What components take, by the last of them and the last name.
 use Rattle.std.proofs.Common.{◌≡◌, Bool, true, false, ◌&&◌, ◌||◌, List, [], ◌∷◌, ◌++◌, refl, ap, ap₂, sym, ◌∙◌}
 use Rattle.std.specs.Str.{chars}
+use mathlib.Core.Bool.{and-false, and-true, or-false}
 use Rattle.glob_text.specs.Text.{Text}
 use Rattle.glob_pattern.specs.Matching.Components.{is_open, is_recursive}
 use Rattle.glob_pattern.specs.Computing.Deciding.{is_match}
@@ -13,18 +14,6 @@ use Rattle.glob_search.proofs.OrderLemmas.Beginnings.{takes-recursive, takes-oth
 pub none-takes : (o : MatchOptions) (ns : Key) (n : Text) → takes o [] (ns ++ n ∷ []) ≡ false
 none-takes o [] n = refl
 none-takes o (m ∷ ms) n = refl
-
-and-false : (b : Bool) → (b && false) ≡ false
-and-false true = refl
-and-false false = refl
-
-and-true : (b : Bool) → (b && true) ≡ b
-and-true true = refl
-and-true false = refl
-
-or-false : (b : Bool) → (b || false) ≡ b
-or-false true = refl
-or-false false = refl
 
 module _ (o : MatchOptions) (t : Text) where
   -- a component that is no `**` takes a name

@@ -1,7 +1,7 @@
 -- A search that has asked nothing has all gifts left.
-use Rattle.std.proofs.Common.{◌≡◌, ◌<◌, true, cond, [], ◌++◌, flat_map, length, Option, Some}
-use Rattle.std.proofs.Common.{None, ap, sym, subst, ◌∙◌}
-use Rattle.std.specs.Prelude.{nat_lt, reverse, string_bytes}
+use Rattle.std.proofs.Common.{◌≡◌, ℕ, ◌+◌, ◌-◌, ◌<◌, ◌≤◌, true, cond, [], ◌++◌, flat_map, length, Option, Some}
+use Rattle.std.proofs.Common.{None, arith, ap, sym, subst, ◌∙◌}
+use Rattle.std.specs.Prelude.{nat_lt, reverse, string_bytes, sum_by, vec_len}
 use Rattle.std.specs.Option.{ForSome}
 use Rattle.std.specs.Path.{cur_dir}
 use Rattle.std.proofs.lemmas.Bool.{cond-true, lt-ltb}
@@ -19,8 +19,12 @@ use Rattle.glob_search.specs.Private.Finding.{Find, state_of}
 use Rattle.glob_search.specs.Private.Hearing.{after, heard_of}
 use Rattle.glob_search.specs.Private.Nodes.{AreAlive}
 use Rattle.glob_search.specs.Private.Ways.{frame_left, names_in, opening_left, search_left, visited}
+use Rattle.glob_search.specs.Private.Weights.{last_left, unmet}
+use Rattle.glob_search.specs.declared.frame.Frame.{Frame}
 use Rattle.glob_search.specs.declared.frame.Opening.{Opening}
 use Rattle.glob_search.specs.declared.searcher.Searcher.{Searcher}
+use Rattle.glob_search.specs.declared.way.Way.{Way}
+use Rattle.glob_search.proofs.EngineLemmas.Ending.{last_left-most}
 use Rattle.glob_search.proofs.EngineLemmas.Visits.{gifts-visited}
 
 module _ {A : Type 0} (c : Content) (content : is_content c ≡ true) (known : Text → Option Text) (a : Aim) (s : Searcher A)
@@ -71,3 +75,10 @@ module _ {A : Type 0} (c : Content) (content : is_content c ≡ true) (known : T
         ∙ ap (λ n. cond (nat_lt 0 n) (visited c a []) []) (for.depth ∙ flat)
         ∙ sym (left-of ∙ ap (opening_left c a) is);
   }
+
+-- at most one item comes of each unit of the limit, and a last fault
+pub fresh-few : {A : Type 0} (limit : ℕ) (w : Way A) → w.frames.items ≡ []
+    → ((limit - 0) + unmet w) + last_left w.entering w.frames.items ≤ limit + 1
+fresh-few {A} limit w none =
+    let unmet-none : unmet w ≡ 0 = ap (sum_by (λ (f : Frame A). vec_len f.entries)) none in
+    omega (arith, unmet-none, last_left-most w.entering w.frames.items)

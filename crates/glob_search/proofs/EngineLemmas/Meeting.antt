@@ -31,7 +31,7 @@ use Rattle.glob_search.specs.declared.meter.Meter.{Meter}
 use Rattle.glob_search.specs.declared.searcher.Searcher.{Searcher}
 use Rattle.glob_search.specs.declared.way.Way.{Way}
 use Rattle.glob_search.proofs.EngineLemmas.Paths.{names_in-path_of, names-proper}
-use Rattle.glob_search.proofs.EngineLemmas.Stepping.{left-charged, last-gives, ready-charged}
+use Rattle.glob_search.proofs.EngineLemmas.Stepping.{left-charged, left-free, last-gives, ready-charged}
 
 -- as many names as directories
 pub level : {A : Type 0} (c : Content) (a : Aim) (s : Searcher A) (files : ℕ) (fs : List (Frame A)) (names : Key)
@@ -144,9 +144,6 @@ module _ {A : Type 0} (c : Content) (w : IsContent c) (a : Aim) (known : Text �
   abbrev on' : Bool
   on' = nat_lt (length key') a.depth && goes_on a key'
 
-  left-before : search_left c a s ≡ flat_map (frame_left c a) (reverse s.way.frames.items)
-  left-before = ap (λ e. opening_left c a e ++ flat_map (frame_left c a) (reverse s.way.frames.items)) free
-
   pub hears : Hears a names s.heard
   hears = record { first = ready.for.first; files = ready.heard ∙ ap (lists_of a) is }
 
@@ -183,7 +180,7 @@ module _ {A : Type 0} (c : Content) (w : IsContent c) (a : Aim) (known : Text �
               (λ d h. subst (IsOpening c s.beginnings (reverse t.way.frames.items)) (same_Some o d h) opening);
           heard = ready.heard ∙ sym (ap (lists_of a) fs-same);
         }),
-        ap₂ (λ gs hs. gs ++ hs) (ap (λ b. cond b (visited c a key') []) (sym b-is)) left-before
+        ap₂ (λ gs hs. gs ++ hs) (ap (λ b. cond b (visited c a key') []) (sym b-is)) (left-free c a s free)
             ∙ ap (λ k. visited c a k ++ flat_map (frame_left c a) (reverse s.way.frames.items)) (sym in-path)
             ∙ sym (ap₂ (λ e gs. opening_left c a e ++ flat_map (frame_left c a) gs) enters.next fs-same)
             ∙ ap (search_left c a) (sym same),

@@ -65,6 +65,11 @@ pub left-charged : {A : Type 0} (c : Content) (a : Aim) (s t : Searcher A) → t
     → search_left c a s ≡ search_left c a t
 left-charged c a s t same = ap (search_left c a) (sym same)
 
+-- nothing is entered next
+pub left-free : {A : Type 0} (c : Content) (a : Aim) (s : Searcher A) → s.way.entering ≡ None
+    → search_left c a s ≡ flat_map (frame_left c a) (reverse s.way.frames.items)
+left-free c a s free = ap (λ e. opening_left c a e ++ flat_map (frame_left c a) (reverse s.way.frames.items)) free
+
 module _ {A : Type 0} (c : Content) (a : Aim) (known : Text → Option Text) (s : Searcher A) (o : Opening A)
     (ready : IsReady c a s) (free : s.way.entering ≡ None)
     (opening : IsOpening c s.beginnings (reverse s.way.frames.items) o) where
@@ -85,9 +90,6 @@ module _ {A : Type 0} (c : Content) (a : Aim) (known : Text → Option Text) (s 
   shut-gives t same source (fault.RefusedRules text refusals) gives = absurd gives
   shut-gives t same source fault.Limit gives = tt
   shut-gives t same source fault.Memory gives = tt
-
-  left-free : search_left c a s ≡ flat_map (frame_left c a) (reverse s.way.frames.items)
-  left-free = ap (λ e. opening_left c a e ++ flat_map (frame_left c a) (reverse s.way.frames.items)) free
 
   -- nothing is in it
   empty-keeps : (t : Searcher A) → t ≡ record s { meter = t.meter; way = t.way } → (es : Vec (Entry A) A)
@@ -136,7 +138,7 @@ module _ {A : Type 0} (c : Content) (a : Aim) (known : Text → Option Text) (s 
       } in
       let free' : t.way.entering ≡ None = still ∙ free in
       let rest : visited c a names ++ search_left c a s ≡ search_left c a moved =
-      ap₂ (λ gs hs. gs ++ hs) (sym g.gives) left-free
+      ap₂ (λ gs hs. gs ++ hs) (sym g.gives) (left-free c a s free)
       ∙ sym (ap₂ (λ e fs. opening_left c a e ++ flat_map (frame_left c a) fs) free' frames) in
       record {
         sound = subst (IsSound c a known) (sym same) (Reading 0 reading refl);

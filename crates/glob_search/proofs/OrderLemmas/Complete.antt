@@ -3,6 +3,7 @@ use Rattle.std.proofs.Common.{◌≡◌, ℕ, zero, suc, ◌<◌, ◌≤◌, Boo
 use Rattle.std.proofs.Common.{length, flat_map, Some, refl, ap, ap₂, sym, subst, ◌∙◌, arith}
 use Rattle.std.specs.Prelude.{Contains, nat_lt, nat_le}
 use Rattle.std.specs.declared.io.ErrorKind.{ErrorKind}
+use mathlib.Core.Bool.{or-false}
 use Rattle.std.proofs.lemmas.Bool.{false≢true, and_parts, and_from, ltb-true, lt-ltb, leb-true, or_right, cond-true, cond-false}
 use Rattle.std.proofs.lemmas.List.{append_assoc, length-append}
 use Rattle.std.proofs.lemmas.List.Elements.{Contains-append_left, Contains-append_right}
@@ -19,7 +20,7 @@ use Rattle.glob_search.specs.Visiting.{Gift, Found, Unread, found_at, inside, vi
 use Rattle.glob_search.proofs.OrderLemmas.GoingOn.{goes_on-above, is_taken-above, is_listed-goes_on}
 use Rattle.glob_search.proofs.OrderLemmas.Parts.{flat_map-contains}
 use Rattle.glob_search.proofs.OrderLemmas.Sound.{IsFound, IsUnread}
-use Rattle.glob_search.proofs.OrderLemmas.Ways.{or_none, first, inside-entries, dir-above, within-levels, reached_from}
+use Rattle.glob_search.proofs.OrderLemmas.Ways.{first, inside-entries, dir-above, within-levels, reached_from}
 
 module _ (c : Content) (a : Aim) where
   -- an entry of a directory, on the way to what is at a key
@@ -30,7 +31,7 @@ module _ (c : Content) (a : Aim) where
 
   step : IsContent c → (k : Key) (n : Text) (ns : Key) (kind : Kind) → kind_at c (k ++ n ∷ ns) ≡ Some kind → Step
       (k ++ n ∷ []) (is_dir kind || not (is_nil ns))
-  step w k n [] kind held = record { kind = kind; held = held; is = sym (or_none (is_dir kind)) }
+  step w k n [] kind held = record { kind = kind; held = held; is = sym (or-false (is_dir kind)) }
   step w k n (m ∷ ms) kind held =
       let above = dir-above c w (k ++ n ∷ []) m ms kind (ap (kind_at c) (append_assoc k (n ∷ []) (m ∷ ms)) ∙ held) in
       let (found, at) = directory_kind c (k ++ n ∷ []) above in
@@ -81,9 +82,9 @@ module _ (c : Content) (a : Aim) where
           → ((p : Text) (ps : Key) → ns ≡ p ∷ ps → names ≡ (directory ++ n ∷ []) ++ p ∷ ps → Contains (visit c a l (directory ++ n ∷ [])) g)
           → Contains (meet c a (visit c a l) (directory ++ n ∷ []) (is_dir kind || not (is_nil ns))) g
       by_rest [] same reached kept enough deeper =
-          let kept' : is_ignored a names (is_dir kind) ≡ false = ap₂ (is_ignored a) same (sym (or_none (is_dir kind))) ∙ kept in
+          let kept' : is_ignored a names (is_dir kind) ≡ false = ap₂ (is_ignored a) same (sym (or-false (is_dir kind))) ∙ kept in
           subst (λ k. Contains (meet c a (visit c a l) k (is_dir kind || false)) g) same
-          (subst (λ d. Contains (meet c a (visit c a l) names d) g) (sym (or_none (is_dir kind))) (comes l (omega (arith, enough)) kept'))
+          (subst (λ d. Contains (meet c a (visit c a l) names d) g) (sym (or-false (is_dir kind))) (comes l (omega (arith, enough)) kept'))
       by_rest (p ∷ ps) same reached kept enough deeper =
           let same' : names ≡ (directory ++ n ∷ []) ++ p ∷ ps = same ∙ sym (append_assoc directory (n ∷ []) (p ∷ ps)) in
           let short' : nat_lt (length (directory ++ n ∷ [])) a.depth ≡ true =

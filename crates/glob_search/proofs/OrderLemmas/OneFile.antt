@@ -4,6 +4,7 @@ use Rattle.std.specs.Prelude.{◌==◌, option_map, unwrap_or}
 use Rattle.std.specs.List.{list_all, join_with_byte}
 use Rattle.std.specs.Option.{option_or}
 use Rattle.std.specs.Path.{has_no_slash}
+use mathlib.Core.Bool.{and-true, or-false}
 use Rattle.std.proofs.lemmas.Bool.{and_parts, and_left, not-true, or_right, cond-false}
 use Rattle.std.proofs.lemmas.List.{append_assoc, append-nil}
 use Rattle.glob_text.specs.Characters.{slash}
@@ -15,25 +16,13 @@ use Rattle.glob_rules.specs.Deciding.{rule_at, naming_rule, last_named, ignores,
 use Rattle.glob_rules.specs.Lists.{Ignores}
 use Rattle.glob_search.specs.Laws.{HasOneFile, OneFileDecides}
 use Rattle.glob_search.specs.Searching.{Aim, said, last_said, files_said, is_ignored, is_kept}
-use Rattle.glob_search.proofs.OrderLemmas.Ways.{or_none}
-
-join-further : (n : Text) (ns : Key) (m : Text) → join_with_byte slash (n ∷ (ns ++ m ∷ [])) ≡ join_with_byte slash (n ∷ ns) ++ slash ∷ m
-join-further n [] m = refl
-join-further n (p ∷ ps) m = ap (λ t. n ++ slash ∷ t) (join-further p ps m) ∙ sym (append_assoc n
-    (slash ∷ join_with_byte slash (p ∷ ps)) (slash ∷ m))
+use Rattle.glob_search.proofs.EngineLemmas.Paths.{join-more}
+use Rattle.glob_search.proofs.HearingLemmas.{or-none}
 
 join-two : (names : Key) (n m : Text) → join_with_byte slash ((names ++ n ∷ []) ++ m ∷ []) ≡ join_with_byte slash
     (names ++ n ∷ []) ++ slash ∷ m
-join-two [] n m = join-further n [] m
-join-two (x ∷ xs) n m = join-further x (xs ++ n ∷ []) m
-
-option_or-none : {A : Type 0} (o : Option A) → option_or o None ≡ o
-option_or-none None = refl
-option_or-none (Some x) = refl
-
-and_true : (b : Bool) → (b && true) ≡ b
-and_true true = refl
-and_true false = refl
+join-two [] n m = join-more n [] m
+join-two (x ∷ xs) n m = join-more x (xs ++ n ∷ []) m
 
 module _ (a : Aim) (list : Ignores) (h : HasOneFile a list) where
   said-below : (x : Text) (xs ns : Key) (d : Bool) → files_said a (x ∷ xs) ns d ≡ None
@@ -44,7 +33,7 @@ module _ (a : Aim) (list : Ignores) (h : HasOneFile a list) where
   said-top : (n : Text) (ns : Key) (d : Bool) → files_said a [] (n ∷ ns) d ≡ said list (join_with_byte slash (n ∷ ns)) d
   said-top n ns d =
       ap₂ option_or (said-below n [] ns d) (ap (λ ls. last_said ls (join_with_byte slash (n ∷ ns)) d) h.top)
-      ∙ option_or-none (said list (join_with_byte slash (n ∷ ns)) d)
+      ∙ or-none (said list (join_with_byte slash (n ∷ ns)) d)
 
   said-ignores : (path : Text) (d : Bool) → unwrap_or (said list path d) false ≡ ignores list (last_named list path d)
   unfolding naming_rule
@@ -61,7 +50,7 @@ module _ (a : Aim) (list : Ignores) (h : HasOneFile a list) where
       ap (λ ls. unwrap_or (option_or (last_said ls path d) (option_or (files_said a [] (n ∷ ns) d)
       (last_said a.last path d))) false) h.first
       ∙ ap (λ ls. unwrap_or (option_or (files_said a [] (n ∷ ns) d) (last_said ls path d)) false) h.last
-      ∙ ap (λ o. unwrap_or o false) (option_or-none (files_said a [] (n ∷ ns) d) ∙ said-top n ns d)
+      ∙ ap (λ o. unwrap_or o false) (or-none (files_said a [] (n ∷ ns) d) ∙ said-top n ns d)
       ∙ said-ignores path d
 
   ignored-last : (directory : Key) (n front : Text) (d : Bool) → join_with_byte slash (directory ++ n ∷ []) ≡ front ++ n
@@ -92,8 +81,8 @@ module _ (a : Aim) (list : Ignores) (h : HasOneFile a list) where
       → is_kept a directory (n ∷ ns) d ≡ not (ignores list (deciding_from list front (join_with_byte slash (n ∷ ns)) d))
   kept directory n [] front d same proper =
       let plain = (IsName-from_proper n (and_parts (is_proper n) true proper).0).plain in
-      ap (λ i. not i && true) (ap (is_ignored a (directory ++ n ∷ [])) (or_none d) ∙ ignored-last directory n front d same)
-      ∙ and_true (not (ignores list (last_named list (front ++ n) d)))
+      ap (λ i. not i && true) (ap (is_ignored a (directory ++ n ∷ [])) (or-false d) ∙ ignored-last directory n front d same)
+      ∙ and-true (not (ignores list (last_named list (front ++ n) d)))
       ∙ ap (λ o. not (ignores list o)) (sym (ap (λ t. deciding_from list front t d) (sym (append-nil n)) ∙ past-name front n [] d plain))
   kept directory n (m ∷ ms) front d same proper =
       let (here, later) = and_parts (is_proper n) (list_all is_proper (m ∷ ms)) proper in

@@ -4,6 +4,7 @@ use Rattle.std.proofs.Common.{length, Some, refl, ap, ap₂, sym, ◌∙◌, ari
 use Rattle.std.specs.Prelude.{Contains, fold}
 use Rattle.std.specs.List.{list_all}
 use Rattle.std.specs.Str.{is_utf8}
+use mathlib.Core.Bool.{or-false}
 use Rattle.std.proofs.lemmas.Bool.{false≢true, and_parts, and_from, or_right, not-true, not_from_false, cond-false}
 use Rattle.std.proofs.lemmas.List.{append_assoc, append-nil, length-append}
 use Rattle.glob_text.specs.Text.{Text}
@@ -16,10 +17,6 @@ use Rattle.glob_tree.proofs.ContentLemmas.Directories.{all_above}
 use Rattle.glob_tree.proofs.ContentLemmas.Membership.{Contains-cases, Contains-nil, list_all-contains}
 use Rattle.glob_search.specs.Searching.{Aim, is_ignored, is_closed, is_listed, is_nil, is_visible, is_kept, is_shut}
 use Rattle.glob_search.specs.Visiting.{Gift, inside, levels}
-
-pub or_none : (b : Bool) → (b || false) ≡ b
-or_none true = refl
-or_none false = refl
 
 pub some-names : (ns : Key) (n : Text) → not (is_nil (ns ++ n ∷ [])) ≡ true
 some-names [] n = refl
@@ -57,7 +54,7 @@ module _ (c : Content) (a : Aim) where
       let same : directory ≡ at = sym (append-nil directory) ∙ sym is in
       first-reached directory n [] d (record {
         closed = ap (is_closed c a) same ∙ closed;
-        ignored = ap₂ (λ k e. is_ignored a (k ++ n ∷ []) e) same (or_none d) ∙ ignored;
+        ignored = ap₂ (λ k e. is_ignored a (k ++ n ∷ []) e) same (or-false d) ∙ ignored;
         reached = refl;
       })
   reached-further directory (m ∷ ms) at n d is h closed ignored =

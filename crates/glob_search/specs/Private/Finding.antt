@@ -4,6 +4,7 @@ use Rattle.glob_search.specs.States.{Progress, SearchState}
 use Rattle.glob_search.specs.Private.Engine.{IsSound, file_names}
 use Rattle.glob_search.specs.Private.Order.{IsPastSearch}
 use Rattle.glob_search.specs.Private.Ways.{search_left}
+use Rattle.glob_search.specs.Private.Weights.{items_left}
 use Rattle.glob_search.specs.declared.searcher.Searcher.{Searcher}
 
 -- what contracts know of a searcher
@@ -18,5 +19,6 @@ state_of s = record {
   depth = s.depth;
   levels = vec_len s.way.frames;
   files = file_names s;
+  remaining = items_left s.meter s.way;
   state = s;
 }

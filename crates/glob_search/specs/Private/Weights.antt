@@ -1,5 +1,7 @@
 -- What bounds the turns of a search.
-use Rattle.std.specs.Prelude.{ℕ, ◌+◌, ◌-◌, ◌*◌, Option, Some, None, vec_len, sum_by}
+use Rattle.std.specs.Prelude.{◌≡◌, ℕ, ◌+◌, ◌-◌, ◌*◌, ◌<◌, ◌≤◌, false, List, [], ◌∷◌, Option, Some, None, Result, Ok, Err, vec_len, sum_by}
+use Rattle.glob_search.specs.Private.Faults.{is_last}
+use Rattle.glob_search.specs.declared.fault.SearchFault.{SearchFault}
 use Rattle.glob_search.specs.declared.frame.Frame.{Frame}
 use Rattle.glob_search.specs.declared.frame.Opening.{Opening}
 use Rattle.glob_search.specs.declared.meter.Meter.{Meter}
@@ -26,3 +28,33 @@ work_weight (Enter o) = 1
 work_weight (Read n) = 0
 work_weight (Meet e) = 2
 work_weight (Leave n) = 1
+
+-- entries that are still to be met
+abbrev pub unmet : {A : Type 0} → Way A → ℕ
+unmet w = sum_by (λ f. vec_len f.entries) w.frames.items
+
+-- a unit of the limit that is left, or an entry that was charged: each is for one path or fault
+abbrev pub stock : {A : Type 0} → Meter → Way A → ℕ
+stock m w = (m.limit - m.spent) + unmet w
+
+abbrev pub work_stock : {A : Type 0} → Work A → ℕ
+work_stock (Enter o) = 0
+work_stock (Read n) = 0
+work_stock (Meet e) = 1
+work_stock (Leave n) = 0
+
+-- a last fault may come, until the search has ended
+abbrev pub last_left : {A : Type 0} → Option (Opening A) → List (Frame A) → ℕ
+last_left (Some o) fs = 1
+last_left None [] = 0
+last_left None (f ∷ fs) = 1
+
+-- at most so many paths and faults are still to come
+abbrev pub items_left : {A : Type 0} → Meter → Way A → ℕ
+items_left m w = stock m w + last_left w.entering w.frames.items
+
+-- what a turn takes from the stock
+abbrev pub Takes : {A B : Type 0} → (before after : ℕ) → Result (Option B) (SearchFault A) → Type 0
+Takes before after (Ok None) = after ≤ before
+Takes before after (Ok (Some found)) = after < before
+Takes before after (Err f) = is_last f ≡ false → after < before

@@ -1,5 +1,5 @@
 //! How the tree of beginnings grows by a pattern.
-ghost use Rattle.std.specs.Prelude.{◌≡◌, ◌<◌, vec_len, IfOk, false, map, [], ◌∷◌, ◌++◌};
+ghost use Rattle.std.specs.Prelude.{◌≡◌, ◌<◌, vec_len, IfErr, IfOk, false, map, [], ◌∷◌, ◌++◌};
 ghost use Rattle.std.specs.List.{All, list_any};
 ghost use Rattle.glob_pattern.specs.Grammar.Characters.{is_wildcard};
 
@@ -10,9 +10,15 @@ use std::alloc::{AllocError, Allocator};
 
 impl<A: Allocator + Copy> Beginnings<A> {
     ghost use Rattle.std.specs.Prelude.{ℕ, List, slice_get, string_bytes};
-    ghost use Rattle.std.specs.Str.{IsUtf8};
+    ghost use Rattle.std.specs.Str.{IsUtf8, chars};
     ghost use Rattle.std.specs.Prelude.{None, Some, true};
     ghost use Rattle.glob_text.specs.Pieces.{pieces};
+    ghost use Rattle.glob_pattern.specs.Grammar.Faults.{Refuses};
+    ghost use Rattle.glob_pattern.specs.Grammar.Units.{IsAccepted};
+    ghost use Rattle.glob_pattern.specs.declared.error.PatternRefusal.TheVariants.{Memory};
+    ghost use Rattle.glob_set.specs.BraceSets.{AreAccepted};
+    ghost use Rattle.glob_search.specs.Refusals.{readings};
+    ghost use Rattle.glob_search.specs.Private.Refusing.{RefusesFirst};
     ghost use Rattle.glob_search.specs.Private.NodeGrowth.{Added, FitsKind, GrownTo, IsComponentOf, IsMarked, Led, component_text, finished, is_deep_component, pushed, walked};
     ghost use Rattle.glob_text.specs.Text.{Text};
     ghost use Rattle.glob_search.specs.Private.Nodes.{Adds, IsTree, folded, key_of};
@@ -24,6 +30,8 @@ impl<A: Allocator + Copy> Beginnings<A> {
             → IsTree self.old.options self.old.nodes.items front
             → IfOk result (λ _. Added self.old.options self.old.nodes.items self.new.nodes.items
             front pattern.now) }
+        ensures accepted { IfOk result (λ _. AreAccepted (readings pattern.now)) }
+        ensures refused { IfErr result (RefusesFirst (readings pattern.now)) }
     {
         Pattern::new(self.alloc, pattern)?;
         let at = self.walk(pattern)?;
@@ -41,6 +49,8 @@ impl<A: Allocator + Copy> Beginnings<A> {
             → IfOk result (GrownTo self.old.options self.old.nodes.items self.new.nodes.items front
             (walked (map (key_of self.old.options) (pieces pattern.now)))) }
         ensures utf8 { IfOk result (λ _. All IsUtf8 (pieces pattern.now)) }
+        ensures accepted { IfOk result (λ _. AreAccepted (pieces pattern.now)) }
+        ensures refused { IfErr result (RefusesFirst (pieces pattern.now)) }
     {
         let mut at = 0;
         for component in pattern.split('/') {
@@ -58,6 +68,7 @@ impl<A: Allocator + Copy> Beginnings<A> {
             → IsTree self.old.options self.old.nodes.items front
             → IfOk result (GrownTo self.old.options self.old.nodes.items self.new.nodes.items front
             (finished (front at))) }
+        ensures refused { IfErr result (λ refusal. refusal ≡ Memory) }
     {
         if self.nodes[at].is_deep {
             return self.child(at, "*");
@@ -85,6 +96,8 @@ impl<A: Allocator + Copy> Beginnings<A> {
             → IfOk result (GrownTo self.old.options self.old.nodes.items self.new.nodes.items front
             (pushed (front at) (key_of self.old.options component.now))) }
         ensures utf8 { IsUtf8 component.now }
+        ensures accepted { IfOk result (λ _. IsAccepted (chars component.now)) }
+        ensures refused { IfErr result (Refuses (chars component.now)) }
     {
         let component = self.component(component)?;
         if component.is_deep() && self.nodes[at].is_deep {
@@ -96,9 +109,11 @@ impl<A: Allocator + Copy> Beginnings<A> {
         Ok(self.lead(at, component)?)
     }
 
-    /// Reads a component.
+    /// Reads a component. The error is its fault, or a failed allocation.
     fn component(&self, text: &str) -> Result<Component<A>, PatternRefusal>
-        ensures { IfOk result (IsComponentOf self.now.options text.now) }
+        ensures component { IfOk result (IsComponentOf self.now.options text.now) }
+        ensures accepted { IfOk result (λ _. IsAccepted (chars text.now)) }
+        ensures refused { IfErr result (Refuses (chars text.now)) }
     {
         if text == "**" {
             return Ok(Component::Deep);

@@ -6,12 +6,12 @@ ghost use Rattle.glob_tree.specs.Content.{Content, Key, is_dir_at};
 ghost use Rattle.glob_search.specs.Aims.{path_of};
 ghost use Rattle.glob_search.specs.Searching.{Aim};
 ghost use Rattle.glob_search.specs.Private.Engine.{EntriesGive, FitsSource, GoesOn, HasWork, StepsInto};
-ghost use Rattle.glob_search.specs.Private.Faults.{is_last};
+ghost use Rattle.glob_search.specs.Private.Faults.{IsOfListing, is_last};
 ghost use Rattle.glob_search.specs.Private.Listings.{AreFalling};
 ghost use Rattle.glob_search.specs.Private.Nodes.{AreAlive, AreBeginnings};
 ghost use Rattle.glob_search.specs.Private.Order.{IsPastWork, StaysPast};
 ghost use Rattle.glob_search.specs.Private.Ways.{opening_left, search_left};
-ghost use Rattle.glob_search.specs.Private.Weights.{way_weight, weight};
+ghost use Rattle.glob_search.specs.Private.Weights.{stock, unmet, way_weight, weight};
 ghost use Rattle.glob_search.specs.declared.way.Work.TheVariants.{Enter};
 
 use crate::entries::{list, look_up};
@@ -39,6 +39,11 @@ impl<A: Allocator + Copy> Searcher<A> {
             → IsTold (T.tells tree.old) c → HasWork c a known self.old (Enter opening)
             → GoesOn c a known (opening_left c a (Some opening) ++ search_left c a self.old)
             result self.new }
+        ensures stock { OnOk result (stock self.new.meter self.new.way
+            ≤ stock self.old.meter self.old.way) }
+        ensures stays { IfErr result (λ fault. is_last fault ≡ false
+            → self.new.way ≡ self.old.way) }
+        ensures fails { IfErr result (IsOfListing self.old.meter.spent self.new.meter.spent) }
         ensures later { (past : Key) → IsPastWork past (Enter opening) self.old.way
             → StaysPast past result self.new.way }
     {
@@ -58,6 +63,7 @@ impl<A: Allocator + Copy> Searcher<A> {
         ensures none { vec_len entries ≡ 0 → self.new.way ≡ self.old.way }
         ensures weight { way_weight self.new.way
             ≤ way_weight self.old.way + (2 * vec_len entries + 1) }
+        ensures unmet { unmet self.new.way ≤ unmet self.old.way + vec_len entries }
         ensures some { OnOk result (0 < vec_len entries
             → StepsInto opening source entries self.old self.new) }
         ensures last { IfErr result (λ fault. is_last fault ≡ true) }
@@ -82,7 +88,8 @@ impl<A: Allocator + Copy> Searcher<A> {
     /// where only entries that literals name may be entered.
     fn source_of(&self, opening: &Opening<A>) -> Source
         ensures { (a : Aim) (names : Key) → AreBeginnings a.options a.patterns self.now.beginnings
-            → AreAlive self.now.beginnings names opening.now.alive.items → FitsSource a names result }
+            → AreAlive self.now.beginnings names opening.now.alive.items
+            → FitsSource a names result }
     {
         let alive = opening.alive.as_slice();
         if self.beginnings.is_literal(alive) {
@@ -116,6 +123,7 @@ impl<A: Allocator + Copy> Searcher<A> {
             → AreAlive self.old.beginnings names opening.now.alive.items → FitsSource a names source
             → EntriesGive c a names source (string_bytes opening.now.path) result }
         ensures falls { IfOk result (λ entries. AreFalling entries.items) }
+        ensures fails { IfErr result (IsOfListing self.old.meter.spent self.new.meter.spent) }
     {
         match source {
             Source::LookedUp => {

@@ -1,4 +1,4 @@
-//! Made by `bin/rust_crate` from `crates/glob_search/src/beginnings.rt`, where its contracts are: sha256 8a8c2ffa77504775.
+//! Made by `bin/rust_crate` from `crates/glob_search/src/beginnings.rt`, where its contracts are: sha256 fa77c54fcf11fad6.
 //!
 //! The beginnings of patterns.
 //!

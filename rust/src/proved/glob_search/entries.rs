@@ -1,4 +1,4 @@
-//! Made by `bin/rust_crate` from `crates/glob_search/src/entries.rt`, where its contracts are: sha256 bc6172b33d95903c.
+//! Made by `bin/rust_crate` from `crates/glob_search/src/entries.rt`, where its contracts are: sha256 cb747e197b06f558.
 //!
 //! What a directory has.
 

@@ -1,4 +1,4 @@
-//! Made by `bin/rust_crate` from `crates/glob_search/src/frame.rt`, where its contracts are: sha256 7ae2084aaebecbb7.
+//! Made by `bin/rust_crate` from `crates/glob_search/src/frame.rt`, where its contracts are: sha256 8fb7d8214dbbc10c.
 //!
 //! A directory on the way.
 

@@ -1,4 +1,4 @@
-//! Made by `bin/rust_crate` from `crates/glob_search/src/search.rt`, where its contracts are: sha256 f000cc1be041ca93.
+//! Made by `bin/rust_crate` from `crates/glob_search/src/search.rt`, where its contracts are: sha256 4466cae797b8fa9a.
 //!
 //! Searches.
 
@@ -26,7 +26,8 @@ pub struct Search {
 impl Search {
     /// A search for what some patterns match. It has asked nothing, and all is left that it has to give.
     ///
-    /// The error is the number of the first pattern with a fault, and that fault.
+    /// A pattern is read as a whole, and then each of its components, so that `a/[/]` is refused for its `[`. The error
+    /// is the number of the first pattern with a fault, counted from 0, and its first fault.
     pub fn new(patterns: &[&str], settings: Settings) -> Result<Self, SetRefusal> {
         let searcher = Searcher::new(patterns, settings)?;
         Ok(Search { searcher })
@@ -37,7 +38,9 @@ impl Search {
     /// Where the content of the tree and the texts of the files with rules are known, the paths and the directories that
     /// cannot be listed are exactly those that the search has to give, one after another, and `None` comes after the last.
     /// Where lines of a file with rules are refused, the search goes on by its other lines, and after a file that cannot
-    /// be read by other files.
+    /// be read by other files. Both happen only where files with rules were asked for.
+    ///
+    /// With each path and each fault less is still to come, so that a loop of calls up to `None` ends.
     pub fn next<T: Tree, R: RuleTexts>(&mut self, tree: &mut T, texts: &mut R) -> Option<Result<Found, SearchFault>> {
         self.searcher.next(tree, texts)
     }

@@ -1,4 +1,4 @@
-//! Made by `bin/rust_crate` from `crates/glob_search/src/searcher.rt`, where its contracts are: sha256 df22bacd7fdf159c.
+//! Made by `bin/rust_crate` from `crates/glob_search/src/searcher.rt`, where its contracts are: sha256 c7c4c84243b921c7.
 //!
 //! How a search goes.
 //!

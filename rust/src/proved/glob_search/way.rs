@@ -1,4 +1,4 @@
-//! Made by `bin/rust_crate` from `crates/glob_search/src/way.rt`, where its contracts are: sha256 167593b58abd5299.
+//! Made by `bin/rust_crate` from `crates/glob_search/src/way.rt`, where its contracts are: sha256 e2cbfecf2d3d82e9.
 //!
 //! The way down to where a search is, and what it does next.
 

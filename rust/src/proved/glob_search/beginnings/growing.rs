@@ -1,4 +1,4 @@
-//! Made by `bin/rust_crate` from `crates/glob_search/src/beginnings/growing.rt`, where its contracts are: sha256 952b0be749537fc8.
+//! Made by `bin/rust_crate` from `crates/glob_search/src/beginnings/growing.rt`, where its contracts are: sha256 5c18938ee6f11880.
 //!
 //! How the tree of beginnings grows by a pattern.
 
@@ -50,7 +50,7 @@ impl Beginnings {
         Ok(self.lead(at, component))
     }
 
-    /// Reads a component.
+    /// Reads a component. The error is its fault.
     fn component(&self, text: &str) -> Result<Component, PatternError> {
         if text == "**" {
             return Ok(Component::Deep);

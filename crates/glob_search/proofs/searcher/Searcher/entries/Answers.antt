@@ -1,6 +1,7 @@
 use Rattle.std.proofs.Common.{refl, string_bytes, sym, subst}
 use Rattle.glob_tree.proofs.ContentLemmas.Contents.{IsContent-from_test}
 use Rattle.glob_search.specs.Private.Engine.{EntriesGive, FitsSource}
+use Rattle.glob_search.proofs.EngineLemmas.Ending.{last-listing-of}
 use Rattle.glob_search.proofs.EngineLemmas.Entering.{found-looked_up, gives-listed}
 use Rattle.glob_search.proofs.EngineLemmas.Searched.{not-looked_up}
 use Rattle.glob_search.proofs.searcher.Searcher.entries.Goals as goal
@@ -25,4 +26,8 @@ returns-in-Listed g c = record {
       (string_bytes c.args.opening.now.path) c.list.result (not-looked_up c.args.source c.in-Listed.is) fits
       (c.list.ensures.entries content names told there path);
   falls = c.list.ensures.falls;
+  fails = c.list.ensures.fails;
 }
+
+pub returns-in-LookedUp-clause-fails : goal.returns-in-LookedUp-clause-fails
+returns-in-LookedUp-clause-fails g c = last-listing-of _ _ c.look_up.result c.look_up.ensures.last

@@ -16,6 +16,7 @@ use Rattle.glob_search.specs.Private.Nodes.{AreAlive}
 use Rattle.glob_search.specs.Private.Order.{IsPastWay}
 use Rattle.glob_search.specs.Private.Steps.{MayEnter}
 use Rattle.glob_search.specs.Private.Ways.{search_left}
+use Rattle.glob_search.proofs.EngineLemmas.Ending.{enters-frames}
 use Rattle.glob_search.proofs.EngineLemmas.Meeting.{both-same, hears, ignored-same, met-ignored, met-nothing, met-of}
 use Rattle.glob_search.proofs.EngineLemmas.Meeting.{on-else, on-then, passes, takes}
 use Rattle.glob_search.proofs.EngineLemmas.Past.{meets-past, skips-past}
@@ -206,3 +207,10 @@ returns-clause-later g c = λ past work.
     (subst (λ w. OnOk c.take.result (MayEnter (c.if-len-self.goes_on && unwrap_or d false)
     (string_bytes c.in_ok-path.path) c.in_ok-alive.alive.items w t.way)) same c.take.ensures.enters)
     c.take.ensures.finds c.take.ensures.last
+
+pub returns-clause-frames : goal.returns-clause-frames
+returns-clause-frames g c =
+    let u = c.kind_at.new.self in
+    let was : u.way.frames ≡ c.args.self.now.way.frames = ap (λ x. x.way.frames) c.in_ok-is_dir.ensures.same in
+    subst (λ fs. OnOk c.take.result (c.take.new.self.way.frames ≡ fs)) was
+    (enters-frames _ (string_bytes c.in_ok-path.path) c.in_ok-alive.alive.items u.way c.take.new.self.way c.take.result c.take.ensures.enters)

@@ -1,5 +1,5 @@
 use Rattle.std.proofs.Common.{refl, arith}
-use Rattle.glob_search.proofs.EngineLemmas.Fresh.{fresh-none, fresh-start}
+use Rattle.glob_search.proofs.EngineLemmas.Fresh.{fresh-few, fresh-none, fresh-start}
 use Rattle.glob_search.proofs.EngineLemmas.Past.{start-none, start-past}
 use Rattle.glob_search.proofs.searcher.Searcher.new.Goals.{then-depth-gt0, else-depth-gt0}
 use Rattle.glob_search.proofs.searcher.Searcher.new.Goals as goal
@@ -31,4 +31,7 @@ returns g c = record {
         w.entering-is c.in_ok-path.ensures.ok c.new.ensures.items
     | else-depth-gt0 w ↦ start-none (record { entering = c.if-depth-gt0.entering; frames = c.new.result }) w.entering-is c.new.ensures.items
   ];
+  few = fresh-few c.args.settings.limit (record { entering = c.if-depth-gt0.entering; frames = c.new.result }) c.new.ensures.items;
+  accepted = c.in_ok-beginnings.ensures.accepted;
+  refused = tt;
 }

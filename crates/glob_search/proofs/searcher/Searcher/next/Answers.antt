@@ -1,12 +1,16 @@
-use Rattle.std.proofs.Common.{◌++◌, ◌∷◌, [], Ok, Some, map, string_bytes, ap, sym, subst, ◌∙◌, arith}
+use Rattle.std.proofs.Common.{◌+◌, ◌-◌, ◌<◌, ◌++◌, ◌∷◌, [], Ok, Some, map, string_bytes, ap, sym, subst, ◌∙◌, arith}
 use Rattle.std.proofs.lemmas.List.{append-nil, append_assoc}
 use Rattle.glob_search.specs.Aims.{AreTextsOf}
+use Rattle.glob_search.specs.States.{FitsFiles}
 use Rattle.glob_search.specs.Visiting.{Found}
 use Rattle.glob_search.specs.Private.Engine.{Ready, Turns, file_names, work_left}
 use Rattle.glob_search.specs.Private.Order.{IsPastWay, TurnsLater}
 use Rattle.glob_search.specs.Private.Steps.{NextWork}
 use Rattle.glob_search.specs.Private.Ways.{search_left}
+use Rattle.glob_search.specs.Private.Weights.{Takes, items_left, stock, work_stock}
+use Rattle.glob_search.proofs.EngineLemmas.Ending.{done-left as done-none, last_left-most, next-last, next-unmet}
 use Rattle.glob_search.proofs.EngineLemmas.Going.{ends-fault, gives-fault, same-files}
+use Rattle.glob_search.specs.declared.meter.Meter.{Meter}
 use Rattle.glob_search.specs.declared.searcher.Searcher.{Searcher}
 use Rattle.glob_search.proofs.EngineLemmas.Past.{done-past, works-past}
 use Rattle.glob_search.proofs.EngineLemmas.Working.{done-left, works-next}
@@ -48,6 +52,19 @@ loop-work-preserved g c =
           c.as_slice.ensures.value c.in-Some.ensures.work in
           subst (λ o. TurnsLater past (Ok o) c.turn.new.self.way) c.in-Ok-None.field-0-is
           (c.in-Ok-None.ensures.later past (works-past past _ s.way c.next.new.self c.in-Some.work next (i.ascends past was)));
+      falls =
+          let s = c.loop-work.self in
+          let next = subst (λ xs. NextWork (map (λ f. string_bytes f) xs) s.way (Some c.in-Some.work) c.next.new.self)
+          c.as_slice.ensures.value c.in-Some.ensures.work in
+          let takes = subst (λ o. Takes {A = g.row.A.Denot} (stock s.meter c.next.new.self + work_stock c.in-Some.work)
+          (stock c.turn.new.self.meter c.turn.new.self.way) (Ok o)) c.in-Ok-None.field-0-is c.in-Ok-None.ensures.takes in
+          omega (arith, takes, next-unmet _ s.way c.next.new.self c.in-Some.work next, i.falls);
+      lasts =
+          let s = c.loop-work.self in
+          let next = subst (λ xs. NextWork (map (λ f. string_bytes f) xs) s.way (Some c.in-Some.work) c.next.new.self)
+          c.as_slice.ensures.value c.in-Some.ensures.work in
+          let t = c.turn.new.self.way in
+          omega (arith, next-last _ s.way c.next.new.self c.in-Some.work next, last_left-most t.entering t.frames.items, i.lasts);
     }
 
 pub returns-in-Ok-Some-clause-gives : goal.returns-in-Ok-Some-clause-gives
@@ -129,3 +146,73 @@ returns-in-Err-clause-ascends g c = λ past was.
           (done-past past w.end.new.self.way w.end.ensures.done)
       | else-is_last w ↦ subst (λ (t : Searcher _). IsPastWay past t.way) (sym w.self-is) (x (sym c.is_last.ensures ∙ w.if-is_last.false))
     ]
+
+pub returns-in-Ok-Some-clause-falls : goal.returns-in-Ok-Some-clause-falls
+returns-in-Ok-Some-clause-falls g c =
+    let i = c.loop-work.invariant in
+    let s = c.loop-work.self in
+    let next = subst (λ xs. NextWork (map (λ f. string_bytes f) xs) s.way (Some c.in-Some.work) c.next.new.self)
+    c.as_slice.ensures.value c.in-Some.ensures.work in
+    let takes = subst (λ o. Takes {A = g.row.A.Denot} (stock s.meter c.next.new.self + work_stock c.in-Some.work)
+    (stock c.turn.new.self.meter c.turn.new.self.way) (Ok o)) c.in-Ok-Some.field-0-is c.in-Ok-Some.ensures.takes in
+    let t = c.turn.new.self.way in
+    omega (
+      arith,
+      takes,
+      next-unmet _ s.way c.next.new.self c.in-Some.work next,
+      next-last _ s.way c.next.new.self c.in-Some.work next,
+      last_left-most t.entering t.frames.items,
+      i.falls,
+      i.lasts,
+    )
+
+pub returns-in-Err-clause-falls : goal.returns-in-Err-clause-falls
+returns-in-Err-clause-falls g c =
+    let i = c.loop-work.invariant in
+    let s = c.loop-work.self in
+    let next = subst (λ xs. NextWork (map (λ f. string_bytes f) xs) s.way (Some c.in-Some.work) c.next.new.self)
+    c.as_slice.ensures.value c.in-Some.ensures.work in
+    let unmet = next-unmet _ s.way c.next.new.self c.in-Some.work next in
+    let lasts = next-last _ s.way c.next.new.self c.in-Some.work next in
+    elim c.if-is_last.branch [
+      | then-is_last w ↦
+          let done = done-none w.end.new.self.way w.end.ensures.done in
+          let left : items_left w.end.new.self.meter w.end.new.self.way < items_left c.args.self.now.meter c.args.self.now.way = omega (
+            arith,
+            ap (λ (m : Meter). m.limit - m.spent) w.end.ensures.meter,
+            done.0,
+            done.1,
+            c.turn.ensures.limit,
+            c.turn.ensures.spent,
+            unmet,
+            lasts,
+            i.falls,
+            i.lasts,
+          ) in
+          subst (λ (x : Searcher _). items_left x.meter x.way < items_left c.args.self.now.meter c.args.self.now.way) (sym w.self-is) left
+      | else-is_last w ↦
+          let t = c.turn.new.self.way in
+          let takes = c.in-Err.ensures.takes (sym c.is_last.ensures ∙ w.if-is_last.false) in
+          let left : items_left c.turn.new.self.meter t < items_left c.args.self.now.meter c.args.self.now.way = omega (
+            arith,
+            takes,
+            last_left-most t.entering t.frames.items,
+            unmet,
+            lasts,
+            i.falls,
+            i.lasts,
+          ) in
+          subst (λ (x : Searcher _). items_left x.meter x.way < items_left c.args.self.now.meter c.args.self.now.way) (sym w.self-is) left
+    ]
+
+pub returns-clause-falls : goal.returns-clause-falls
+returns-clause-falls g c =
+    let i = c.loop-work.invariant in
+    let s = c.loop-work.self in
+    let done = done-none c.next.new.self c.in_default.ensures.ends in
+    let was = done-none s.way c.in_default.ensures.work in
+    omega (arith, done.0, done.1, was.0, was.1, i.falls, i.lasts)
+
+pub returns-in-Err-clause-rules : goal.returns-in-Err-clause-rules
+returns-in-Err-clause-rules g c = subst (λ fs. FitsFiles fs c.in-Err.fault)
+    (same-files c.args.self.now c.loop-work.self c.loop-work.invariant.files) c.in-Err.ensures.rules

@@ -5,7 +5,7 @@ use Rattle.glob_search.specs.Searching.{Aim}
 use Rattle.glob_search.specs.Private.Engine.{AreAnswers, IsSound, Keeps, file_names}
 use Rattle.glob_search.specs.Private.Order.{IsPastSearch}
 use Rattle.glob_search.specs.Private.Ways.{search_left}
-use Rattle.glob_search.specs.Private.Weights.{weight}
+use Rattle.glob_search.specs.Private.Weights.{last_left, stock, weight}
 use Rattle.glob_search.proofs.searcher.Searcher.next.Given as goal
 
 abbrev pub invariant-loop-work : goal.invariant-loop-work
@@ -20,6 +20,9 @@ invariant-loop-work g l = record {
       (g.R.RuleTexts.texts l.initial.texts) (file_names l.initial.self) c a known
       → IsSound c a known l.initial.self → Keeps c a known (search_left c a l.initial.self) l.self;
   ascends : (past : Key) → IsPastSearch past l.initial.self → IsPastSearch past l.self;
+  falls : stock l.self.meter l.self.way ≤ stock l.initial.self.meter l.initial.self.way;
+  lasts : last_left l.self.way.entering l.self.way.frames.items
+      ≤ last_left l.initial.self.way.entering l.initial.self.way.frames.items;
 }
 
 abbrev pub decreases-loop-work : goal.decreases-loop-work

@@ -1,6 +1,7 @@
-use Rattle.std.proofs.Common.{◌≡◌, ◌≢◌, refl, ◌-◌, ◌<◌, ◌++◌, ◌∷◌, [], Some, None, get_or, length, string_bytes, ap, sym, ◌∙◌, eq-eqb, arith}
+use Rattle.std.proofs.Common.{◌≡◌, ◌≢◌, refl, ◌-◌, ◌<◌, ◌++◌, ◌∷◌, [], Some, None, get_or, length, string_bytes, ap, sym}
+use Rattle.std.proofs.Common.{◌∙◌, eq-eqb, arith}
 use Rattle.std.specs.Prelude.{option_map, slice_get, vec_len}
-use Rattle.std.proofs.lemmas.Bool.{false≢true}
+use Rattle.std.proofs.lemmas.Bool.{false≢true, ltb-true}
 use Rattle.std.proofs.lemmas.List.{get_or-map, length-map}
 use Rattle.std.proofs.lemmas.Result.{err_from_is_err_and}
 use Rattle.glob_rules.specs.Lists.{refusals_of, rules_of}
@@ -8,6 +9,8 @@ use Rattle.glob_search.specs.Private.Engine.{file_names, frame_names}
 use Rattle.glob_search.specs.Private.Hearing.{above_of, heard_of}
 use Rattle.glob_search.specs.Aims.{path_of}
 use Rattle.glob_tree.proofs.ContentLemmas.Contents.{IsContent-from_test}
+use Rattle.glob_tree.specs.Paths.{child}
+use Rattle.glob_search.proofs.EngineLemmas.Ending.{named-file}
 use Rattle.glob_search.proofs.EngineLemmas.Paths.{directory-proper}
 use Rattle.glob_search.proofs.HearingLemmas.{heard_of-push}
 use Rattle.glob_search.proofs.EngineLemmas.Reading.{last-get, path-above, path-in, read-none, read-same, read-some, reads-keeps, refused-at}
@@ -133,9 +136,43 @@ returns-clause-reads g c = λ content a known good same fit (r, now, within).
     (rw c.in-Some-2.is at (c.in_ok-list.ensures.list known same))
     ∙ ap (λ p. option_map rules_of (known p)) c.as_str-3.ensures.value in
     let some : refusals.items ≢ [] = λ none.
-    false≢true (sym c.if-is_empty.false ∙ c.is_empty.ensures ∙ eq-eqb (vec_len refusals) 0 (omega (arith, ap length none, refusals.ok.0))) in
+    false≢true (sym c.if-is_empty.false ∙ c.is_empty.ensures
+    ∙ eq-eqb (vec_len refusals) 0 (omega (arith, ap length none, refusals.ok.0))) in
     record {
       refused = refused-at content a known s n r now within name named t refl (string_bytes c.in_ok-path.path) path-is list
           refusals.items is are some;
       keeps = keeps;
+    }
+
+pub returns-in_err-list-clause-fails : goal.returns-in_err-list-clause-fails
+returns-in_err-list-clause-fails g c =
+    let p = err_from_is_err_and c.from_residual-in_err-list.result c.from_residual-in_err-list.ensures.1 in
+    let files = c.args.self.now.rule_files.items in
+    let name = c.in-Some-get.name.now in
+    rw (p.1, p.2) (c.in_err-list.ensures.fails (file_names c.args.self.now) (record {
+      directory = c.as_str.result.now;
+      file = string_bytes name;
+      named = named-file files c.args.number name (omega (
+        arith,
+        ltb-true _ _ (sym c.in-Some-get.ensures.lookup.0),
+        ap length c.deref-2.ensures.value,
+      ))
+          (c.in-Some-get.ensures.lookup.1 ∙ ap (λ xs. get_or xs c.args.number name) c.deref-2.ensures.value);
+      at = c.as_str-3.ensures.value ∙ c.in_ok-path.ensures ∙ ap (child c.as_str.result.now) c.as_str-2.ensures.value;
+    }))
+
+pub returns-clause-fails : goal.returns-clause-fails
+returns-clause-fails g c =
+    let files = c.args.self.now.rule_files.items in
+    let name = c.in-Some-get.name.now in
+    record {
+      directory = c.as_str.result.now;
+      file = string_bytes name;
+      named = named-file files c.args.number name (omega (
+        arith,
+        ltb-true _ _ (sym c.in-Some-get.ensures.lookup.0),
+        ap length c.deref-2.ensures.value,
+      ))
+          (c.in-Some-get.ensures.lookup.1 ∙ ap (λ xs. get_or xs c.args.number name) c.deref-2.ensures.value);
+      at = c.in_ok-path.ensures ∙ ap (child c.as_str.result.now) c.as_str-2.ensures.value;
     }

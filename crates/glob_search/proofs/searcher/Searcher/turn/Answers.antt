@@ -1,9 +1,12 @@
-use Rattle.std.proofs.Common.{ap, refl, subst, sym, ◌∙◌}
+use Rattle.std.proofs.Common.{◌≡◌, ◌+◌, ◌<◌, ◌≤◌, ap, arith, false, refl, subst, sym, ◌∙◌}
 use Rattle.std.proofs.lemmas.Result.{err_from_is_err_and}
-use Rattle.glob_search.specs.Private.Engine.{HasWork, Turns, work_left}
+use Rattle.glob_search.specs.Private.Engine.{HasWork, Turns, file_names, work_left}
+use Rattle.glob_search.specs.Private.Faults.{is_last}
 use Rattle.glob_search.specs.Private.Order.{IsPastWay, IsPastWork}
 use Rattle.glob_search.specs.Private.Ways.{search_left}
+use Rattle.glob_search.specs.Private.Weights.{Takes, stock, unmet, work_stock}
 use Rattle.std.specs.Prelude.{◌++◌}
+use Rattle.glob_search.proofs.EngineLemmas.Ending.{last-fits-of, listing-fits, lists-takes, meets-takes, pays-takes, rules-fit}
 use Rattle.glob_search.proofs.EngineLemmas.Working.{keeps-at, leaves-keeps, left-same}
 use Rattle.glob_search.proofs.searcher.Searcher.turn.Goals.{in-Enter+in_ok-enter-in-Enter, in-Read+in_ok-read_rules-in-Read, in-Leave}
 use Rattle.glob_search.proofs.searcher.Searcher.turn.Goals as goal
@@ -50,3 +53,68 @@ returns-clause-later g c = λ past work.
           (subst (IsPastWay past) (sym w.in_ok-read_rules-in-Read.ensures.way) (subst (λ k. IsPastWork past k s.way) w.in-Read.is work))
       | in-Leave w ↦ subst (IsPastWay past) (sym (ap (λ x. x.way) w.self-is)) (subst (λ k. IsPastWork past k s.way) w.in-Leave.is work)
     ]
+
+pub returns-in_err-enter-in-Enter-clause-takes : goal.returns-in_err-enter-in-Enter-clause-takes
+returns-in_err-enter-in-Enter-clause-takes g c =
+    let p = err_from_is_err_and c.from_residual.result c.from_residual.ensures.1 in
+    let s = c.args.self.now in
+    let t = c.enter.new.self in
+    let f = c.in_err-enter-in-Enter.field-0.0 in
+    rw (p.1, p.2) (subst (λ k. is_last f ≡ false → stock t.meter t.way < stock s.meter s.way + work_stock k) (sym c.in-Enter.is)
+    (λ goes. omega (
+      arith,
+      lists-takes s.meter t.meter s.way t.way c.enter.ensures.limit c.enter.ensures.spent f
+          c.in_err-enter-in-Enter.ensures.fails c.in_err-enter-in-Enter.ensures.stays goes,
+    )))
+
+pub returns-in_err-read_rules-in-Read-clause-takes : goal.returns-in_err-read_rules-in-Read-clause-takes
+returns-in_err-read_rules-in-Read-clause-takes g c =
+    let p = err_from_is_err_and c.from_residual-in_err-read_rules-in-Read.result c.from_residual-in_err-read_rules-in-Read.ensures.1 in
+    let s = c.args.self.now in
+    let t = c.read_rules.new.self in
+    let f = c.in_err-read_rules-in-Read.field-0.0 in
+    rw (p.1, p.2) (subst (λ k. is_last f ≡ false → stock t.meter t.way < stock s.meter s.way + work_stock k) (sym c.in-Read.is)
+    (λ goes. omega (
+      arith,
+      pays-takes s.meter t.meter s.way t.way c.read_rules.ensures.limit c.read_rules.ensures.spent f
+          (λ _. c.read_rules.ensures.way) c.in_err-read_rules-in-Read.ensures.paid goes,
+    )))
+
+pub returns-in-Meet-clause-takes : goal.returns-in-Meet-clause-takes
+returns-in-Meet-clause-takes g c =
+    let s = c.args.self.now in
+    let t = c.meet.new.self in
+    subst (λ k. Takes (stock s.meter s.way + work_stock k) (stock t.meter t.way) c.meet.result) (sym c.in-Meet.is)
+    (meets-takes s.meter t.meter s.way t.way c.meet.ensures.limit c.meet.ensures.spent c.meet.result c.meet.ensures.frames
+    c.meet.ensures.last)
+
+pub returns-clause-takes : goal.returns-clause-takes
+returns-clause-takes g c =
+    let s = c.args.self.now in
+    elim c.match-work.branch [
+      | in-Enter+in_ok-enter-in-Enter w ↦
+          let less : stock w.enter.new.self.meter w.enter.new.self.way ≤ stock s.meter s.way + work_stock c.args.work =
+          omega (arith, w.in_ok-enter-in-Enter.ensures.stock) in
+          subst (λ t. stock t.meter t.way ≤ stock s.meter s.way + work_stock c.args.work) (sym w.self-is) less
+      | in-Read+in_ok-read_rules-in-Read w ↦
+          let same : unmet w.read_rules.new.self.way ≡ unmet s.way = ap (λ x. unmet x) w.read_rules.ensures.way in
+          let less : stock w.read_rules.new.self.meter w.read_rules.new.self.way ≤ stock s.meter s.way + work_stock c.args.work =
+          omega (arith, same, w.read_rules.ensures.limit, w.read_rules.ensures.spent) in
+          subst (λ t. stock t.meter t.way ≤ stock s.meter s.way + work_stock c.args.work) (sym w.self-is) less
+      | in-Leave w ↦
+          let less : stock s.meter s.way ≤ stock s.meter s.way + work_stock c.args.work = omega arith in
+          subst (λ t. stock t.meter t.way ≤ stock s.meter s.way + work_stock c.args.work) (sym w.self-is) less
+    ]
+
+pub returns-in_err-enter-in-Enter-clause-rules : goal.returns-in_err-enter-in-Enter-clause-rules
+returns-in_err-enter-in-Enter-clause-rules g c =
+    let p = err_from_is_err_and c.from_residual.result c.from_residual.ensures.1 in
+    rw (p.1, p.2) (listing-fits (file_names c.args.self.now) _ _ c.in_err-enter-in-Enter.field-0.0 c.in_err-enter-in-Enter.ensures.fails)
+
+pub returns-in_err-read_rules-in-Read-clause-rules : goal.returns-in_err-read_rules-in-Read-clause-rules
+returns-in_err-read_rules-in-Read-clause-rules g c =
+    let p = err_from_is_err_and c.from_residual-in_err-read_rules-in-Read.result c.from_residual-in_err-read_rules-in-Read.ensures.1 in
+    rw (p.1, p.2) (rules-fit (file_names c.args.self.now) c.in_err-read_rules-in-Read.field-0.0 c.in_err-read_rules-in-Read.ensures.fails)
+
+pub returns-in-Meet-clause-rules : goal.returns-in-Meet-clause-rules
+returns-in-Meet-clause-rules g c = last-fits-of (file_names c.args.self.now) c.meet.result c.meet.ensures.last
