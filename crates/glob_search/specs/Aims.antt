@@ -1,4 +1,4 @@
--- What a search is asked for: of its patterns, its settings, and the texts of the files with rules.
+-- What a search is asked for, by its patterns, its settings, and the texts of ignore files.
 use Rattle.std.specs.Prelude.{◌≡◌, ◌≢◌, Bool, true, not, IsTrue, List, [], ◌∷◌, ◌++◌, map, filter_map, Contains, Option}
 use Rattle.std.specs.Prelude.{Some, IsSome, option_map, string_bytes, fold}
 use Rattle.std.specs.List.{join_with_byte}
@@ -14,31 +14,31 @@ use Rattle.glob_search.specs.declared.settings.Settings.{Settings}
 use Rattle.glob_search.specs.declared.settings.Wanted.{Wanted}
 use Rattle.glob_search.specs.declared.settings.Wanted.TheVariants.{All, Directories, Others}
 
--- the path of names below the start, which is `.` itself
+-- the path of these names below the start; without names, `.`
 abbrev pub path_of : (names : Key) → Text
 path_of [] = dot ∷ []
 path_of (n ∷ ns) = join_with_byte slash (n ∷ ns)
 
--- the path of names below the start, each in the directory of those before it
+-- the same for any names, each joined to the path of the names before it
 abbrev pub path_down : (names : Key) → Text
 path_down names = fold child cur_dir names
 
--- a directory, or another path, is wanted
+-- whether directories, or other paths, are wanted
 abbrev pub wants : Wanted → (is_directory : Bool) → Bool
 wants All d = true
 wants Directories d = d
 wants Others d = not d
 
--- the rules of those of some files that a directory has
+-- the rules of those of these files that a directory has
 abbrev pub rules_from : (known : Text → Option Text) → (files : List Text) → (directory : Key) → List Ignores
 rules_from known files directory =
     filter_map (λ file. option_map rules_of (known (path_of (directory ++ file ∷ [])))) files
 
--- the names of files with rules
+-- the names of ignore files
 abbrev pub files_of : {A : Type 0} → Settings A → List Text
 files_of settings = map (λ file. string_bytes file) settings.rule_files.items
 
--- what is searched for with these patterns and settings, where the texts of files are known
+-- what a search with these patterns and settings is asked for, if the texts of files are known
 abbrev pub aim_of : {A : Type 0} → (patterns : List Text) → Settings A → (known : Text → Option Text) → Aim
 aim_of patterns settings known = record {
   options = settings.options;
@@ -50,14 +50,14 @@ aim_of patterns settings known = record {
   last = settings.last.items;
 }
 
--- The texts fit the content, as rules of the aim: those of a directory are of the files that have a text there, and each
--- such file is an entry of the directory.
+-- The texts fit the content and the rules: the rules of a directory are those of its files with a text, in order, and
+-- each file with a text is an entry of its directory.
 pub record AreTextsOf (c : Content) (a : Aim) (files : List Text) (known : Text → Option Text) : Type 0 where
   pub rules : (directory : Key) → a.rules_in directory ≡ rules_from known files directory
   pub held : (directory : Key) (file : Text) → IsTrue (is_dir_at c (c.current ++ directory)) → Contains files file
       → IsSome (known (path_of (directory ++ file ∷ []))) → IsSome (kind_at c (c.current ++ (directory ++ file ∷ [])))
 
--- These are the refusals of lines, and there are some, of the text of a file with rules at this path.
+-- These are the refused lines, at least one, of the text of the ignore file at this path.
 pub record AreRefused (known : Text → Option Text) (files : List Text) (path : Text) (refusals : List RuleRefusal) : Type 0 where
   pub directory : Key
   pub file : Text

@@ -24,7 +24,7 @@ use Rattle.glob_search.specs.Aims.{path_down, path_of}
 use Rattle.glob_search.specs.Searching.{Aim, alive, found, is_kept, is_listed, is_taken, unread}
 use Rattle.glob_search.specs.Visiting.{Gift, Found, Unread, gifts, meet}
 
--- A search finds exactly the names that are to be found.
+-- A search finds exactly the names in `found`.
 abbrev pub FindsTheFound : Type 0
 FindsTheFound =
     (c : Content) (a : Aim) → IsTrue (is_content c)
@@ -45,16 +45,16 @@ abbrev pub names_of : Gift → Key
 names_of (Found names) = names
 names_of (Unread names kind) = names
 
--- a path that is found comes before the error of a directory
+-- the path of a directory comes before the error of listing it
 abbrev pub turn : Gift → ℕ
 turn (Found names) = 0
 turn (Unread names kind) = 1
 
--- in the order of names, and at the same names the path first
+-- in the order of names; for the same names, the path first
 abbrev pub gift_cmp : Gift → Gift → Ordering
 gift_cmp g h = ordering_then (key_cmp (names_of g) (names_of h)) (nat_cmp (turn g) (turn h))
 
--- Each gift is less than those after it, so that each comes once.
+-- Each gift comes before those that follow it, so each comes once.
 abbrev pub GiftsAscend : Type 0
 GiftsAscend =
     (c : Content) (a : Aim) → IsTrue (is_content c)
@@ -70,21 +70,21 @@ FoundAscend =
     (c : Content) (a : Aim) → IsTrue (is_content c)
     → AllPairs (λ names later. key_cmp names later ≡ Less) (filter_map found_names (gifts c a))
 
--- The only rules are those of one file, at the top.
+-- The only rules are those of one file in the start directory.
 pub record HasOneFile (a : Aim) (list : Ignores) : Type 0 where
   pub first : a.first ≡ []
   pub top : a.rules_in [] ≡ list ∷ []
   pub below : (n : Text) (ns : Key) → a.rules_in (n ∷ ns) ≡ []
   pub last : a.last ≡ []
 
--- Nothing on the way to a path is ignored exactly if the file does not ignore the path.
+-- A path and the directories above it are not ignored by the search exactly if the file does not ignore the path.
 abbrev pub OneFileDecides : Type 0
 OneFileDecides =
     (a : Aim) (list : Ignores) → HasOneFile a list
     → (n : Text) (ns : Key) (d : Bool) → IsTrue (list_all is_proper (n ∷ ns))
     → is_kept a [] (n ∷ ns) d ≡ not (is_ignored list (join_with_byte slash (n ∷ ns)) d)
 
--- Where a directory is not listed, an entry that no component matches by which something alive goes on gives nothing.
+-- If a directory is not listed, an entry gives nothing unless a component by which something alive goes on matches it.
 abbrev pub OnlyNamedGive : Type 0
 OnlyNamedGive =
     (c : Content) (a : Aim) (names : Key) (n : Text) (enter : Key → List Gift) (d : Bool)
@@ -92,11 +92,11 @@ OnlyNamedGive =
     → list_any (λ b. is_match a.options (chars b.1) (chars n)) (alive a names) ≡ false
     → meet c a enter (names ++ n ∷ []) d ≡ []
 
--- Going down by proper names, each in the directory of those before it, leads to the path that joins them.
+-- Going down by proper names, one directory after another, leads to the path that joins them.
 abbrev pub PathsJoinNames : Type 0
 PathsJoinNames = (names : Key) → IsTrue (list_all is_proper names) → path_down names ≡ path_of names
 
--- A component matches by itself: it is accepted, and not empty.
+-- The component makes sense by itself: it is accepted, and not empty.
 abbrev pub IsLevel : (component : Text) → Type 0
 IsLevel t = IsAccepted (chars t) × (is_empty t ≡ false)
 
@@ -108,7 +108,7 @@ are_flat names = list_all (λ n. is_utf8 n && has_no_slash n) names
 abbrev pub is_matched : Aim → (path : Text) → Bool
 is_matched a path = list_any (λ p. is_match (with_separator_rule a.options) (chars p) (chars path)) a.patterns
 
--- What takes names component by component is what matches their path as a whole.
+-- What the components take, name by name, is exactly what matches the joined path.
 abbrev pub TakesWholeMatches : Type 0
 TakesWholeMatches =
     (a : Aim) → All (λ p. IsUtf8 p × All IsLevel (pieces p)) a.patterns

@@ -1,4 +1,4 @@
--- What a search is to find: the keys below its start that a pattern matches, and that no rule ignores.
+-- What a search has to find: the keys below its start that a pattern matches, and that no rule ignores.
 use Rattle.std.specs.Prelude.{ℕ, nat_le, nat_lt, Bool, true, false, ◌&&◌, ◌||◌, not, if◌then◌else◌, List, [], ◌∷◌, ◌++◌}
 use Rattle.std.specs.Prelude.{length, map, flat_map, filter, filter_map, fold, Option, Some, None, option_map}
 use Rattle.std.specs.Prelude.{unwrap_or}
@@ -18,8 +18,8 @@ use Rattle.glob_tree.specs.Content.{Content, Key, is_dir, kind_at, names_past}
 use Rattle.glob_tree.specs.declared.kind.Kind.{Kind}
 use Rattle.glob_tree.specs.declared.kind.Kind.TheVariants.{Shut}
 
--- What is searched for, in paths of at most `depth` names. The rules of `first` come before those of the files of each
--- directory, and those of `last` after them.
+-- What a search is asked for. Paths have at most `depth` names. The rules of `first` take precedence over those of the
+-- files in directories, and those over the rules of `last`.
 pub record Aim : Type 0 where
   pub options : MatchOptions
   pub patterns : List Text
@@ -29,16 +29,16 @@ pub record Aim : Type 0 where
   pub rules_in : (directory : Key) → List Ignores
   pub last : List Ignores
 
--- Whether a list ignores a path, if a rule of it names the path. Directories above it are asked about when they are
--- entered.
+-- Whether the last rule of a list that names the path ignores it, if there is one. The directories above the path are
+-- asked about when the search enters them.
 abbrev pub said : Ignores → (path : Text) → (is_directory : Bool) → Option Bool
 said list path d = option_map (λ rule. not rule.negative) (naming_rule list path d)
 
--- the same of the last of some lists in which one does
+-- the same for the last of some lists that has such a rule
 abbrev pub last_said : List Ignores → (path : Text) → (is_directory : Bool) → Option Bool
 last_said lists path d = fold (λ before list. option_or (said list path d) before) None lists
 
--- what the files of a directory and of those below it say of names in it, the deepest first
+-- the same for the files of a directory and of those below it on the way to the path, the deepest first
 abbrev pub files_said : Aim → (directory names : Key) → (is_directory : Bool) → Option Bool
 files_said a directory [] d = None
 files_said a directory (n ∷ ns) d =
@@ -60,7 +60,7 @@ takes o (t ∷ ts) (n ∷ ns) =
     if is_recursive t then takes o ts (n ∷ ns) || (is_open o n && takes o (t ∷ ts) ns)
     else is_match o (chars t) (chars n) && takes o ts ns
 
--- `**` after `**` changes nothing, and one at the end takes at least one name, as `**` and `*` do
+-- `**` after `**` is left out, and `**` at the end is written as `**` and `*`, since it takes at least one name
 abbrev pub ended : List Text → List Text
 ended [] = []
 ended (t ∷ []) = if is_recursive t then t ∷ (star ∷ []) ∷ [] else t ∷ []
@@ -74,31 +74,31 @@ components a = map (λ p. ended (pieces p)) a.patterns
 abbrev pub is_taken : Aim → (names : Key) → Bool
 is_taken a names = list_any (λ ts. takes a.options ts names) (components a)
 
--- each beginning of components that goes on, and the component by which it does
+-- each beginning of some components that does not end them, with the component that comes next
 abbrev pub beginnings_from : (front components : List Text) → List (List Text × Text)
 beginnings_from front [] = []
 beginnings_from front (t ∷ ts) = (front, t) ∷ beginnings_from (front ++ t ∷ []) ts
 
--- those of all patterns that take the names: they are alive in the directory of these names
+-- those of all patterns whose components take the names: they are alive in the directory with these names
 abbrev pub alive : Aim → (names : Key) → List (List Text × Text)
 alive a names =
     filter (λ b. takes a.options b.0 names) (flat_map (beginnings_from []) (components a))
 
--- something is alive, so that an entry of the directory may be found or entered
+-- something is alive, so an entry of the directory may be found or entered
 abbrev pub goes_on : Aim → (names : Key) → Bool
 goes_on a names = list_any (λ b. true) (alive a names)
 
--- the component ends a beginning that takes any further name
+-- the last of the components is `**`
 abbrev pub ends_recursive : List Text → Bool
 ends_recursive [] = false
 ends_recursive (t ∷ []) = is_recursive t
 ends_recursive (t ∷ u ∷ us) = ends_recursive (u ∷ us)
 
--- it goes on by a name that is looked up
+-- the next component is a name that can be looked up, and no other name goes on
 abbrev pub is_named : MatchOptions → List Text × Text → Bool
 is_named o b = o.case_sensitive && not (ends_recursive b.0) && not (list_any is_wildcard b.1)
 
--- the directory is listed: not all that is alive goes on by such a name
+-- the directory is listed, unless everything that is alive goes on only by names that can be looked up
 abbrev pub is_listed : Aim → (names : Key) → Bool
 is_listed a names = not (list_all (is_named a.options) (alive a names))
 
@@ -106,7 +106,7 @@ abbrev pub is_shut : Option Kind → Bool
 is_shut (Some (Shut kind)) = true
 is_shut other = false
 
--- what is in the directory is not seen: it would be listed, and cannot be
+-- the directory has to be listed, and cannot be
 abbrev pub is_closed : Content → Aim → (names : Key) → Bool
 is_closed c a names = is_shut (kind_at c (c.current ++ names)) && is_listed a names
 
@@ -114,42 +114,42 @@ abbrev pub is_nil : (names : Key) → Bool
 is_nil [] = true
 is_nil (n ∷ ns) = false
 
--- no directory on the way from one to the names is closed
+-- no directory on the way from one down the names is closed
 abbrev pub is_visible : Content → Aim → (directory names : Key) → Bool
 is_visible c a directory [] = true
 is_visible c a directory (n ∷ ns) =
     not (is_closed c a directory) && is_visible c a (directory ++ n ∷ []) ns
 
--- and nothing on it is ignored
+-- nothing on that way is ignored
 abbrev pub is_kept : Aim → (directory names : Key) → (is_directory : Bool) → Bool
 is_kept a directory [] d = true
 is_kept a directory (n ∷ ns) d =
     not (is_ignored a (directory ++ n ∷ []) (d || not (is_nil ns)))
     && is_kept a (directory ++ n ∷ []) ns d
 
--- a search comes to the names
+-- the search gets to the path of the names
 abbrev pub is_reached : Content → Aim → (names : Key) → (is_directory : Bool) → Bool
 is_reached c a names d = is_visible c a [] names && is_kept a [] names d
 
--- the names past the start of a key of this kind are found
+-- a key of this kind, with these names below the start, is found
 abbrev pub is_found : Content → Aim → Kind → (names : Key) → Bool
 is_found c a kind names =
     not (is_nil names) && nat_le (length names) a.depth && a.is_wanted kind
     && is_taken a names && is_reached c a names (is_dir kind)
 
--- what is below the start: the names of each key past it, and the kind
+-- the keys below the start, as the names after it, and their kinds
 abbrev pub below : Content → List (Key × Kind)
 below c = filter_map (λ e. option_map (λ names. (names, e.1)) (names_past c.current e.0)) c.kinds
 
--- all that is found, in no order
+-- the names of all that is found, in no particular order
 unfoldable pub found : Content → Aim → List Key
 found c a = map (λ e. e.0) (filter (λ e. is_found c a e.1 e.0) (below c))
 
--- the directory of these names cannot be listed, and something might still have been found in it
+-- the search gets to the directory of these names, and cannot list it although something might be found there
 abbrev pub is_unread : Content → Aim → (names : Key) → Bool
 is_unread c a names =
     is_closed c a names && nat_lt (length names) a.depth && is_reached c a names true
 
--- all directories of which that is so, in no order
+-- the names of all such directories, in no particular order
 unfoldable pub unread : Content → Aim → List Key
 unread c a = map (λ e. e.0) (filter (λ e. is_unread c a e.0) (below c))

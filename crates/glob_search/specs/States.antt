@@ -30,18 +30,18 @@ pub record SearchState (P : Progress) : Type 0 where
   pub limit : ℕ
   -- the units of work that were charged
   pub spent : ℕ
-  -- the most names of a path that is found
+  -- the most names that a found path has
   pub depth : ℕ
   -- the directories on the way down to where the search is
   pub levels : ℕ
-  -- the names of files with rules
+  -- the names of the ignore files
   pub files : List Text
   -- at most so many paths and faults are still to come
   pub remaining : ℕ
   -- how far it has come
   pub state : P.State
 
--- nothing was asked yet
+-- the search has not asked anything yet
 pub record IsBegun {P : Progress} (limit depth : ℕ) (names : List Text) (s : SearchState P) : Type 0 where
   pub most : s.limit ≡ limit
   pub spent : s.spent ≡ 0
@@ -49,13 +49,13 @@ pub record IsBegun {P : Progress} (limit depth : ℕ) (names : List Text) (s : S
   pub levels : s.levels ≡ 0
   pub files : s.files ≡ names
 
--- Over a content and texts that have answered so: these gifts were given, and the others of all gifts are left.
+-- The content and the texts have given all answers so far. These gifts were given, and the rest of `all` is left.
 pub record HasGiven {P : Progress} (all : List Gift) (c : Content) (a : Aim) (known : Text → Option Text) (given : List Gift)
     (s : SearchState P) : Type 0 where
   pub agrees : P.Agrees c a known s.state
   pub upto : all ≡ given ++ P.left c a s.state
 
--- The path is that of the next gift, and its kind the content's, if it was learned.
+-- The path is that of the next gift, with the kind in the content, if the search knows it.
 pub record GivesFound {A : Type 0} {P : Progress} (all : List Gift) (c : Content) (a : Aim) (known : Text → Option Text)
     (given : List Gift) (found : FoundPath A) (s : SearchState P) : Type 0 where
   pub names : Key
@@ -70,14 +70,14 @@ pub record GivesUnread {P : Progress} (all : List Gift) (c : Content) (a : Aim) 
   pub path : text ≡ path_of names
   pub goes : HasGiven all c a known (given ++ Unread names kind ∷ []) s
 
--- Lines of a file with rules are refused. The search goes on by the rules of the others.
+-- Lines of an ignore file are refused. The search goes on with the rules of its other lines.
 pub record GivesRefused {P : Progress} (all : List Gift) (c : Content) (a : Aim) (known : Text → Option Text)
     (given : List Gift) (path : Text) (refusals : List RuleRefusal) (s : SearchState P) : Type 0 where
   pub refused : AreRefused known s.files path refusals
   pub goes : HasGiven all c a known given s
 
--- What a further call makes of it: nothing is left, the next gift is given, or lines of a file with rules are refused.
--- At the limit or out of memory the search ends. Each file with rules can be read, since its text is known.
+-- What the next call does: it says that nothing is left, gives the next gift, or reports refused lines. At the limit,
+-- or if memory runs out, the search ends. No ignore file fails to be read, since the texts are known.
 abbrev pub GivesNext : {A : Type 0} {P : Progress} → (all : List Gift) → Content → Aim → (known : Text → Option Text)
     → (given : List Gift) → Option (Result (FoundPath A) (SearchFault A)) → SearchState P → Type 0
 GivesNext all c a known given None s = all ≡ given
@@ -94,7 +94,7 @@ GivesNext all c a known given (Some (Err fault.Memory)) s = ⊤
 abbrev pub IsPast : {P : Progress} → (past : Key) → SearchState P → Type 0
 IsPast {P} past s = P.IsPast past s.state
 
--- The path that is found is that of later names, which the search is then past.
+-- The names of the found path come later than these, and the search is now past them.
 pub record FindsAfter {A : Type 0} {P : Progress} (past : Key) (found : FoundPath A) (s : SearchState P)
     : Type 0 where
   pub names : Key
@@ -102,7 +102,7 @@ pub record FindsAfter {A : Type 0} {P : Progress} (past : Key) (found : FoundPat
   pub later : key_cmp past names ≡ Less
   pub goes : IsPast names s
 
--- What a further call makes of it, over any tree: each path that is found comes after those before it.
+-- What the next call does, over any tree: each path that is found comes after all earlier ones.
 abbrev pub GoesAfter : {A : Type 0} {P : Progress} → (past : Key) → Option (Result (FoundPath A) (SearchFault A))
     → SearchState P → Type 0
 GoesAfter past None s = IsPast past s

@@ -1,8 +1,8 @@
-//! The beginnings of patterns.
+//! The beginnings of patterns, as a tree: what a search still has to match below a directory.
 //!
-//! Patterns that begin with the same components share their beginnings: each is a node, and goes on to others by one
-//! component. In a directory those are alive that take the names of its path, as `src` and `src/**` do in `src`, and
-//! `src/**` alone in `src/a`. Nothing else of the patterns is needed there.
+//! A beginning is the first components of some patterns. It is a node of the tree, and leads to others, each of one
+//! component more. In a directory those beginnings are alive that take the names of its path: in `src` these are `src`
+//! and `src/**`, in `src/a` only `src/**`. Nothing else of the patterns matters there.
 ghost use Rattle.std.specs.Prelude.{◌≡◌, ◌<◌, vec_len, IfErr, IfOk, false, not, map, [], ◌∷◌, ◌++◌};
 ghost use Rattle.std.specs.Cmp.Lexicographic.{slice_cmp};
 ghost use Rattle.std.specs.List.{All, AllPairs, list_any};
@@ -21,7 +21,7 @@ use glob_tree::begins_with_dot;
 use node::{Component, Node};
 use std::alloc::{AllocError, Allocator};
 
-/// The beginnings of some patterns, and how names are matched. The empty one is the first.
+/// The beginnings of some patterns, and how names are matched. The first is the empty one, the root of the tree.
 #[derive(Drop)]
 pub struct Beginnings<A: Allocator> {
     nodes: Vec<Node<A>, A>,
@@ -41,8 +41,8 @@ impl<A: Allocator + Copy> Beginnings<A> {
     ghost use Rattle.glob_search.specs.Private.Nodes.{Adds, AreAlive, AreAscending, AreBeginnings, AreNames, Enlivens, IsTree, is_looked_up, node_goes_on, node_says, LiteralStep, literal_texts, Stays, Steps, StepsFrom, WildStep};
     ghost use Rattle.glob_search.specs.Searching.{Aim, alive as alive_in, goes_on as goes_on_in, is_listed, is_taken};
 
-    /// The beginnings of patterns. The error is the fault of the first that has one, or else that of its first
-    /// component that has one.
+    /// The beginnings of some patterns. The error is the fault of the first pattern with one: that of its whole text
+    /// or, if that has none, of its first component with one.
     pub fn of(alloc: A, patterns: &[&str], options: MatchOptions) -> Result<Self, SetRefusal>
         ensures beginnings { IfOk result (AreBeginnings options (map (λ p. p.now) patterns.now)) }
         ensures accepted { IfOk result (λ _. AreSearchable (map (λ p. p.now) patterns.now)) }
@@ -63,7 +63,7 @@ impl<A: Allocator + Copy> Beginnings<A> {
         Ok(beginnings)
     }
 
-    /// What is alive at the start.
+    /// The beginnings that are alive in the start directory.
     pub fn at_start(&self) -> Result<Vec<usize, A>, AllocError>
         ensures alive { IfOk result (λ alive. AreAlive self.now [] alive.items) }
     {
@@ -72,7 +72,7 @@ impl<A: Allocator + Copy> Beginnings<A> {
         Ok(alive)
     }
 
-    /// What is alive after a further name.
+    /// The beginnings that are alive after one more name.
     pub fn after(&self, alive: &[usize], name: &str) -> Result<Vec<usize, A>, AllocError>
         ensures alive { (names : Key) → AreAlive self.now names alive.now
             → IfOk result (λ next. AreAlive self.now (names ++ name.now ∷ []) next.items) }
@@ -84,7 +84,7 @@ impl<A: Allocator + Copy> Beginnings<A> {
         self.after_key(alive, name, key.as_str())
     }
 
-    /// What is alive after a further name, with the text by which it is compared with literals.
+    /// The same, given also the text by which the name is compared with literals.
     fn after_key(&self, alive: &[usize], name: &str, key: &str) -> Result<Vec<usize, A>, AllocError>
         ensures { (front : ℕ → List Text) → IsTree self.now.options self.now.nodes.items front
             → IfOk result (λ next. Adds (StepsFrom self.now.nodes.items self.now.options
@@ -99,7 +99,7 @@ impl<A: Allocator + Copy> Beginnings<A> {
         Ok(next)
     }
 
-    /// Adds what goes on by a name from one beginning.
+    /// Adds the beginnings that a name leads to from one beginning.
     fn step(
         &self,
         number: usize,
@@ -119,7 +119,7 @@ impl<A: Allocator + Copy> Beginnings<A> {
         self.step_wild(node, name, next)
     }
 
-    /// Adds a beginning itself, if it ends in a `**` that may take a name.
+    /// Adds the beginning itself, if it ends in a `**` that may take the name.
     fn stay(
         &self,
         number: usize,
@@ -137,7 +137,7 @@ impl<A: Allocator + Copy> Beginnings<A> {
         Ok(())
     }
 
-    /// Adds what goes on by the literal that is compared by a key.
+    /// Adds what the literal with this key leads to, if there is one.
     fn step_literal(
         &self,
         node: &Node<A>,
@@ -154,7 +154,7 @@ impl<A: Allocator + Copy> Beginnings<A> {
         Ok(())
     }
 
-    /// Adds what goes on by the wildcards that match a name.
+    /// Adds what the components with wildcards lead to that match the name.
     fn step_wild(
         &self,
         node: &Node<A>,
@@ -172,7 +172,7 @@ impl<A: Allocator + Copy> Beginnings<A> {
         Ok(())
     }
 
-    /// Adds a beginning, and the one that goes on by a `**` which takes no name.
+    /// Adds a beginning, and the one that a `**` leads to from there, which may take no name.
     fn enliven(&self, number: usize, alive: &mut Vec<usize, A>) -> Result<(), AllocError>
         ensures { IfOk result (λ _. Adds (Enlivens self.now.nodes.items number)
             alive.old.items alive.new.items) }
@@ -184,7 +184,7 @@ impl<A: Allocator + Copy> Beginnings<A> {
         Ok(())
     }
 
-    /// Where `**` leads from a beginning.
+    /// The beginning that `**` leads to from this one, if there is one.
     fn deep_of(&self, number: usize) -> Option<usize>
         ensures { result ≡ option_and_then
             (λ node. node.deep) (slice_get self.now.nodes.items number) }
@@ -199,7 +199,7 @@ impl<A: Allocator + Copy> Beginnings<A> {
         self.nodes.get(number)
     }
 
-    /// Whether `**` may take a name.
+    /// Whether the dot rule lets `**` take the name.
     fn is_open(&self, name: &str) -> bool
         ensures { result ≡ is_open self.now.options name.now }
     {
@@ -227,7 +227,7 @@ impl<A: Allocator + Copy> Beginnings<A> {
         matches!(self.node(number), Some(node) if node.is_whole)
     }
 
-    /// Whether one of these beginnings goes on.
+    /// Whether one of these beginnings leads to another.
     pub fn goes_on(&self, alive: &[usize]) -> bool
         ensures goes_on { (a : Aim) (names : Key) → AreBeginnings a.options a.patterns self.now
             → AreAlive self.now names alive.now → result ≡ goes_on_in a names }
@@ -247,7 +247,7 @@ impl<A: Allocator + Copy> Beginnings<A> {
         matches!(self.node(number), Some(node) if node.goes_on())
     }
 
-    /// Whether only literal names go on from these beginnings, and are looked up as they are.
+    /// Whether these beginnings lead on only by literal names, which can be looked up as they are.
     pub fn is_literal(&self, alive: &[usize]) -> bool
         ensures unlisted { (a : Aim) (names : Key) → AreBeginnings a.options a.patterns self.now
             → AreAlive self.now names alive.now → result ≡ not (is_listed a names) }
@@ -262,7 +262,7 @@ impl<A: Allocator + Copy> Beginnings<A> {
         alive.iter().all(|number| self.is_looked_up(*number))
     }
 
-    /// Whether what goes on from a beginning is looked up by its name.
+    /// Whether a beginning leads on only by literal names, which can be looked up as they are.
     fn is_looked_up(&self, number: usize) -> bool
         ensures { result ≡ node_says (is_looked_up self.now.options) self.now.nodes.items number }
     {
@@ -272,14 +272,14 @@ impl<A: Allocator + Copy> Beginnings<A> {
         node.is_literal() && (self.options.case_sensitive || node.literals.is_empty())
     }
 
-    /// Whether other names than literal ones may lead further on from these beginnings.
+    /// Whether a directory may have to be entered whose name is no literal of these beginnings.
     pub fn enters_many(&self, alive: &[usize]) -> bool {
         alive.iter().any(
             |number| matches!(self.nodes.get(*number), Some(node) if self.leads_on(node)),
         )
     }
 
-    /// Whether `**` or a wildcard leads from a beginning to one that goes on.
+    /// Whether `**` or a component with wildcards leads from a node to one that leads on.
     fn leads_on(&self, node: &Node<A>) -> bool {
         node.is_deep
             || node.wilds.iter().any(
@@ -287,7 +287,7 @@ impl<A: Allocator + Copy> Beginnings<A> {
             )
     }
 
-    /// The names by which literals go on from these beginnings, ascending.
+    /// The literal names by which these beginnings lead on, in ascending order.
     pub fn literal_names(&self, alive: &[usize]) -> Result<Vec<&str, A>, AllocError>
         ensures names { (a : Aim) (names : Key) → AreBeginnings a.options a.patterns self.now
             → AreAlive self.now names alive.now → is_listed a names ≡ false
@@ -301,7 +301,7 @@ impl<A: Allocator + Copy> Beginnings<A> {
         Ok(names)
     }
 
-    /// The literals by which these beginnings go on, in no order.
+    /// The literal names by which these beginnings lead on, in no particular order.
     fn literals_of(&self, alive: &[usize]) -> Result<Vec<&str, A>, AllocError>
         ensures { IfOk result (λ texts. map (λ t. t.now) texts.items
             ≡ flat_map (literal_texts self.now.nodes.items) alive.now) }
@@ -318,7 +318,7 @@ impl<A: Allocator + Copy> Beginnings<A> {
     }
 }
 
-/// The refusal of the pattern with a number.
+/// The error for the pattern at index `number`.
 fn refusal_of(number: usize, refusal: PatternRefusal) -> SetRefusal
     ensures { result ≡ refusal_of number refusal }
 {

@@ -1,4 +1,4 @@
-//! What a directory has.
+//! The entries of a directory, looked up or listed.
 ghost use Rattle.std.specs.Prelude.{◌≡◌, ℕ, ◌+◌, ◌≤◌, ◌++◌, List, IfOk, IfErr, OnOk, IsTrue, IsPermutation, IsSome, if◌then◌else◌, true, false, is_some, map, option_map, string_bytes, vec_len};
 ghost use Rattle.std.specs.Option.{ForSome};
 ghost use Rattle.glob_tree.specs.Answers.{IsListError, IsTold, entries_of, names_of};
@@ -16,7 +16,7 @@ use crate::meter::Meter;
 use glob_tree::{Entry, ListError, Look, Name, Tree, child};
 use std::alloc::Allocator;
 
-/// What is at a path.
+/// Looks up a path, for one unit.
 pub fn look_at<A: Allocator + Copy, T: Tree<Alloc = A>>(
     meter: &mut Meter,
     tree: &mut T,
@@ -34,7 +34,7 @@ pub fn look_at<A: Allocator + Copy, T: Tree<Alloc = A>>(
     Ok(tree.look(path)?)
 }
 
-/// The entries that have the names by which literals go on, in descending order.
+/// Looks up the literal names by which beginnings lead on: the entries that exist, in descending order.
 pub fn look_up<A: Allocator + Copy, T: Tree<Alloc = A>>(
     alloc: A,
     meter: &mut Meter,
@@ -65,7 +65,7 @@ pub fn look_up<A: Allocator + Copy, T: Tree<Alloc = A>>(
     Ok(entries)
 }
 
-/// The entry of a directory that has a name, if it is there.
+/// Looks up a name in a directory: its entry, if it exists.
 fn entry_at<A: Allocator + Copy, T: Tree<Alloc = A>>(
     alloc: A,
     meter: &mut Meter,
@@ -99,7 +99,7 @@ fn entry_at<A: Allocator + Copy, T: Tree<Alloc = A>>(
     }
 }
 
-/// The entries of a directory, in descending order of names, each once.
+/// Lists a directory: its entries, in descending order of names, each once.
 pub fn list<A: Allocator + Copy, T: Tree<Alloc = A>>(
     meter: &mut Meter,
     tree: &mut T,
@@ -130,7 +130,7 @@ pub fn list<A: Allocator + Copy, T: Tree<Alloc = A>>(
     Ok(entries)
 }
 
-/// What a directory lists: its names alone where no kinds are known.
+/// The listing of a directory: only names if the source is `Named`, and otherwise kinds as well.
 fn listed<A: Allocator + Copy, T: Tree<Alloc = A>>(
     tree: &mut T,
     path: &str,
@@ -149,7 +149,7 @@ fn listed<A: Allocator + Copy, T: Tree<Alloc = A>>(
     }
 }
 
-/// Puts the entries of a directory into descending order of names, each once.
+/// Sorts entries in descending order of names, and keeps each name once.
 fn put_in_order<A: Allocator>(entries: &mut Vec<Entry<A>, A>)
     ensures few { vec_len entries.new ≤ vec_len entries.old }
     ensures order { (c : Content) (names : Key) → IsTrue (is_content c)

@@ -7,16 +7,16 @@ use std::alloc::{AllocError, AllocFailed, Allocator, Global};
 use std::error::Error;
 use std::{fmt, io};
 
-/// What a search could not do. It goes on after it, but for `Limit` and `Memory`.
+/// What a search could not do. After `Limit` it has ended; after `Memory`, too; otherwise it goes on.
 #[derive(Drop)]
 #[derive_where(Debug)]
 pub enum SearchFault<A: Allocator = Global> {
     /// The directory at the path could not be listed, so what is below it is not found.
     Unread(String<A>, io::Error),
-    /// The file with rules at the path could not be read, so its rules are not heard.
+    /// The ignore file at the path could not be read, so its rules do not apply.
     UnreadRules(String<A>, io::Error),
-    /// Lines of the file with rules at the path are refused: these are their refusals. The rules of its other lines are
-    /// heard.
+    /// Lines of the ignore file at the path are refused, and these are the refusals. The rules of its other lines do
+    /// apply.
     RefusedRules(String<A>, Vec<RuleRefusal, A>),
     /// The next unit of work does not fit the limit. The search has ended.
     Limit,

@@ -6,9 +6,9 @@ use std::alloc::{Allocator, Global};
 #[derive(Drop)]
 #[derive_where(Debug)]
 pub struct Found<A: Allocator = Global> {
-    /// The names from the start directory on, joined by `/`, as `src/main.rs`.
+    /// The names from the start directory on, joined by `/`, such as `src/main.rs`.
     pub path: String<A>,
-    /// Whether it is a directory, if the search has learned it. It has where [`Settings::kinds`](crate::Settings::kinds)
-    /// is set.
+    /// Whether it is a directory, if the search knows that. It always does if
+    /// [`Settings::kinds`](crate::Settings::kinds) is set.
     pub is_dir: Option<bool>,
 }

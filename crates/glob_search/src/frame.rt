@@ -1,4 +1,4 @@
-//! A directory on the way.
+//! A directory that a search is in, or enters next.
 ghost use Rattle.std.specs.Prelude.{◌≡◌, false, map, string_bytes};
 ghost use Rattle.glob_search.specs.Private.Listings.{known_kind};
 ghost use Rattle.glob_search.specs.Private.Steps.{IsAbsent, NextFile};
@@ -14,14 +14,14 @@ pub struct Opening<A: Allocator> {
     pub alive: Vec<usize, A>,
 }
 
-/// What is known of the entries of a directory.
+/// How the entries of a directory are known.
 #[derive(Clone, Copy, PartialEq, Eq)]
 pub enum Source {
-    /// Some names were looked up, and these are there. Others may be, too.
+    /// Some names were looked up, and these exist. There may be others.
     LookedUp,
     /// All of them, with their kinds.
     Listed,
-    /// All names, and no kinds.
+    /// All of them, without their kinds.
     Named,
 }
 
@@ -32,16 +32,16 @@ pub struct Frame<A: Allocator> {
     /// The beginnings that are alive in it.
     pub alive: Vec<usize, A>,
     pub source: Source,
-    /// Its entries that are still to be met, each name once, in descending order: the last is met first.
+    /// The entries that are still to be visited, each name once, in descending order: the last is visited first.
     pub entries: Vec<Entry<A>, A>,
-    /// How many of the names of files with rules were read, or are not there.
+    /// How many of the names of ignore files are dealt with: read, or known to be missing.
     pub files: usize,
-    /// How many files with rules are heard from the directories above it.
+    /// How many of the lists in `Heard::files` come from above it.
     pub heard: usize,
 }
 
 impl<A: Allocator> Frame<A> {
-    /// The number of the next of these names that may be in it, which is passed by this.
+    /// The index of the next of these names that may exist in it. A later call goes on after it.
     pub fn next_file(&mut self, names: &[String<A>]) -> Option<usize>
         ensures entries { self.new.entries ≡ self.old.entries }
         ensures passes { NextFile (map (λ name. string_bytes name) names.now)
@@ -67,7 +67,7 @@ impl<A: Allocator> Frame<A> {
         }
     }
 
-    /// Whether a name may be in it: where its names are known, whether it is one of them.
+    /// Whether the name may exist in it. If its names are known, whether it is one of them.
     fn may_have(&self, name: &str) -> bool
         ensures { result ≡ false → IsAbsent self.now name.now }
     {

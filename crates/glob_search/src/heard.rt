@@ -1,4 +1,4 @@
-//! The rules that are heard in a directory.
+//! The ignore rules that apply in a directory.
 ghost use Rattle.std.specs.Prelude.{◌≡◌, IfOk, drop, false, ◌++◌, ◌∷◌, [], Bool, IsTrue};
 ghost use Rattle.std.specs.List.{All, list_all, join_with_byte};
 ghost use Rattle.std.specs.Str.{IsCharBoundary};
@@ -15,22 +15,22 @@ use std::alloc::{AllocError, Allocator};
 /// The rules of a file, for the paths below its directory.
 #[derive(Drop)]
 pub struct FileRules<A: Allocator> {
-    /// How many bytes of a path are its directory's and the separator after it.
+    /// How many bytes of a path come before the part that the rules are about.
     pub above: usize,
     pub list: IgnoreList<A>,
 }
 
-/// The rules that are heard. Of the lists the last one that says something of a path decides, and those that come
-/// before all others are asked first.
+/// The rules that apply. Among several lists the last one with a rule that names the path decides, but those in `first`
+/// are asked before all others.
 #[derive(Drop)]
 pub struct Heard<A: Allocator> {
     pub first: Vec<FileRules<A>, A>,
-    /// The rules that come after those of files, and then those of files.
+    /// The lists that are asked last, and after them those of files, the outermost directory first.
     pub files: Vec<FileRules<A>, A>,
 }
 
 impl<A: Allocator + Copy> Heard<A> {
-    /// Rules from the start on, before those of files and after them.
+    /// The lists for paths from the start directory on: `first` is asked before those of files, and `last` after them.
     pub fn of_lists(
         alloc: A,
         first: Vec<IgnoreList<A>, A>,
@@ -45,7 +45,7 @@ impl<A: Allocator + Copy> Heard<A> {
         })
     }
 
-    /// Whether there are any.
+    /// Whether there are any rules.
     pub fn is_any(&self) -> bool
         ensures none { (a : Aim) (directory : Key) (n : Text) (d : Bool)
             → Hears a directory self.now → result ≡ false
@@ -54,8 +54,8 @@ impl<A: Allocator + Copy> Heard<A> {
         !self.first.is_empty() || !self.files.is_empty()
     }
 
-    /// Whether the first rules that say something of a path ignore it. The directories above it are not asked about:
-    /// they were when they were entered.
+    /// Whether the rule that decides ignores the path. The directories above it are not checked again: they were when
+    /// they were entered.
     pub fn ignores(&self, path: &str, is_dir: bool) -> Result<bool, AllocError>
         ensures decides { (a : Aim) (directory : Key) (n : Text) → Hears a directory self.now
             → IsTrue (list_all is_proper (directory ++ n ∷ []))
@@ -70,7 +70,7 @@ impl<A: Allocator + Copy> Heard<A> {
     }
 }
 
-/// Lists for paths from the start on.
+/// The lists, as rules for paths from the start directory on.
 fn from_start<A: Allocator + Copy>(
     alloc: A,
     lists: Vec<IgnoreList<A>, A>,
@@ -84,7 +84,7 @@ fn from_start<A: Allocator + Copy>(
     Ok(rules)
 }
 
-/// What the last list that says something of a path says: whether it ignores it.
+/// Whether the last list with a rule that names the path ignores it; `None` if no list has one.
 fn last_said<A: Allocator + Copy>(
     rules: &[FileRules<A>],
     path: &str,
@@ -105,7 +105,7 @@ fn last_said<A: Allocator + Copy>(
     Ok(None)
 }
 
-/// Whether a list ignores a path, or `None` where no rule of it names the path.
+/// Whether a list ignores a path; `None` if none of its rules names it.
 fn said<A: Allocator + Copy>(
     list: &IgnoreList<A>,
     path: &str,
@@ -119,7 +119,7 @@ fn said<A: Allocator + Copy>(
     }
 }
 
-/// What is after so many bytes of a path.
+/// The path without its first `above` bytes.
 fn below(path: &str, above: usize) -> &str
     ensures { IsCharBoundary path.now above → result.now ≡ drop above path.now }
 {

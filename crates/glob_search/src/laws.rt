@@ -21,14 +21,14 @@ pub fn search_goes_in_order()
     ensures found { FoundAscend }
 {}
 
-/// With one ignore file at the top and no other rules, a search passes over exactly what `IgnoreList::is_ignored`
-/// ignores: by `b/` and `!b/x`, all of `b`.
+/// With one ignore file at the top and no other rules, a search leaves out exactly what `IgnoreList::is_ignored`
+/// ignores: with `b/` and `!b/x`, all of `b`.
 pub fn one_file_decides_as_its_list()
     ensures { OneFileDecides }
 {}
 
-/// In a directory that is not listed, because all that is alive goes on by names without wildcards, no other entry gives
-/// anything: by `a/b` and `a/c/*`, only `b` and `c` are to be looked up in `a`.
+/// If a directory is not listed, because all beginnings that are alive lead on by literal names, its other entries give
+/// nothing: for `a/b` and `a/c/*`, only `b` and `c` have to be looked up in `a`.
 pub fn only_named_entries_give()
     ensures { OnlyNamedGive }
 {}
@@ -38,8 +38,8 @@ pub fn paths_join_names()
     ensures { PathsJoinNames }
 {}
 
-/// A search takes a path by its components exactly if a pattern matches the whole path under the separator rule, whatever
-/// the options: if each component of the patterns is accepted and not empty. `src/**` takes `src/a/b`.
+/// If each component of the patterns is accepted and not empty, a search takes a path by its components exactly if a
+/// pattern matches the whole path under the separator rule, whatever the other options: `src/**` takes `src/a/b`.
 pub fn search_takes_whole_matches()
     ensures { TakesWholeMatches }
 {}

@@ -14,7 +14,7 @@ pub struct Meter {
 }
 
 impl Meter {
-    /// Charges some units, if as many are left.
+    /// Charges units, if that many are left.
     pub fn charge(&mut self, units: usize) -> Result<(), OverLimit>
         ensures limit { self.new.limit ≡ self.old.limit }
         ensures charged { OnOk result (self.new.spent ≡ self.old.spent + units) }

@@ -1,4 +1,4 @@
-//! Searches.
+//! A search, as its callers see it.
 ghost use Rattle.std.specs.Prelude.{◌≡◌, ◌+◌, ◌<◌, ◌≤◌, List, [], map, Option, Some, MatchOption, IfErr, IfOk, IfSome, IsTrue, ⊤};
 ghost use Rattle.glob_text.specs.Text.{Text};
 ghost use Rattle.glob_tree.specs.Answers.{IsTold};
@@ -19,8 +19,8 @@ use glob_tree::Tree;
 use std::alloc::{Allocator, Global};
 use std::marker::Model;
 
-/// A search for the paths below the current directory of a tree that some of many patterns match, each once and in
-/// ascending order of names.
+/// A search for the paths below the current directory of a tree that at least one of many patterns matches, each once
+/// and in ascending order of names.
 ///
 /// ```text
 /// let mut search = Search::new(alloc, &["src/*.rs", "docs/**"], Settings::new(alloc))?;
@@ -43,7 +43,7 @@ impl<A: Allocator> Model for Search<A> {
 }
 
 impl<A: Allocator + Copy> Search<A> {
-    /// A search for what some patterns match. It has asked nothing, and all is left that it has to give.
+    /// A search that has not begun: it has asked nothing and given nothing.
     ///
     /// A pattern is read as a whole, and then each of its components, so that `a/[/]` is refused for its `[`. The error is
     /// the number of the first pattern with a fault, counted from 0, and its first fault, or a failed allocation.
@@ -62,7 +62,7 @@ impl<A: Allocator + Copy> Search<A> {
         Ok(Search { searcher })
     }
 
-    /// The next path that is found, or what could not be done; `None` where nothing is left, and from then on.
+    /// The next path that is found, or what could not be done. `None` if nothing is left, and from then on.
     ///
     /// Where the content of the tree and the texts of the files with rules are known, the paths and the directories that
     /// cannot be listed are exactly those that the search has to give, one after another, and `None` comes after the last.

@@ -1,7 +1,7 @@
-//! How a search goes.
+//! The turns of a search.
 //!
 //! A search has a frame for each directory on the way down to where it is. A turn enters a directory, reads one of its
-//! files with rules, meets one of its entries, or leaves it.
+//! ignore files, visits one of its entries, or leaves it.
 ghost use Rattle.std.specs.Prelude.{◌≡◌, ℕ, suc, ◌+◌, ◌≤◌, ◌<◌, ◌&&◌, ◌++◌, ◌∷◌, [], List, Option, None, Some, Bool, true, false, IsTrue, OnOk, IfOk, IfErr, IfSome, MatchOption, map, option_map, unwrap_or, string_bytes, length, ⊤};
 ghost use Rattle.std.specs.Option.{ForSome};
 ghost use Rattle.std.specs.List.{list_all};
@@ -41,7 +41,7 @@ use glob_set::SetRefusal;
 use glob_tree::{Entry, ListError, Tree, child};
 use std::alloc::{AllocError, Allocator};
 
-/// A search, as its own functions see it.
+/// What a search keeps between its turns.
 #[derive(Drop)]
 pub struct Searcher<A: Allocator> {
     beginnings: Beginnings<A>,
@@ -156,7 +156,7 @@ impl<A: Allocator + Copy> Searcher<A> {
         self.meter.spent
     }
 
-    /// Lets go of what is left.
+    /// Drops what is left, after the last fault.
     fn end(&mut self)
         ensures meter { self.new.meter ≡ self.old.meter }
         ensures depth { self.new.depth ≡ self.old.depth }
@@ -204,7 +204,7 @@ impl<A: Allocator + Copy> Searcher<A> {
         Ok(None)
     }
 
-    /// Meets an entry of the last directory: it may be found, and may be entered next.
+    /// Visits an entry of the last directory, which may be found, and may be entered next.
     fn meet<T: Tree<Alloc = A>, R: RuleTexts<Alloc = A>>(
         &mut self,
         tree: &mut T,
@@ -250,7 +250,7 @@ impl<A: Allocator + Copy> Searcher<A> {
         self.take(path, alive, is_dir, is_found, goes_on)
     }
 
-    /// Whether the entry at a path is a directory. Where that is not known and does not matter, it is not learned.
+    /// Whether the entry at a path is a directory. `None` if that is not known and does not matter.
     fn kind_at<T: Tree<Alloc = A>>(
         &mut self,
         tree: &mut T,
@@ -296,7 +296,7 @@ impl<A: Allocator + Copy> Searcher<A> {
         texts.leaves_out(path, is_dir)
     }
 
-    /// Takes an entry that was met: enters it next, if it goes on and is a directory, and finds it, if it is wanted.
+    /// Enters an entry next, if it is a directory and patterns go on, and finds it, if it is wanted.
     fn take(
         &mut self,
         path: String<A>,
@@ -321,14 +321,14 @@ impl<A: Allocator + Copy> Searcher<A> {
         Ok(None)
     }
 
-    /// Whether the kind of each entry that is found matters.
+    /// Whether the kind of each path that is found matters.
     fn needs_kinds(&self) -> bool
         ensures { result ≡ false → IsKindless self.now }
     {
         self.kinds || self.wanted != Wanted::All || self.heard.is_any()
     }
 
-    /// Reads the file with rules that has the name with a number, in the last directory.
+    /// Reads, in the last directory, the ignore file with the name at index `number`.
     fn read_rules<R: RuleTexts<Alloc = A>>(
         &mut self,
         texts: &mut R,

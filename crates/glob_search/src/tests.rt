@@ -33,7 +33,7 @@ struct Row<'a> {
     looks: usize,
 }
 
-/// The fields of a row, which stand between `|`.
+/// The fields of a row, separated by `|`.
 fn row_of(text: &str) -> Option<Row<'_>> {
     let mut fields = text.split('|');
     let keys = fields.next()?;
@@ -77,7 +77,7 @@ impl Tree for Counted {
     }
 }
 
-/// The texts of a row, each after its path and `:`, with ` ` for each end of a line.
+/// The texts of a row, each after its path and `:`, with a space for each line feed.
 #[derive(Drop)]
 struct RowTexts<'a> {
     files: &'a str,
@@ -105,7 +105,7 @@ impl RuleTexts for RowTexts<'_> {
     }
 }
 
-/// The text with an end of a line for each space.
+/// The text with a line feed for each space.
 fn lines_of(alloc: Global, text: &str) -> Result<String, AllocError> {
     let mut lines = String::new(alloc);
     for c in text.chars() {
@@ -136,8 +136,8 @@ fn tree_of(alloc: Global, keys: &str) -> Result<MemTree, AllocError> {
     Ok(tree)
 }
 
-/// The settings of a row: letters `i` and `d` of options, `D` and `F` for directories and others alone, and a digit
-/// for the depth.
+/// The settings of a row: the letters `i` and `d` of options, `D` for only directories or `F` for only others, and a
+/// digit for the depth.
 fn settings_of(alloc: Global, row: &Row) -> Result<Settings, AllocError> {
     let mut settings = Settings::new(alloc);
     for c in row.letters.chars() {

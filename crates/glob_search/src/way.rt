@@ -10,11 +10,11 @@ use std::alloc::{AllocError, Allocator};
 pub enum Work<A: Allocator> {
     /// It enters a directory.
     Enter(Opening<A>),
-    /// It reads the file with rules that has the name with a number, in the last directory.
+    /// It reads, in the last directory, the ignore file with the name at this index.
     Read(usize),
-    /// It meets an entry of the last directory.
+    /// It visits an entry of the last directory.
     Meet(Entry<A>),
-    /// It has left a directory, above which this many files with rules are heard.
+    /// It has left a directory. This many of the lists in `Heard::files` still apply.
     Leave(usize),
 }
 
@@ -30,7 +30,7 @@ impl<A: Allocator> Way<A> {
     ghost use Rattle.glob_search.specs.Private.Steps.{MayEnter, NextWork};
     ghost use Rattle.glob_search.specs.Private.Weights.{way_weight, work_weight};
 
-    /// What is done next, where the files with rules have these names; `None` where nothing is left.
+    /// What the search does next, given the names of ignore files. `None` if nothing is left.
     pub fn next(&mut self, names: &[String<A>]) -> Option<Work<A>>
         ensures weight { MatchOption result ⊤
             (λ work. way_weight self.new + work_weight work ≡ way_weight self.old) }

@@ -1,4 +1,4 @@
--- What is true of a search between two turns over a content that has answered so, and what a turn makes of it.
+-- What holds of a search between two turns, if a known content gave the answers, and what a turn does to it.
 use Rattle.std.specs.Prelude.{◌≡◌, ◌≢◌, ℕ, suc, ◌<◌, ◌≤◌, Bool, true, false, List, [], ◌∷◌, ◌++◌, length, map, take}
 use Rattle.std.specs.Prelude.{reverse, Option, None, Some, Result, Ok, Err, String, Vec, string_bytes, vec_len}
 use Rattle.std.specs.Prelude.{if◌then◌else◌, ⊤}
@@ -33,7 +33,7 @@ use Rattle.glob_search.specs.declared.settings.Wanted.TheVariants.{All as Everyt
 use Rattle.glob_search.specs.declared.way.Work.{Work}
 use Rattle.glob_search.specs.declared.way.Work.TheVariants.{Enter, Read, Meet, Leave}
 
--- the names of files with rules
+-- the names of ignore files
 abbrev pub file_names : {A : Type 0} → Searcher A → List Text
 file_names s = map (λ file. string_bytes file) s.rule_files.items
 
@@ -43,13 +43,13 @@ frame_names f = names_in (string_bytes f.path)
 abbrev pub opening_names : {A : Type 0} → Opening A → Key
 opening_names o = names_in (string_bytes o.path)
 
--- the path is that of a directory of the content, and the beginnings are those that are alive in it
+-- the path leads to a directory of the content, and the numbers are those of the beginnings alive in it
 pub record IsDirectory {A : Type 0} (c : Content) (b : Beginnings A) (text : Text) (numbers : List ℕ) : Type 0 where
   pub path : text ≡ path_of (names_in text)
   pub there : is_dir_at c (c.current ++ names_in text) ≡ true
   pub alive : AreAlive b (names_in text) numbers
 
--- the directory is one name below the last of these, which come from the last on, or it is the start
+-- the names are one longer than those of the last directory on the way (the first of the list), or it is the start
 abbrev pub IsBelow : {A : Type 0} → (names : Key) → List (Frame A) → Type 0
 IsBelow names [] = names ≡ []
 IsBelow names (f ∷ fs) = (n : Text) × (names ≡ frame_names f ++ n ∷ [])
@@ -60,40 +60,40 @@ pub record IsFrame {A : Type 0} (c : Content) (a : Aim) (b : Beginnings A) (f : 
   pub entries : All (IsEntry c (frame_names f) f.source) f.entries.items
   pub heard : f.heard ≡ length (lists_above a (frame_names f))
 
--- the directories on the way, from the last on, whose files with rules were read, as many as these
+-- These are the directories on the way, the last one first. At least this many ignore files of each were dealt with.
 abbrev pub AreFrames : {A : Type 0} → Content → Aim → Beginnings A → (files : ℕ) → List (Frame A) → Type 0
 AreFrames c a b files [] = ⊤
 AreFrames c a b files (f ∷ fs) = IsFrame c a b f fs × (files ≤ f.files) × AreFrames c a b files fs
 
--- the lists that are heard in the last directory, or before any
+-- the lists that apply in the last directory or, if there is none, before the start
 abbrev pub lists_of : {A : Type 0} → Aim → List (Frame A) → List (ℕ × Ignores)
 lists_of a [] = after 0 a.last
 lists_of a (f ∷ fs) = lists_at a (frame_names f)
 
--- the lists that are heard in a directory once so many of its files were read
+-- the lists that apply in a directory after this many of its ignore files were read
 abbrev pub lists_up_to : (known : Text → Option Text) → Aim → (files : List Text) → (names : Key) → ℕ → List (ℕ × Ignores)
 lists_up_to known a files names n = lists_above a names ++ after (above_of names) (rules_from known (take n files) names)
 
--- what is entered next is below the last directory
+-- the directory that is entered next is in the last one on the way
 pub record IsOpening {A : Type 0} (c : Content) (b : Beginnings A) (fs : List (Frame A)) (o : Opening A) : Type 0 where
   pub directory : IsDirectory c b (string_bytes o.path) o.alive.items
   pub below : IsBelow (opening_names o) fs
 
--- what does not change
+-- what stays the same during a search
 pub record IsFor {A : Type 0} (a : Aim) (s : Searcher A) : Type 0 where
   pub beginnings : AreBeginnings a.options a.patterns s.beginnings
   pub depth : a.depth ≡ s.depth
   pub wanted : (kind : Kind) → a.is_wanted kind ≡ wants s.wanted (is_dir kind)
   pub first : heard_of s.heard.first.items ≡ after 0 a.first
 
--- all files with rules of the directories on the way were read, and what is entered next is below
+-- All ignore files of the directories on the way were read, and the directory that is entered next is below them.
 pub record IsReady {A : Type 0} (c : Content) (a : Aim) (s : Searcher A) : Type 0 where
   pub for : IsFor a s
   pub frames : AreFrames c a s.beginnings (length (file_names s)) (reverse s.way.frames.items)
   pub opening : ForSome s.way.entering (IsOpening c s.beginnings (reverse s.way.frames.items))
   pub heard : heard_of s.heard.files.items ≡ lists_of a (reverse s.way.frames.items)
 
--- So many files with rules of the last directory were read.
+-- So far this many ignore files of the last directory were read.
 pub record IsReading {A : Type 0} (c : Content) (a : Aim) (known : Text → Option Text) (s : Searcher A) (n : ℕ) : Type 0 where
   pub for : IsFor a s
   pub free : s.way.entering ≡ None
@@ -105,31 +105,31 @@ pub record IsReading {A : Type 0} (c : Content) (a : Aim) (known : Text → Opti
   pub heard : heard_of s.heard.files.items ≡ lists_up_to known a (file_names s) (frame_names last) n
   pub whole : last.source ≢ LookedUp → names_of (entries_of last.entries.items) ≡ names_down c (frame_names last)
 
--- the answers are those of a content and of known texts, by which the aim has its rules
+-- a known content and known texts give the answers, and the rules of the search are those of the texts
 pub record AreAnswers (tells : Option Content) (texts : Option (Text → Option Text)) (files : List Text) (c : Content) (a : Aim)
     (known : Text → Option Text) : Type 0 where
   pub told : IsTold tells c
   pub same : texts ≡ Some known
   pub fit : AreTextsOf c a files known
 
--- between two turns
+-- what holds between two turns
 pub data IsSound {A : Type 0} (c : Content) (a : Aim) (known : Text → Option Text) (s : Searcher A) : Type 0 where
   Ready : IsReady c a s → IsSound c a known s
   Reading : (n : ℕ) → (r : IsReading c a known s n) → r.last.files ≡ n → IsSound c a known s
 
--- The entry is in the last directory.
+-- The entry is one of the last directory.
 abbrev pub IsMet : {A : Type 0} → Content → List (Frame A) → Entry A → Type 0
 IsMet c [] e = ⊥
 IsMet c (f ∷ fs) e = IsEntry c (frame_names f) f.source e
 
--- a directory was left: the lists that are heard above it are these
+-- a directory was left, and these are the lists that apply above it
 pub record IsLeft {A : Type 0} (c : Content) (a : Aim) (s : Searcher A) (n : ℕ) : Type 0 where
   pub for : IsFor a s
   pub free : s.way.entering ≡ None
   pub frames : AreFrames c a s.beginnings (length (file_names s)) (reverse s.way.frames.items)
   pub heard : take n (heard_of s.heard.files.items) ≡ lists_of a (reverse s.way.frames.items)
 
--- what is true once the next work was taken from the way
+-- what holds when the next work has been taken from the way
 abbrev pub HasWork : {A : Type 0} → Content → Aim → (known : Text → Option Text) → Searcher A → Work A → Type 0
 HasWork c a known s (Enter o) =
     IsReady c a s × (s.way.entering ≡ None) × IsOpening c s.beginnings (reverse s.way.frames.items) o
@@ -142,7 +142,7 @@ abbrev pub met_in : {A : Type 0} → Content → Aim → List (Frame A) → Text
 met_in c a [] n = []
 met_in c a (f ∷ fs) n = met c a (frame_names f) n
 
--- what comes of the work
+-- the gifts of this work
 abbrev pub work_left : {A : Type 0} → Content → Aim → Searcher A → Work A → List Gift
 work_left c a s (Enter o) = opening_left c a (Some o)
 work_left c a s (Read n) = []
@@ -157,18 +157,18 @@ pub record GivesShut {A : Type 0} (c : Content) (a : Aim) (before : List Gift) (
   pub ready : IsReady c a s
   pub rest : before ≡ Unread names kind ∷ search_left c a s
 
--- what was left before is left
+-- The gifts that were left are still left.
 pub record Keeps {A : Type 0} (c : Content) (a : Aim) (known : Text → Option Text) (before : List Gift) (s : Searcher A) : Type 0 where
   pub sound : IsSound c a known s
   pub rest : before ≡ search_left c a s
 
--- Lines of a file with rules are refused, and what was left before is left.
+-- Lines of an ignore file are refused, and the gifts that were left are still left.
 pub record GivesRefusals {A : Type 0} (c : Content) (a : Aim) (known : Text → Option Text) (before : List Gift) (path : Text)
     (refusals : List RuleRefusal) (s : Searcher A) : Type 0 where
   pub refused : AreRefused known (file_names s) path refusals
   pub keeps : Keeps c a known before s
 
--- what a fault says of what was left before
+-- what a fault means for the gifts that were left
 abbrev pub FaultGives : {A : Type 0} → Content → Aim → (known : Text → Option Text) → (before : List Gift) → SearchFault A
     → Searcher A → Type 0
 FaultGives c a known before (fault.Unread path e) s = GivesShut c a before (string_bytes path) (error_kind e) s
@@ -186,26 +186,26 @@ pub record GivesPath {A : Type 0} (c : Content) (a : Aim) (before : List Gift) (
   pub ready : IsReady c a s
   pub rest : before ≡ Found names ∷ search_left c a s
 
--- what a turn makes of what was left before
+-- what a turn does to the gifts that were left
 abbrev pub Turns : {A : Type 0} → Content → Aim → (known : Text → Option Text) → (before : List Gift)
     → Result (Option (FoundPath A)) (SearchFault A) → Searcher A → Type 0
 Turns c a known before (Ok None) s = Keeps c a known before s
 Turns c a known before (Ok (Some found)) s = GivesPath c a before found s
 Turns c a known before (Err f) s = FaultGives c a known before f s
 
--- the same of a turn that gives no path
+-- the same for a turn that gives no path
 abbrev pub GoesOn : {A B : Type 0} → Content → Aim → (known : Text → Option Text) → (before : List Gift)
     → Result B (SearchFault A) → Searcher A → Type 0
 GoesOn c a known before (Ok done) s = Keeps c a known before s
 GoesOn c a known before (Err f) s = FaultGives c a known before f s
 
--- What is in a directory was found out: what comes of these entries is what comes of it.
+-- The entries of a directory are known: what they give is what the directory gives.
 pub record AreEntries {A : Type 0} (c : Content) (a : Aim) (names : Key) (source : Source) (entries : List (Entry A)) : Type 0 where
   pub each : All (IsEntry c names source) entries
   pub whole : source ≢ LookedUp → names_of (entries_of entries) ≡ names_down c names
   pub gives : entries_left c a names entries ≡ visited c a names
 
--- or it cannot be listed, and that is what comes of it
+-- or the directory cannot be listed, and that is what it gives
 abbrev pub EntriesGive : {A : Type 0} → Content → Aim → (names : Key) → Source → (path : Text)
     → Result (Vec (Entry A) A) (SearchFault A) → Type 0
 EntriesGive c a names source path (Ok entries) = AreEntries c a names source entries.items
@@ -216,18 +216,18 @@ EntriesGive c a names source path (Err (fault.RefusedRules text refusals)) = ⊥
 EntriesGive c a names source path (Err fault.Limit) = ⊤
 EntriesGive c a names source path (Err fault.Memory) = ⊤
 
--- names are looked up where the directory need not be listed
+-- names are looked up if the directory need not be listed
 abbrev pub FitsSource : Aim → (names : Key) → Source → Type 0
 FitsSource a names LookedUp = is_listed a names ≡ false
 FitsSource a names Listed = is_listed a names ≡ true
 FitsSource a names Named = is_listed a names ≡ true
 
--- no kind of an entry matters
+-- the kinds of entries do not matter
 pub record IsKindless {A : Type 0} (s : Searcher A) : Type 0 where
   pub all : s.wanted ≡ Everything
   pub none : (a : Aim) (directory : Key) (n : Text) (d : Bool) → Hears a directory s.heard → is_ignored a (directory ++ n ∷ []) d ≡ false
 
--- a directory was put on the way
+-- the directory became the last one on the way
 pub record StepsInto {A : Type 0} (o : Opening A) (source : Source) (entries : Vec (Entry A) A) (old new : Searcher A) : Type 0 where
   pub last : Frame A
   pub frames : new.way.frames.items ≡ old.way.frames.items ++ last ∷ []
@@ -241,6 +241,6 @@ pub record StepsInto {A : Type 0} (o : Opening A) (source : Source) (entries : V
     heard = vec_len old.heard.files;
   }
 
--- the path that is found, if a test says so
+-- the path that is found, if the test says so
 abbrev pub found_if : {A : Type 0} → Bool → String A → Option Bool → Option (FoundPath A)
 found_if test path d = if test then Some (record { path = path; is_dir = d }) else None

@@ -1,11 +1,11 @@
--- What faults say.
+-- Which faults end a search.
 use Rattle.std.specs.Prelude.{ℕ, ◌<◌, Bool, true, false, List, string_bytes, ⊤}
 use Rattle.glob_text.specs.Text.{Text}
 use Rattle.glob_search.specs.States.{IsRuleFile}
 use Rattle.glob_search.specs.declared.fault.SearchFault.{SearchFault}
 use Rattle.glob_search.specs.declared.fault.SearchFault.TheVariants as fault
 
--- the search has ended with the fault
+-- the fault ends the search
 abbrev pub is_last : {A : Type 0} → SearchFault A → Bool
 is_last (fault.Unread path e) = false
 is_last (fault.UnreadRules path e) = false

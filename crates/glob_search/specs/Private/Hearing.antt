@@ -1,4 +1,4 @@
--- The rules that a search hears.
+-- The ignore rules that apply in a directory.
 use Rattle.std.specs.Prelude.{◌≡◌, ℕ, ◌+◌, Bool, List, [], ◌∷◌, ◌++◌, length, map, drop, fold, Option, None}
 use Rattle.std.specs.List.{join_with_byte}
 use Rattle.std.specs.Option.{option_or}
@@ -10,44 +10,44 @@ use Rattle.glob_search.specs.Searching.{Aim, said}
 use Rattle.glob_search.specs.declared.heard.FileRules.{FileRules}
 use Rattle.glob_search.specs.declared.heard.Heard.{Heard}
 
--- each list, and how many bytes of a path it does not see
+-- each list, with the number of bytes that are cut off a path for it
 abbrev pub heard_of : {A : Type 0} → List (FileRules A) → List (ℕ × Ignores)
 heard_of files = map (λ f. (f.above, f.list)) files
 
--- lists that see a path after so many bytes
+-- lists for paths with this many bytes cut off
 abbrev pub after : (above : ℕ) → List Ignores → List (ℕ × Ignores)
 after above lists = map (λ l. (above, l)) lists
 
--- the bytes of a path in the directory that are the directory's, and the separator after it
+-- how many bytes of a path belong to the directory and the separator after it
 abbrev pub above_of : (directory : Key) → ℕ
 above_of [] = 0
 above_of (n ∷ ns) = length (join_with_byte slash (n ∷ ns)) + 1
 
--- the lists of the directory's own files
+-- the lists of a directory's own files
 abbrev pub lists_in : Aim → (directory : Key) → List (ℕ × Ignores)
 lists_in a directory = after (above_of directory) (a.rules_in directory)
 
--- These lists, and those of each directory on the way from one down by the names, without the last one's. The deeper
--- ones come later.
+-- These lists, and then those of each directory on the way from one down the names, except for the last. Deeper ones
+-- come later.
 abbrev pub lists_down : List (ℕ × Ignores) → Aim → (directory names : Key) → List (ℕ × Ignores)
 lists_down lists a directory [] = lists
 lists_down lists a directory (n ∷ ns) =
     lists_down (lists ++ lists_in a directory) a (directory ++ n ∷ []) ns
 
--- what is heard in a directory, beside the first rules, before its own files are read
+-- the lists that apply in a directory before its own files are read, apart from `first`
 abbrev pub lists_above : Aim → (directory : Key) → List (ℕ × Ignores)
 lists_above a directory = lists_down (after 0 a.last) a [] directory
 
--- and after that
+-- the same after its own files are read
 abbrev pub lists_at : Aim → (directory : Key) → List (ℕ × Ignores)
 lists_at a directory = lists_above a directory ++ lists_in a directory
 
--- what the last of some lists that says something of a path says
+-- what the last list with a rule for the path says: whether it is ignored
 abbrev pub heard_said : List (ℕ × Ignores) → (path : Text) → (is_directory : Bool) → Option Bool
 heard_said lists path d =
     fold (λ before l. option_or (said l.1 (drop l.0 path) d) before) None lists
 
--- this is all that is heard in a directory
+-- these are exactly the lists that apply in the directory
 pub record Hears {A : Type 0} (a : Aim) (directory : Key) (h : Heard A) : Type 0 where
   pub first : heard_of h.first.items ≡ after 0 a.first
   pub files : heard_of h.files.items ≡ lists_at a directory

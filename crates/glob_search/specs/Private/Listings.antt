@@ -1,4 +1,4 @@
--- What a search knows of a directory, and how it comes by it.
+-- How a search learns the entries of a directory.
 use Rattle.std.specs.Prelude.{◌≡◌, List, [], ◌∷◌, ◌++◌, reverse, filter_map, Contains, Option, None, Some, option_map}
 use Rattle.std.specs.Prelude.{Bool, Result, Ok, Err, Vec, string_bytes, ⊤}
 use Rattle.std.specs.Cmp.Lexicographic.{slice_cmp}
@@ -26,38 +26,38 @@ known_kind LookedUp e = Some e.is_dir
 known_kind Listed e = Some e.is_dir
 known_kind Named e = None
 
--- the entry is in the directory of these names, and of the kind that is known
+-- the entry is in the directory of these names, and has its kind, if that is known
 pub record IsEntry {A : Type 0} (c : Content) (names : Key) (source : Source) (e : Entry A) : Type 0 where
   pub kind : Kind
   pub held : kind_at c (c.current ++ (names ++ e.name ∷ [])) ≡ Some kind
   pub known : ForSome (known_kind source e) (λ d. d ≡ is_dir kind)
 
--- all names of a directory, descending
+-- the names in a directory, descending
 abbrev pub names_down : Content → (names : Key) → List Text
 names_down c names = reverse (names_of (sorted_entries (children c (c.current ++ names))))
 
--- what is at a name of a directory, as an entry
+-- the entry with this name in a directory, if there is one
 abbrev pub looked : Content → (names : Key) → Text → Option DirEntry
 looked c names n = option_map (λ kind. (n, is_dir kind)) (kind_at c (c.current ++ (names ++ n ∷ [])))
 
--- the names by which something goes on were looked up, and these are there, descending
+-- the names by which something goes on were looked up, and these entries exist, descending
 pub record AreLookedUp (c : Content) (a : Aim) (names : Key) (entries : List DirEntry) : Type 0 where
   pub texts : List Text
   pub all : AreNames texts (alive a names)
   pub seen : entries ≡ filter_map (looked c names) (reverse texts)
 
--- these entries may be returned, with their kinds or without
+-- a listing may return these entries, with or without their kinds
 abbrev pub IsSourceAnswer : Source → ListAnswer → List DirEntry → Type 0
 IsSourceAnswer Named said answer = IsNamesAnswer said answer
 IsSourceAnswer other said answer = IsListAnswer said answer
 
--- all that is in a directory that can be listed, descending
+-- the entries of a directory that can be listed, descending
 pub record AreListed {A : Type 0} (c : Content) (names : Key) (source : Source) (entries : List (Entry A)) : Type 0 where
   pub kind : kind_at c (c.current ++ names) ≡ Some Dir
   pub order : names_of (entries_of entries) ≡ names_down c names
   pub each : All (IsEntry c names source) entries
 
--- The directory at a path was listed: all that is in it, or the fault of one that cannot be listed.
+-- The directory was listed: with all its entries, or with the fault if it cannot be listed.
 abbrev pub IsListed : {A : Type 0} → Content → (names : Key) → Source → (path : Text)
     → Result (Vec (Entry A) A) (SearchFault A) → Type 0
 IsListed c names source path (Ok entries) = AreListed c names source entries.items
@@ -68,7 +68,7 @@ IsListed c names source path (Err (fault.RefusedRules text refusals)) = ⊥
 IsListed c names source path (Err fault.Limit) = ⊤
 IsListed c names source path (Err fault.Memory) = ⊤
 
--- each name is less than those before it, so that each comes once
+-- each name is less than those before it, so each comes once
 abbrev pub AreFalling : {A : Type 0} → List (Entry A) → Type 0
 AreFalling [] = ⊤
 AreFalling {A} (e ∷ es) =

@@ -1,4 +1,4 @@
--- How the tree of beginnings grows by the components of a pattern.
+-- How a pattern is added to the tree of beginnings.
 use Rattle.std.specs.Prelude.{◌≡◌, ◌≢◌, ℕ, ◌<◌, ◌≤◌, ◌⊎◌, Bool, true, false, ◌&&◌, if◌then◌else◌, List, [], ◌∷◌, ◌++◌}
 use Rattle.std.specs.Prelude.{fold, length, map, slice_get, slice_index_or, string_bytes, Option, Some, None, Contains}
 use Rattle.std.specs.Prelude.{⊤}
@@ -30,17 +30,17 @@ is_deep_component (component.Literal text) = false
 is_deep_component (component.Wild pattern) = false
 is_deep_component component.Deep = true
 
--- the component has its kind
+-- the component is of this kind
 abbrev pub FitsKind : {A : Type 0} → MatchOptions → Component A → Type 0
 FitsKind o (component.Literal text) = IsKey o (string_bytes text)
 FitsKind o (component.Wild pattern) = (list_any is_wildcard pattern ≡ true) × (is_recursive pattern ≡ false)
 FitsKind o component.Deep = ⊤
 
--- and is that of a text
+-- the component has this text
 abbrev pub IsComponentOf : {A : Type 0} → MatchOptions → (text : Text) → Component A → Type 0
 IsComponentOf o text c = FitsKind o c × (component_text c ≡ key_of o text)
 
--- where it leads from a node, or that it leads nowhere
+-- where the component leads from the node, if anywhere
 abbrev pub Led : {A : Type 0} → Node A → Component A → Option ℕ → Type 0
 Led {A} node (component.Literal text) None = (l : Literal A) → Contains node.literals.items l → string_bytes l.text ≢ string_bytes text
 Led {A} node (component.Literal text) (Some c) =
@@ -50,12 +50,12 @@ Led {A} node (component.Wild pattern) (Some c) =
     (w : Wild A) × Contains node.wilds.items w × (w.pattern ≡ pattern) × (w.node ≡ c)
 Led node component.Deep led = node.deep ≡ led
 
--- the place of a text among those that ascend
+-- the index of a text in an ascending list
 pub record IsGap {A : Type 0} (ls : List (Literal A)) (text : Text) (i : ℕ) : Type 0 where
   pub below : (k : ℕ) (d : Literal A) → k < i → slice_cmp nat_cmp (string_bytes (slice_index_or ls k d).text) text ≡ Less
   pub above : (k : ℕ) (d : Literal A) → i ≤ k → k < length ls → slice_cmp nat_cmp (string_bytes (slice_index_or ls k d).text) text ≡ Greater
 
--- nothing goes on from a node yet
+-- the node leads nowhere yet
 pub record IsFresh {A : Type 0} (is_deep : Bool) (node : Node A) : Type 0 where
   pub literals : node.literals.items ≡ []
   pub wilds : node.wilds.items ≡ []
@@ -63,14 +63,14 @@ pub record IsFresh {A : Type 0} (is_deep : Bool) (node : Node A) : Type 0 where
   pub ends : node.is_deep ≡ is_deep
   pub whole : node.is_whole ≡ false
 
--- a node leads to a number more
+-- the node leads to one more number
 pub record LeadsMore {A : Type 0} (o : MatchOptions) (front : ℕ → List Text) (k c : ℕ) (old new : Node A) : Type 0 where
   pub node : IsNode o front k new
   pub leads : LeadsTo new c
   pub kept : (d : ℕ) → LeadsTo old d → LeadsTo new d
   pub whole : new.is_whole ≡ old.is_whole
 
--- The tree grew by beginnings of a path, none of them whole.
+-- Beginnings of a path were added to the tree, and none of them is whole.
 pub record Grown {A : Type 0} (o : MatchOptions) (old new : List (Node A)) (front front' : ℕ → List Text) (path : List Text) : Type 0 where
   pub tree : IsTree o new front'
   pub longer : length old ≤ length new
@@ -81,7 +81,7 @@ pub record Grown {A : Type 0} (o : MatchOptions) (old new : List (Node A)) (fron
       → (after : Node A) × (slice_get new k ≡ Some after) × (after.is_whole ≡ true)
   pub begun : (k : ℕ) → k < length new → (k < length old) ⊎ ((rest : List Text) × (path ≡ front' k ++ rest))
 
--- and the path leads to a number
+-- the same, and the path leads to this number
 pub record GrownTo {A : Type 0} (o : MatchOptions) (old new : List (Node A)) (front : ℕ → List Text) (path : List Text)
     (c : ℕ) : Type 0 where
   pub front' : ℕ → List Text
@@ -89,7 +89,7 @@ pub record GrownTo {A : Type 0} (o : MatchOptions) (old new : List (Node A)) (fr
   pub there : c < length new
   pub is : front' c ≡ path
 
--- a component more, where `**` after `**` changes nothing
+-- one component more; a second `**` changes nothing
 abbrev pub pushed : (front : List Text) → (component : Text) → List Text
 pushed front t = if ends_recursive front && is_recursive t then front else front ++ t ∷ []
 
@@ -97,17 +97,17 @@ pushed front t = if ends_recursive front && is_recursive t then front else front
 abbrev pub walked : (components : List Text) → List Text
 walked ts = fold pushed [] ts
 
--- after `**` a name more
+-- one name more after `**`
 abbrev pub finished : (front : List Text) → List Text
 finished front = if ends_recursive front then front ++ (star ∷ []) ∷ [] else front
 
--- a node was marked as whole
+-- the node was marked as a whole pattern
 pub record IsMarked {A : Type 0} (old new : List (Node A)) (at : ℕ) : Type 0 where
   pub long : length new ≡ length old
   pub here : (node : Node A) → slice_get new at ≡ Some node → node.is_whole ≡ true
   pub others : (k : ℕ) → k ≢ at → slice_get new k ≡ slice_get old k
 
--- a pattern was added, and nothing else
+-- the pattern was added, and nothing else
 pub record Added {A : Type 0} (o : MatchOptions) (old new : List (Node A)) (front : ℕ → List Text) (pattern : Text) : Type 0 where
   pub front' : ℕ → List Text
   pub tree : IsTree o new front'

@@ -1,4 +1,4 @@
--- Where a search is over any tree: all that is left comes after it.
+-- How far a search over any tree has come: everything that is left comes later.
 use Rattle.std.specs.Prelude.{◌≡◌, ◌⊎◌, false, List, [], ◌∷◌, ◌++◌, Contains, reverse, Option, None, Some, Result, Ok, Err, string_bytes, ⊤}
 use Rattle.std.specs.Cmp.Lexicographic.{slice_cmp}
 use Rattle.std.specs.Ordering.{nat_cmp}
@@ -19,11 +19,11 @@ use Rattle.glob_search.specs.declared.way.Way.{Way}
 use Rattle.glob_search.specs.declared.way.Work.{Work}
 use Rattle.glob_search.specs.declared.way.Work.TheVariants.{Enter, Read, Meet, Leave}
 
--- the names are those of the other key, or before it
+-- the names are the same as the other ones, or come before them
 abbrev pub IsUpTo : (past at : Key) → Type 0
 IsUpTo past at = (past ≡ at) ⊎ (key_cmp past at ≡ Less)
 
--- the directory of these names, whose entries that are left fall
+-- the frame is of the directory with these names, and the entries left in it descend
 pub record IsOf {A : Type 0} (names : Key) (f : Frame A) : Type 0 where
   pub path : string_bytes f.path ≡ path_down names
   pub falls : AreFalling f.entries.items
@@ -32,21 +32,21 @@ pub record IsOf {A : Type 0} (names : Key) (f : Frame A) : Type 0 where
 abbrev pub AreAfter : {A : Type 0} → Text → List (Entry A) → Type 0
 AreAfter {A} n entries = (e : Entry A) → Contains entries e → slice_cmp nat_cmp n e.name ≡ Less
 
--- The names are one below the last directory, of which greater names are left, and so on up.
+-- The names are one below those of the last directory, where only greater names are left; and so on upwards.
 abbrev pub IsNested : {A : Type 0} → (names : Key) → List (Frame A) → Type 0
 IsNested names [] = ⊤
 IsNested names (f ∷ fs) =
     (directory : Key) × (n : Text) × (names ≡ directory ++ n ∷ []) × IsOf directory f × AreAfter n f.entries.items
     × IsNested directory fs
 
--- what is left in the last directory comes after the names, and so on up
+-- what is left in the last directory comes after the names; and so on upwards
 abbrev pub IsAhead : {A : Type 0} → (names : Key) → List (Frame A) → Type 0
 IsAhead names [] = ⊤
 IsAhead {A} names (f ∷ fs) =
     (directory : Key) × (rest : Key) × (names ≡ directory ++ rest) × IsOf directory f
     × ((e : Entry A) → Contains f.entries.items e → key_cmp rest (e.name ∷ []) ≡ Less) × IsNested directory fs
 
--- all that is left comes after these names, with what is entered next and the directories from the last on
+-- Everything that is left comes after these names: what is entered next, and then the directories, the last one first.
 abbrev pub IsPastAll : {A : Type 0} → (past : Key) → Option (Opening A) → List (Frame A) → Type 0
 IsPastAll past None fs = (names : Key) × IsUpTo past names × IsAhead names fs
 IsPastAll past (Some o) fs =
@@ -58,34 +58,34 @@ IsPastWay past w = IsPastAll past w.entering (reverse w.frames.items)
 abbrev pub IsPastSearch : {A : Type 0} → (past : Key) → Searcher A → Type 0
 IsPastSearch past s = IsPastWay past s.way
 
--- the entry of the last directory, and all that is left, come after these names
+-- the entry of the last directory, and everything that is left, comes after these names
 abbrev pub IsPastEntry : {A : Type 0} → (past : Key) → Entry A → List (Frame A) → Type 0
 IsPastEntry past e [] = ⊥
 IsPastEntry past e (f ∷ fs) =
     (directory : Key) × IsOf directory f × AreAfter e.name f.entries.items
     × (key_cmp past (directory ++ e.name ∷ []) ≡ Less) × IsNested directory fs
 
--- what is true once the next work was taken from the way
+-- what holds when the next work has been taken from the way
 abbrev pub IsPastWork : {A : Type 0} → (past : Key) → Work A → Way A → Type 0
 IsPastWork past (Enter o) w = (w.entering ≡ None) × IsPastAll past (Some o) (reverse w.frames.items)
 IsPastWork past (Read n) w = IsPastWay past w
 IsPastWork past (Meet e) w = (w.entering ≡ None) × IsPastEntry past e (reverse w.frames.items)
 IsPastWork past (Leave n) w = IsPastWay past w
 
--- The path that is found is that of later names.
+-- The found path has later names.
 pub record FindsLater {A : Type 0} (past : Key) (found : FoundPath A) (w : Way A) : Type 0 where
   pub names : Key
   pub path : string_bytes found.path ≡ path_down names
   pub later : key_cmp past names ≡ Less
   pub goes : IsPastWay names w
 
--- what a turn makes of it, unless it ends the search
+-- what a turn does to that, unless it ends the search
 abbrev pub TurnsLater : {A : Type 0} → (past : Key) → Result (Option (FoundPath A)) (SearchFault A) → Way A → Type 0
 TurnsLater past (Ok None) w = IsPastWay past w
 TurnsLater past (Ok (Some found)) w = FindsLater past found w
 TurnsLater past (Err f) w = is_last f ≡ false → IsPastWay past w
 
--- the same of a turn that gives no path
+-- the same for a turn that gives no path
 abbrev pub StaysPast : {A B : Type 0} → (past : Key) → Result B (SearchFault A) → Way A → Type 0
 StaysPast past (Ok done) w = IsPastWay past w
 StaysPast past (Err f) w = is_last f ≡ false → IsPastWay past w

@@ -1,4 +1,4 @@
--- What a step does to the way, whatever the content.
+-- What a step changes in the way of a search, over any content.
 use Rattle.std.specs.Prelude.{◌≡◌, ◌≢◌, ℕ, suc, ◌<◌, ◌≤◌, Bool, true, false, List, [], ◌∷◌, ◌++◌, IsTrue, length}
 use Rattle.std.specs.Prelude.{slice_index_or, Option, None, Some, string_bytes}
 use Rattle.glob_text.specs.Text.{Text}
@@ -14,24 +14,24 @@ use Rattle.glob_search.specs.declared.way.Way.{Way}
 use Rattle.glob_search.specs.declared.way.Work.{Work}
 use Rattle.glob_search.specs.declared.way.Work.TheVariants.{Enter, Read, Meet, Leave}
 
--- Where the entries are all that is in a directory, nothing in it has the name.
+-- If the entries are all of a directory, none of them has the name.
 pub record IsAbsent {A : Type 0} (f : Frame A) (name : Text) : Type 0 where
   pub known : f.source ≢ LookedUp
   pub absent : (c : Content) (names : Key) → IsTrue (is_content c)
       → names_of (entries_of f.entries.items) ≡ names_down c names → kind_at c (c.current ++ (names ++ name ∷ [])) ≡ None
 
--- files of these names up to a number are passed over
+-- the files with these names up to a number are skipped
 pub record Passes {A : Type 0} (files : List Text) (old new : Frame A) (n : ℕ) : Type 0 where
   pub same : new ≡ record old { files = new.files }
   pub absent : (k : ℕ) → old.files ≤ k → k < n → IsAbsent old (slice_index_or files k [])
 
--- the number of the next file that is read
+-- the number of the next file to read
 abbrev pub NextFile : {A : Type 0} → (files : List Text) → Frame A → Option ℕ → Frame A → Type 0
 NextFile files old None new = Passes files old new (length files) × (length files ≤ new.files)
 NextFile files old (Some n) new =
     Passes files old new n × (old.files ≤ n) × (n < length files) × (new.files ≡ suc n)
 
--- the last directory is another, or as it was but for what was met and read
+-- the last directory is another one, or is the same except for what was visited and read
 pub record LastGoes {A : Type 0} (old new : Way A) (f g : Frame A) : Type 0 where
   pub free : old.entering ≡ None
   pub still : new.entering ≡ None
@@ -64,7 +64,7 @@ pub record LeavesNext {A : Type 0} (files : List Text) (old : Way A) (n : ℕ) (
   pub none : last.entries.items ≡ []
   pub heard : n ≡ last.heard
 
--- what is done next
+-- what comes next
 abbrev pub NextWork : {A : Type 0} → (files : List Text) → Way A → Option (Work A) → Way A → Type 0
 NextWork files old None new = IsDone old
 NextWork files old (Some (Enter o)) new =
@@ -79,7 +79,7 @@ pub record Enters {A : Type 0} (path : Text) (alive : List ℕ) (new : Way A) : 
   pub named : string_bytes opening.path ≡ path
   pub living : opening.alive.items ≡ alive
 
--- A directory is entered next, if a test says so.
+-- A directory is entered next, if the test says so.
 abbrev pub MayEnter : {A : Type 0} → Bool → (path : Text) → (alive : List ℕ) → Way A → Way A → Type 0
 MayEnter true path alive old new = Enters path alive new × (new.frames ≡ old.frames)
 MayEnter false path alive old new = new ≡ old

@@ -1,4 +1,4 @@
--- What bounds the turns of a search.
+-- A measure that each turn of a search lowers, so that the search ends.
 use Rattle.std.specs.Prelude.{◌≡◌, ℕ, ◌+◌, ◌-◌, ◌*◌, ◌<◌, ◌≤◌, false, List, [], ◌∷◌, Option, Some, None, Result, Ok, Err, vec_len, sum_by}
 use Rattle.glob_search.specs.Private.Faults.{is_last}
 use Rattle.glob_search.specs.declared.fault.SearchFault.{SearchFault}
@@ -19,7 +19,7 @@ opening_weight (Some o) = 1
 abbrev pub way_weight : {A : Type 0} → Way A → ℕ
 way_weight w = opening_weight w.entering + sum_by frame_weight w.frames.items
 
--- what is left of the limit, and of the way
+-- what is left of the limit, together with what is left of the way
 abbrev pub weight : {A : Type 0} → Meter → Way A → ℕ
 weight m w = 3 * (m.limit - m.spent) + way_weight w
 

@@ -1,4 +1,4 @@
-//! How the tree of beginnings grows by a pattern.
+//! Adds patterns to the tree of beginnings.
 ghost use Rattle.std.specs.Prelude.{◌≡◌, ◌<◌, vec_len, IfErr, IfOk, false, map, [], ◌∷◌, ◌++◌};
 ghost use Rattle.std.specs.List.{All, list_any};
 ghost use Rattle.glob_pattern.specs.Grammar.Characters.{is_wildcard};
@@ -40,7 +40,7 @@ impl<A: Allocator + Copy> Beginnings<A> {
         Ok(())
     }
 
-    /// Adds the beginnings to which the components of a pattern lead. The last of them is returned.
+    /// Adds the beginnings that the components of a pattern lead to, one after another, and returns the last.
     fn walk(&mut self, pattern: &str) -> Result<usize, PatternRefusal>
         ensures options { self.new.options ≡ self.old.options }
         ensures within { IfOk result (λ node. node < vec_len self.new.nodes) }
@@ -59,7 +59,7 @@ impl<A: Allocator + Copy> Beginnings<A> {
         Ok(at)
     }
 
-    /// The beginning that is a whole pattern, where the last component leads to this one: after `**` a name more.
+    /// The beginning that is the whole pattern, given that of its last component: after `**`, one name further.
     fn end_of(&mut self, at: usize) -> Result<usize, PatternRefusal>
         requires { at < vec_len self.old.nodes }
         ensures options { self.new.options ≡ self.old.options }
@@ -76,7 +76,7 @@ impl<A: Allocator + Copy> Beginnings<A> {
         Ok(at)
     }
 
-    /// Notes that a beginning is a whole pattern.
+    /// Marks a beginning as a whole pattern.
     fn mark_whole(&mut self, at: usize)
         requires { at < vec_len self.old.nodes }
         ensures options { self.new.options ≡ self.old.options }
@@ -87,7 +87,7 @@ impl<A: Allocator + Copy> Beginnings<A> {
         self.nodes[at].mark_whole();
     }
 
-    /// The beginning that goes on by a component. Where one ends in `**`, a further `**` leads to itself.
+    /// The beginning that a component leads to, added if it is missing. After `**`, another `**` leads to the same one.
     fn child(&mut self, at: usize, component: &str) -> Result<usize, PatternRefusal>
         requires { at < vec_len self.old.nodes }
         ensures options { self.new.options ≡ self.old.options }
@@ -124,7 +124,7 @@ impl<A: Allocator + Copy> Beginnings<A> {
         Ok(Component::Wild(Pattern::new(self.alloc, text)?))
     }
 
-    /// Adds a beginning that goes on by a component.
+    /// Adds a beginning that a component leads to.
     fn lead(&mut self, at: usize, component: Component<A>) -> Result<usize, AllocError>
         requires { at < vec_len self.old.nodes }
         ensures options { self.new.options ≡ self.old.options }

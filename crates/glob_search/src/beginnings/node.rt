@@ -1,16 +1,16 @@
-//! One beginning of some patterns.
+//! A node of the tree of beginnings.
 ghost use Rattle.std.specs.Prelude.{◌<◌, ℕ, IfSome, vec_len};
 ghost use Rattle.std.specs.List.Sorted.{IsBinarySearchResult, IsSearchInRange};
 
 use glob_pattern::Pattern;
 use std::alloc::{AllocError, Allocator};
 
-/// A component.
+/// A component of a pattern.
 #[derive(Drop)]
 pub enum Component<A: Allocator> {
-    /// A name, in lower case where case does not count.
+    /// A name; in lower case if matching is case-insensitive.
     Literal(String<A>),
-    /// One with wildcards.
+    /// A component with wildcards, other than `**`.
     Wild(Pattern<A>),
     /// `**`.
     Deep,
@@ -28,7 +28,7 @@ impl<A: Allocator> Component<A> {
     }
 }
 
-/// How a beginning goes on by a name.
+/// A literal name, and where it leads.
 #[derive(Drop)]
 pub struct Literal<A: Allocator> {
     pub text: String<A>,
@@ -36,7 +36,7 @@ pub struct Literal<A: Allocator> {
     pub node: usize,
 }
 
-/// How a beginning goes on by a component with wildcards.
+/// A component with wildcards, and where it leads.
 #[derive(Drop)]
 pub struct Wild<A: Allocator> {
     pub pattern: Pattern<A>,
@@ -44,16 +44,16 @@ pub struct Wild<A: Allocator> {
     pub node: usize,
 }
 
-/// A beginning, and how patterns go on from it.
+/// A beginning, and the components by which it leads to others.
 #[derive(Drop)]
 pub struct Node<A: Allocator> {
-    /// By literal components, ascending.
+    /// Literal ones, in ascending order.
     pub literals: Vec<Literal<A>, A>,
-    /// By components with wildcards.
+    /// Those with wildcards, other than `**`.
     pub wilds: Vec<Wild<A>, A>,
-    /// By `**`.
+    /// The number of the beginning that `**` leads to, if there is one.
     pub deep: Option<usize>,
-    /// Whether it ends in `**`, and takes any further name that is open to it.
+    /// Whether it ends in `**`, and so takes any further name that the dot rule allows.
     pub is_deep: bool,
     /// Whether it is a whole pattern.
     pub is_whole: bool,
@@ -72,7 +72,7 @@ impl<A: Allocator + Copy> Node<A> {
     ghost use Rattle.glob_search.specs.Private.Nodes.{AreAscending, IsKey, IsNode, LeadsTo, LiteralLeads, has_only_literals, node_goes_on};
     ghost use Rattle.glob_search.specs.Private.NodeNumbers.{IsWithin};
 
-    /// A beginning from which nothing goes on.
+    /// A beginning that leads to no other yet.
     pub fn new(alloc: A, is_deep: bool) -> Self
         ensures within { (n : ℕ) → IsWithin n result }
         ensures fresh { IsFresh is_deep result }
@@ -86,7 +86,7 @@ impl<A: Allocator + Copy> Node<A> {
         }
     }
 
-    /// Where a component leads, if somewhere.
+    /// The beginning that a component leads to, if there is one.
     pub fn led_to(&self, component: &Component<A>) -> Option<usize>
         ensures within { (n : ℕ) → IsWithin n self.now → IfSome result (λ node. node < n) }
         ensures led { AreAscending self.now.literals.items → Led self.now component.now result }
@@ -98,7 +98,7 @@ impl<A: Allocator + Copy> Node<A> {
         }
     }
 
-    /// Where a name leads.
+    /// The beginning that a name leads to, if there is one.
     pub fn literal_leads(&self, text: &str) -> Option<usize>
         ensures within { (n : ℕ) → IsWithin n self.now → IfSome result (λ node. node < n) }
         ensures led { AreAscending self.now.literals.items → LiteralLeads self.now text.now result }
@@ -109,7 +109,7 @@ impl<A: Allocator + Copy> Node<A> {
         }
     }
 
-    /// Where a component with wildcards leads.
+    /// The beginning that a component with wildcards leads to, if there is one.
     fn wild_leads(&self, text: &str) -> Option<usize>
         ensures within { (n : ℕ) → IsWithin n self.now → IfSome result (λ node. node < n) }
         ensures led { IfSome result (λ node. (w : Wild A) × Contains self.now.wilds.items w
@@ -123,7 +123,7 @@ impl<A: Allocator + Copy> Node<A> {
         None
     }
 
-    /// The place of a literal component, or the one where it belongs.
+    /// The index of a literal component, or the one at which it belongs.
     fn find_literal(&self, text: &str) -> Result<usize, usize>
         ensures within { IsSearchInRange result (vec_len self.now.literals) }
         ensures place { IsBinarySearchResult (λ l. slice_cmp nat_cmp (string_bytes l.text) text.now)
@@ -134,7 +134,7 @@ impl<A: Allocator + Copy> Node<A> {
             .binary_search_by(|literal| literal.text.as_str().cmp(text))
     }
 
-    /// Lets a component lead to a beginning.
+    /// Makes a component lead to a beginning.
     pub fn lead(&mut self, component: Component<A>, node: usize) -> Result<(), AllocError>
         ensures within { (n : ℕ) → node < n → IsWithin n self.old → IsWithin n self.new }
         ensures leads { (o : MatchOptions) (front : ℕ → List Text) (k : ℕ) → IsNode o
@@ -154,7 +154,7 @@ impl<A: Allocator + Copy> Node<A> {
         }
     }
 
-    /// Lets a name lead to a beginning.
+    /// Makes a name lead to a beginning.
     fn lead_literal(&mut self, text: String<A>, node: usize) -> Result<(), AllocError>
         ensures within { (n : ℕ) → node < n → IsWithin n self.old → IsWithin n self.new }
         ensures leads { (o : MatchOptions) (front : ℕ → List Text) (k : ℕ) → IsNode o
@@ -169,7 +169,7 @@ impl<A: Allocator + Copy> Node<A> {
         Ok(())
     }
 
-    /// Where a name belongs among the literals.
+    /// The index at which a name belongs among the literals.
     fn place_of(&self, text: &str) -> usize
         ensures within { result ≤ vec_len self.now.literals }
         ensures gap { AreAscending self.now.literals.items
@@ -183,7 +183,7 @@ impl<A: Allocator + Copy> Node<A> {
         }
     }
 
-    /// Lets a component with wildcards lead to a beginning.
+    /// Makes a component with wildcards lead to a beginning.
     fn lead_wild(&mut self, pattern: Pattern<A>, node: usize) -> Result<(), AllocError>
         ensures within { (n : ℕ) → node < n → IsWithin n self.old → IsWithin n self.new }
         ensures leads { (o : MatchOptions) (front : ℕ → List Text) (k : ℕ) → IsNode o
@@ -196,7 +196,7 @@ impl<A: Allocator + Copy> Node<A> {
         Ok(())
     }
 
-    /// Notes that it is a whole pattern.
+    /// Marks it as a whole pattern.
     pub fn mark_whole(&mut self)
         ensures within { (n : ℕ) → IsWithin n self.old → IsWithin n self.new }
         ensures node { (o : MatchOptions) (front : ℕ → List Text) (k : ℕ) → IsNode o
@@ -208,14 +208,14 @@ impl<A: Allocator + Copy> Node<A> {
         self.is_whole = true;
     }
 
-    /// Whether something goes on from it.
+    /// Whether it can take a further name.
     pub fn goes_on(&self) -> bool
         ensures { result ≡ node_goes_on self.now }
     {
         !self.is_literal() || !self.literals.is_empty()
     }
 
-    /// Whether nothing goes on from it but literal components.
+    /// Whether it leads on by nothing but literal components.
     pub fn is_literal(&self) -> bool
         ensures { result ≡ has_only_literals self.now }
     {

@@ -22,7 +22,7 @@ use glob_tree::{Entry, Tree};
 use std::alloc::Allocator;
 
 impl<A: Allocator + Copy> Searcher<A> {
-    /// Enters a directory.
+    /// Enters a directory: learns its entries, and makes it the last one.
     pub(super) fn enter<T: Tree<Alloc = A>>(
         &mut self,
         tree: &mut T,
@@ -52,7 +52,7 @@ impl<A: Allocator + Copy> Searcher<A> {
         self.step_into(opening, source, entries)
     }
 
-    /// Puts a directory on the way, unless it has no entries.
+    /// Makes a directory the last one, unless it has no entries.
     fn step_into(
         &mut self,
         opening: Opening<A>,
@@ -84,8 +84,8 @@ impl<A: Allocator + Copy> Searcher<A> {
         Ok(())
     }
 
-    /// How what is in a directory is known: names are looked up where only literals go on. It is listed without kinds
-    /// where only entries that literals name may be entered.
+    /// How to learn the entries of a directory. Names are looked up if only literals lead on. Otherwise it is listed,
+    /// without kinds if none are needed and only entries that literals name may be entered.
     fn source_of(&self, opening: &Opening<A>) -> Source
         ensures { (a : Aim) (names : Key) → AreBeginnings a.options a.patterns self.now.beginnings
             → AreAlive self.now.beginnings names opening.now.alive.items
