@@ -18,7 +18,8 @@ from lib import make, reference
 from lib.count import Count, built, has, run
 
 EACH = 20
-OPTIONS = [[], [], ["-i"], ["-d"], ["-i", "-d"], ["-t", "f"], ["-t", "d"], ["--max-depth", "1"], ["--max-depth", "2"]]
+OPTIONS = [[], [], ["-i"], ["-d"], ["-i", "-d"], ["-t", "f"], ["-t", "d"], ["-t", "l"],
+    ["-t", "l", "-t", "f"], ["-t", "d", "-t", "f"], ["--max-depth", "1"], ["--max-depth", "2"]]
 RULES = ["a", "b", "/a", "/b", "a/", "b/", "*", "!*", "!a", "!b", "!a/", "!/a/b", "a/b", "/a/*", "a/**", "**/b", "?", "!?", "[ab]",
     "*b", "!*b", ".*", "!.a", "a*", "e", "!A", "# a", "", "*.b", "\\!a", "a ", "/*/", "!*/"]
 GIT = {"GIT_CONFIG_NOSYSTEM": "1", "GIT_CONFIG_GLOBAL": "/dev/null"}
@@ -52,10 +53,11 @@ def is_kept(path, rules, tree):
     return not any(rule in above and (tree[rule] or not only_directories) for rule, only_directories in rules)
 
 
-def is_wanted(path, is_dir, options):
-    kind = options[1] if options[:1] == ["-t"] else ""
+def is_wanted(path, end, options):
+    """Whether the options ask for a path with this end."""
+    kinds = options[1::2] if options[:1] == ["-t"] else "fdl"
     depth = int(options[1]) if options[:1] == ["--max-depth"] else 99
-    return (kind == "" or (kind == "d") == is_dir) and path.count("/") < depth
+    return {"": "f", "/": "d"}.get(end, "l") in kinds and path.count("/") < depth
 
 
 def matched(paths, patterns, options):
@@ -94,11 +96,12 @@ class Searches:
         """Searches a tree, beside a filter of all its paths. Half of them begin in another directory."""
         source = self.source
         tree = make.grown(source, source.randint(0, 30), make.few_name, 0.7)
-        make.place(top, [path + some_end(source, path, tree) for path in tree])
+        ends = {path: some_end(source, path, tree) for path in tree}
+        make.place(top, [path + end for path, end in ends.items()])
         for _ in range(EACH):
             options, patterns = source.choice(OPTIONS), some_patterns(source)
             rules = [(source.choice([*tree] or ["b"]), source.random() < 0.5) for _ in range(source.randint(0, 3))]
-            kept = [path for path, is_dir in tree.items() if is_kept(path, rules, tree) and is_wanted(path, is_dir, options)]
+            kept = [path for path in tree if is_kept(path, rules, tree) and is_wanted(path, ends[path], options)]
             excluded = [word for rule, only in rules for word in ("-x", f"/{rule}" + "/" * only)]
             start, place = source.choice([([], top), (["-C", top], "/")])
             words = [*start, *excluded, *options, *map(written, patterns)]

@@ -10,6 +10,7 @@ use Rattle.globs.specs.declared.name.Name.{Name}
 use Rattle.globs.specs.declared.name.Name.TheVariants.{Find, Match, Ignore, Explain, Escape}
 use Rattle.globs.specs.declared.options.Kind as kinds
 use Rattle.globs.specs.declared.options.Kind.TheVariants as kind
+use Rattle.globs.specs.declared.options.Kinds.{Kinds}
 use Rattle.globs.specs.declared.options.Valued.{Valued}
 use Rattle.globs.specs.declared.options.Valued.TheVariants.{Limit, Depth, Kind, Rule, File, RuleFile, Directory}
 use Rattle.globs.specs.declared.options.Settings.{Settings}
@@ -24,6 +25,16 @@ is_find Ignore = false
 is_find Explain = false
 is_find Escape = false
 
+-- no kind is asked for, so that each path is written
+abbrev pub no_kinds : Kinds
+no_kinds = record { files = false; directories = false; links = false }
+
+-- the kinds and one more
+abbrev pub with_kind : kinds.Kind → Kinds → Kinds
+with_kind kind.File asked = record asked { files = true }
+with_kind kind.Directory asked = record asked { directories = true }
+with_kind kind.Link asked = record asked { links = true }
+
 -- the defaults: lines, case-sensitive, without the dot rule, any kind, no limit
 abbrev pub new_settings : Name → Settings
 new_settings name = record {
@@ -32,7 +43,7 @@ new_settings name = record {
   inverts = false;
   limit = 2 ^ 64 - 1;
   depth = None;
-  kind = kind.Any;
+  kinds = no_kinds;
   follows = false;
   is_git = false;
 }
@@ -96,17 +107,19 @@ valued_of name word =
 abbrev pub kind_of : Text → Option kinds.Kind
 kind_of word =
     if bytes_eq word (codes "f") then Some kind.File
-    else (if bytes_eq word (codes "d") then Some kind.Directory else None)
+    else (if bytes_eq word (codes "d") then Some kind.Directory
+    else (if bytes_eq word (codes "l") then Some kind.Link else None))
 
 -- the options with one set to its value, or why the word is not a value of it; any word may be a rule, a file or a
--- directory
+-- directory, and a kind comes to those before
 abbrev pub value_taken : Valued → Text → Chosen → Result Chosen Why
 value_taken Limit word o =
     ok_or (option_map (λ n. record o { settings = record o.settings { limit = n } }) (limit_of word)) why.Limit
 value_taken Depth word o =
     ok_or (option_map (λ n. record o { settings = record o.settings { depth = Some n } }) (limit_of word)) why.Depth
 value_taken Kind word o =
-    ok_or (option_map (λ k. record o { settings = record o.settings { kind = k } }) (kind_of word)) why.Kind
+    ok_or (option_map (λ k. record o { settings = record o.settings { kinds = with_kind k o.settings.kinds } }) (kind_of word))
+    why.Kind
 value_taken Rule word o = Ok (record o { rules = o.rules ++ word ∷ [] })
 value_taken File word o = Ok (record o { files = o.files ++ word ∷ [] })
 value_taken RuleFile word o =

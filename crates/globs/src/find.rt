@@ -15,6 +15,7 @@ pub mod below;
 pub mod disk;
 mod fault;
 mod heeding;
+pub mod kinds;
 mod lines;
 mod searching;
 mod strays;
@@ -37,6 +38,7 @@ use glob_search::{RuleTexts, Search};
 use glob_set::SetRefusal;
 use glob_tree::Tree;
 use heeding::Heeded;
+use kinds::{PathKinds, Sieve};
 use searching::run_search;
 use std::alloc::{AllocError, Allocator};
 use std::fmt::{self, Display};
@@ -56,13 +58,16 @@ pub fn find_asked<T, X, F, W, E>(
 where
     T: Tree,
     X: RuleTexts<Alloc = T::Alloc>,
-    F: IgnoreFiles,
+    F: IgnoreFiles + PathKinds,
     W: Write,
     E: Write,
     ensures most { result ≤ 2 }
-    ensures found { FindsUnignored W.contents (T.tells (if asked.now.options.settings.follows
-        then disks.entry.followed else disks.entry.kept)) (X.texts disks.entry.texts)
-        (F.holds files.now) asked.now.options (map (λ w. w.now) asked.now.operands.now)
+    ensures found { let o = asked.now.options in FindsUnignored W.contents (record {
+      content = T.tells
+          (if o.settings.follows then disks.entry.followed else disks.entry.kept);
+      texts = X.texts disks.entry.texts;
+      kinds = F.kinds files.now o.settings.follows o.directory;
+    }) (F.holds files.now) o (map (λ w. w.now) asked.now.operands.now)
         output.old output.new result }
 {
     let options = &asked.options;
@@ -83,6 +88,7 @@ where
                 alloc,
                 tree,
                 texts,
+                files,
                 list,
                 options,
                 asked.operands,
@@ -98,10 +104,11 @@ where
 /// is a fault, before anything is looked up or written. If a single pattern finds nothing and contains another tool's
 /// syntax, a line says what that means here.
 #[tactic(auto, unfolding(crate::specs::Find::Outcomes::Finds))]
-fn find_words<T, X, W, E>(
+fn find_words<T, X, F, W, E>(
     alloc: T::Alloc,
     tree: T,
     texts: X,
+    files: &F,
     list: IgnoreList<T::Alloc>,
     options: &Options<'_, T::Alloc>,
     words: &[&str],
@@ -111,11 +118,15 @@ fn find_words<T, X, W, E>(
 where
     T: Tree,
     X: RuleTexts<Alloc = T::Alloc>,
+    F: PathKinds,
     W: Write,
     E: Write,
     ensures most { result ≤ 2 }
-    ensures found { Finds W.contents (T.tells tree) (X.texts texts) options.now list
-        (map (λ w. w.now) words.now) output.old output.new result }
+    ensures found { let o = options.now in Finds W.contents (record {
+      content = T.tells tree;
+      texts = X.texts texts;
+      kinds = F.kinds files.now o.settings.follows o.directory;
+    }) o list (map (λ w. w.now) words.now) output.old output.new result }
 {
     let expanded = match expand_words(alloc, Name::Find, words, errors) {
         Ok(expanded) => expanded,
@@ -128,6 +139,7 @@ where
         alloc,
         tree,
         texts,
+        files,
         list,
         options,
         patterns.as_slice(),
@@ -142,10 +154,11 @@ where
 
 /// Searches the tree, unless the directory where the search is to begin is none, or a pattern is refused. Each is a
 /// fault, before anything is written.
-fn find_below<T, X, W, E>(
+fn find_below<T, X, F, W, E>(
     alloc: T::Alloc,
     tree: T,
     texts: X,
+    files: &F,
     list: IgnoreList<T::Alloc>,
     options: &Options<'_, T::Alloc>,
     patterns: &[&str],
@@ -155,14 +168,19 @@ fn find_below<T, X, W, E>(
 where
     T: Tree,
     X: RuleTexts<Alloc = T::Alloc>,
+    F: PathKinds,
     W: Write,
     E: Write,
     ensures most { result ≤ 2 }
     ensures accepted { result ≢ 2 → AreAccepted (map (λ p. p.now) patterns.now) }
     ensures below { result ≢ 2 → are_below (map (λ p. p.now) patterns.now) ≡ true }
     ensures found { IsRefused output.old output.new result
-        ⊎ FindsPaths (T.tells tree) (X.texts texts) options.now list (map (λ p. p.now) patterns.now)
-        (W.contents output.old) (W.contents output.new) result }
+        ⊎ (let o = options.now in FindsPaths (record {
+          content = T.tells tree;
+          texts = X.texts texts;
+          kinds = F.kinds files.now o.settings.follows o.directory;
+        }) o list (map (λ p. p.now) patterns.now)
+        (W.contents output.old) (W.contents output.new) result) }
 {
     if let Err(fault) = check_patterns(alloc, patterns) {
         return errors.fault(FaultLines {
@@ -172,7 +190,9 @@ where
     }
     let mut tree = tree;
     match is_directory(&mut tree, options.directory) {
-        Ok(true) => run_find(alloc, tree, texts, list, options, patterns, output, errors),
+        Ok(true) => run_find(
+            alloc, tree, texts, files, list, options, patterns, output, errors,
+        ),
         Ok(false) => errors.fault(NoDirectory {
             path: options.directory,
         }),
@@ -190,17 +210,18 @@ fn is_directory<T: Tree>(tree: &mut T, directory: &str) -> Result<bool, AllocErr
     Ok(tree.look(".")?.is_dir())
 }
 
-/// Searches the tree, and writes each path below its current directory that any pattern matches, that has the kind in
+/// Searches the tree, and writes each path below its current directory that any pattern matches, that is of a kind in
 /// the settings, and that neither rules nor the depth exclude: once, in ascending byte order of the names. Returns the
 /// exit status: 0 if there is a path, 1 if there is none, and 2 if a directory could not be listed, a file with rules
 /// could not be read, or the search did not finish.
 ///
 /// With the files `a.rs`, `b.c`, `d/a.rs` and `t/a.rs`, and a list that ignores `t`, the patterns `**/*.rs` and `d/*`
 /// write `a.rs` and `d/a.rs`.
-fn run_find<T, X, W, E>(
+fn run_find<T, X, F, W, E>(
     alloc: T::Alloc,
     tree: T,
     texts: X,
+    files: &F,
     list: IgnoreList<T::Alloc>,
     options: &Options<'_, T::Alloc>,
     patterns: &[&str],
@@ -210,12 +231,17 @@ fn run_find<T, X, W, E>(
 where
     T: Tree,
     X: RuleTexts<Alloc = T::Alloc>,
+    F: PathKinds,
     W: Write,
     E: Write,
     ensures most { result ≤ 2 }
     ensures found { IsRefused output.old output.new result
-        ⊎ FindsPaths (T.tells tree) (X.texts texts) options.now list (map (λ p. p.now) patterns.now)
-        (W.contents output.old) (W.contents output.new) result }
+        ⊎ (let o = options.now in FindsPaths (record {
+          content = T.tells tree;
+          texts = X.texts texts;
+          kinds = F.kinds files.now o.settings.follows o.directory;
+        }) o list (map (λ p. p.now) patterns.now)
+        (W.contents output.old) (W.contents output.new) result) }
 {
     let heeds = heeds_files(options);
     let mut tree = tree;
@@ -230,7 +256,10 @@ where
         }
     };
     let end = options.settings.end;
-    let status = run_search(alloc, search, &mut tree, &mut texts, end, output, errors);
+    let sieve = Sieve::new(files, options);
+    let status = run_search(
+        alloc, search, &mut tree, &mut texts, &sieve, end, output, errors,
+    );
     if has_fault { FAULT } else { status }
 }
 

@@ -73,8 +73,9 @@ globs help shows what a PATTERN may have: ?, *, **, brackets and braces.
                  Without -L nothing is below a link: link/a is not found
   -n LIMIT       the search spends at most LIMIT units: one for each lookup, listing, entry and file
                  of rules. Where it takes more, paths may be missing, and a line says so
-  -t KIND        -t d writes only directories. -t f writes all else: files, pipes, devices, and
-                 symbolic links, unless -L makes one a directory
+  -t KIND        write only paths of this kind: f is a regular file, d a directory, l a symbolic link.
+                 -t f -t l writes both. Pipes, sockets and devices are of none of them. With -L a
+                 link is what it leads to, and l is one that leads nowhere
   -x RULE        ignore what RULE names, as a line of an ignore file: -x target -x '*.o' -x '!a.o'.
                  In a rule braces are characters, [^a] is [!a], and case counts, with -i too
   --ignore FILE  ignore what the rules of FILE name, which are taken from the start:

@@ -33,6 +33,7 @@ use explain::run_explain;
 use files::{DiskFiles, IgnoreFiles};
 use find::disk::{Disks, SharedRules, Start, StartTexts, disk_of, last_status};
 use find::find_asked;
+use find::kinds::PathKinds;
 use glob_console::{ErrorLines, FAULT, arguments, words_of, write_line, write_text};
 use glob_lines::Watch;
 use glob_search::RuleTexts;
@@ -66,7 +67,7 @@ pub fn run_words<T, X, F, R, W, E>(
 where
     T: Tree,
     X: RuleTexts<Alloc = T::Alloc>,
-    F: IgnoreFiles,
+    F: IgnoreFiles + PathKinds,
     R: Read,
     W: Write,
     E: Write,
@@ -76,6 +77,7 @@ where
       content = λ follows d. known_at d disks.entry.directory.now
           (T.tells (if follows then disks.entry.followed else disks.entry.kept));
       texts = λ d. known_at d disks.entry.directory.now (X.texts disks.entry.texts);
+      kinds = F.kinds files.now;
       holds = F.holds files.now;
       input = input_of R.remaining input.old input.new;
     })
@@ -108,7 +110,7 @@ fn run_asked<T, X, F, R, W, E>(
 where
     T: Tree,
     X: RuleTexts<Alloc = T::Alloc>,
-    F: IgnoreFiles,
+    F: IgnoreFiles + PathKinds,
     R: Read,
     W: Write,
     E: Write,
@@ -118,6 +120,7 @@ where
       content = λ follows d. known_at d disks.entry.directory.now
           (T.tells (if follows then disks.entry.followed else disks.entry.kept));
       texts = λ d. known_at d disks.entry.directory.now (X.texts disks.entry.texts);
+      kinds = F.kinds files.now;
       holds = F.holds files.now;
       input = input_of R.remaining input.old input.new;
     })
@@ -147,7 +150,7 @@ fn run_command<T, X, F, R, W, E>(
 where
     T: Tree,
     X: RuleTexts<Alloc = T::Alloc>,
-    F: IgnoreFiles,
+    F: IgnoreFiles + PathKinds,
     R: Read,
     W: Write,
     E: Write,
@@ -157,6 +160,7 @@ where
       content = λ follows d. known_at d disks.entry.directory.now
           (T.tells (if follows then disks.entry.followed else disks.entry.kept));
       texts = λ d. known_at d disks.entry.directory.now (X.texts disks.entry.texts);
+      kinds = F.kinds files.now;
       holds = F.holds files.now;
       input = input_of R.remaining input.old input.new;
     })

@@ -130,7 +130,7 @@ impl Why {
             Why::Valueless => " needs a value",
             Why::Limit => " is no limit: -n takes a number below 2 to the power of 64",
             Why::Depth => " is no depth: --max-depth takes a number below 2 to the power of 64",
-            Why::Kind => " is no kind: -t takes f or d",
+            Why::Kind => " is no kind: -t takes f, d or l, and may be given again",
             Why::RuleFile => " is no name: --ignore-files takes one, such as .gitignore",
             Why::Late => " stands after an operand: options come first",
             Why::Bare => match name {
