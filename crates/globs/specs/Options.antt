@@ -46,6 +46,7 @@ new_settings name = record {
   kinds = no_kinds;
   follows = false;
   is_git = false;
+  is_utf8_only = false;
 }
 
 abbrev pub new_options : Name → Chosen
@@ -88,8 +89,9 @@ with_flag name word s =
     else (if bytes_eq word (codes "-v") && is_match name then Some (record s { inverts = true })
     else (if bytes_eq word (codes "-L") && is_find name then Some (record s { follows = true })
     else (if bytes_eq word (codes "--git") && is_find name then Some (record s { is_git = true })
+    else (if bytes_eq word (codes "--utf8-only") && is_find name then Some (record s { is_utf8_only = true })
     else (if bytes_eq word (codes "-s") && is_find name then None
-    else (if has_pattern name then option_map (λ o. record s { options = o }) (option_set word s.options) else None)))))
+    else (if has_pattern name then option_map (λ o. record s { options = o }) (option_set word s.options) else None))))))
 
 -- the option that the word names, if it has a value and the command accepts it
 abbrev pub valued_of : Name → Text → Option Valued

@@ -87,6 +87,8 @@ globs help shows what a PATTERN may have: ?, *, **, brackets and braces.
   --git          ignore what git does by the files of a repository whose top is the start: each
                  .gitignore, and .git/info/exclude after all others; and .git itself
   --max-depth N  write no path of more than N names. A directory of N names is not listed
+  --utf8-only    pass over names that are not UTF-8: no line names them, and the status is what it is
+                 without them
   --             ends the options. A pattern that begins with - needs it
 
 A pattern matches a whole path, as src/main.rs, where no ?, * or bracket takes a /: '*.rs' is of
@@ -108,8 +110,9 @@ Status:
   0         a path was written
   1         no path was found
   2         a fault, a directory that could not be listed, a path that could not be looked up, a
-            name that is not UTF-8, ignored or not, a link that leads back, a file of rules that
-            could not be read or has a line that is refused, or the limit
+            name that is not UTF-8, ignored or not, unless --utf8-only passes it over, a link that
+            leads back, a file of rules that could not be read or has a line that is refused, or the
+            limit
 ";
 
 /// The page of `match`.

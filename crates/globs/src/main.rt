@@ -178,12 +178,19 @@ where
     }
 }
 
-/// The directory that the words ask to begin in: the current one if it is empty, as it is where they ask for none, or
-/// without memory to read them.
-fn directory_asked<'a, A: Allocator + Copy>(alloc: A, words: &'a [&'a str]) -> &'a str {
-    match Command::parse(alloc, words) {
-        Ok(Command::Run(_, asked)) => asked.options.directory,
-        Ok(Command::Help(_) | Command::Version) | Err(_) => "",
+/// Where the words ask to begin: in the current directory where they ask for none, or without memory to read them.
+fn start_asked<'a>(rt: HostRuntime, words: &'a [&'a str]) -> Start<'a> {
+    let (directory, is_utf8_only) = match Command::parse(rt.alloc(), words) {
+        Ok(Command::Run(_, asked)) => {
+            let options = &asked.options;
+            (options.directory, options.settings.is_utf8_only)
+        }
+        Ok(Command::Help(_) | Command::Version) | Err(_) => ("", false),
+    };
+    Start {
+        rt,
+        directory,
+        is_utf8_only,
     }
 }
 
@@ -202,10 +209,7 @@ fn main(rt: HostRuntime) -> ExitCode {
     };
     let has_stray = Cell::new(false);
     let rules = SharedRules::new();
-    let start = Start {
-        rt,
-        directory: directory_asked(alloc, words.as_slice()),
-    };
+    let start = start_asked(rt, words.as_slice());
     let (mut kept_errors, mut followed_errors) = (rt.stderr(), rt.stderr());
     let disks = Disks {
         kept: disk_of(start, Links::Kept, &mut kept_errors, &has_stray, &rules),

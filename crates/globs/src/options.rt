@@ -60,6 +60,8 @@ pub struct Settings {
     pub follows: bool,
     /// Whether what git ignores is passed over.
     pub is_git: bool,
+    /// Whether names that are not UTF-8 are passed over, rather than reported.
+    pub is_utf8_only: bool,
 }
 
 /// Everything that the options set.
@@ -152,6 +154,7 @@ impl Settings {
             kinds: Kinds::new(),
             follows: false,
             is_git: false,
+            is_utf8_only: false,
         }
     }
 
@@ -165,6 +168,7 @@ impl Settings {
             ("-v", Name::Match) => settings.inverts = true,
             ("-L", Name::Find) => settings.follows = true,
             ("--git", Name::Find) => settings.is_git = true,
+            ("--utf8-only", Name::Find) => settings.is_utf8_only = true,
             ("-s", Name::Find) => return None,
             (_, Name::Find | Name::Match | Name::Explain)
                 if set_match_option(&mut settings.options, word) => {}
