@@ -15,6 +15,7 @@ pub mod below;
 pub mod disk;
 mod fault;
 mod heeding;
+mod hints;
 pub mod kinds;
 mod lines;
 mod searching;
@@ -22,7 +23,6 @@ mod strays;
 
 use crate::braces::expand_words;
 use crate::command::Asked;
-use crate::explain::notes::first_form;
 use crate::files::IgnoreFiles;
 use crate::ignoring::read_rules;
 use crate::name::Name;
@@ -38,6 +38,7 @@ use glob_search::{RuleTexts, Search};
 use glob_set::SetRefusal;
 use glob_tree::Tree;
 use heeding::Heeded;
+use hints::{note_above, note_astray, note_directory, note_name, note_words};
 use kinds::{PathKinds, Sieve};
 use searching::run_search;
 use std::alloc::{AllocError, Allocator};
@@ -101,8 +102,7 @@ where
 }
 
 /// Expands the braces of the words, `*.{c,h}` to `*.c` and `*.h`, and then does what [`find_below`] does. A refused word
-/// is a fault, before anything is looked up or written. If a single pattern finds nothing and contains another tool's
-/// syntax, a line says what that means here.
+/// is a fault, before anything is looked up or written. Lines say what the words may have been meant to say.
 #[tactic(auto, unfolding(crate::specs::Find::Outcomes::Finds))]
 fn find_words<T, X, F, W, E>(
     alloc: T::Alloc,
@@ -130,7 +130,10 @@ where
 {
     let expanded = match expand_words(alloc, Name::Find, words, errors) {
         Ok(expanded) => expanded,
-        Err(status) => return status,
+        Err(status) => {
+            note_astray(alloc, options.directory, words, errors);
+            return status;
+        }
     };
     let Ok(patterns) = words_of(alloc, expanded.as_slice()) else {
         return errors.fault("out of memory");
@@ -146,8 +149,8 @@ where
         output,
         errors,
     );
-    if status == UNFOUND {
-        note_form(alloc, patterns.as_slice(), errors);
+    if status != FAULT {
+        note_words(alloc, options, words, patterns.as_slice(), status, errors);
     }
     status
 }
@@ -256,10 +259,21 @@ where
         }
     };
     let end = options.settings.end;
-    let sieve = Sieve::new(files, options);
+    let sieve = Sieve::new(files, options, patterns);
     let status = run_search(
         alloc, search, &mut tree, &mut texts, &sieve, end, output, errors,
     );
+    if status != FAULT {
+        if !sieve.has_others() {
+            note_directory(&mut tree, patterns, errors);
+        }
+        if status == UNFOUND {
+            note_name(&mut tree, patterns, errors);
+        }
+        if options.settings.is_git {
+            note_above(alloc, &mut texts, errors);
+        }
+    }
     if has_fault { FAULT } else { status }
 }
 
@@ -301,34 +315,6 @@ fn fault_of<'a>(patterns: &[&'a str], refusal: SetRefusal) -> PatternFault<'a> {
             None => PatternFault::Memory,
         },
         SetRefusal::Memory => PatternFault::Memory,
-    }
-}
-
-/// Writes what another tool's syntax means here, if there is a single pattern and it contains such syntax.
-fn note_form<A: Allocator + Copy, E: Write>(
-    alloc: A,
-    patterns: &[&str],
-    errors: &mut ErrorLines<'_, A, E>,
-) {
-    if let [pattern] = patterns {
-        if let Ok(Some((form, words))) = first_form(alloc, pattern) {
-            errors.write(&FormLine { form, words });
-        }
-    }
-}
-
-/// The line about another tool's syntax.
-#[derive(Clone, Copy)]
-struct FormLine {
-    form: &'static str,
-    words: &'static str,
-}
-
-impl Display for FormLine {
-    ghost output = { λ line. Some (line.form.now ++ 32 ∷ line.words.now) };
-
-    fn fmt<W: fmt::Write>(&self, f: &mut fmt::Formatter<W>) -> fmt::Result {
-        write!(f, "{} {}", self.form, self.words)
     }
 }
 

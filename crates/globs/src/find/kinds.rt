@@ -7,6 +7,7 @@ use crate::files::DiskFiles;
 use crate::options::{Kinds, Options};
 use glob_tree::child;
 use std::alloc::{AllocError, Allocator};
+use std::cell::Cell;
 use std::fs::{Files, Metadata};
 use std::io::{self, ErrorKind};
 
@@ -80,17 +81,21 @@ fn kind_of(answer: io::Result<Metadata>, absent: PathKind) -> Result<PathKind, A
 
 /// What keeps paths of the kinds that are asked for.
 #[derive(Drop)]
-pub struct Sieve<'f, 'd, F> {
+pub struct Sieve<'f, 'd, 'p, F> {
     pub files: &'f F,
     pub kinds: Kinds,
     pub follows: bool,
     /// The directory where the search begins.
     pub directory: &'d str,
+    /// The last of the patterns.
+    last: &'p str,
+    /// Whether it was asked about a path that is not the last of the patterns.
+    has_others: Cell<bool>,
 }
 
-impl<'f, 'd, F: PathKinds> Sieve<'f, 'd, F> {
-    /// A sieve for paths from the directory where a search begins.
-    pub fn new<A: Allocator>(files: &'f F, options: &Options<'d, A>) -> Self
+impl<'f, 'd, 'p, F: PathKinds> Sieve<'f, 'd, 'p, F> {
+    /// A sieve for paths that patterns match, from the directory where a search begins.
+    pub fn new<A: Allocator>(files: &'f F, options: &Options<'d, A>, patterns: &[&'p str]) -> Self
         ensures { sieved F.kinds result ≡ keeps_of options.now.settings.kinds
             (F.kinds files.now options.now.settings.follows options.now.directory) }
     {
@@ -99,6 +104,8 @@ impl<'f, 'd, F: PathKinds> Sieve<'f, 'd, F> {
             kinds: options.settings.kinds,
             follows: options.settings.follows,
             directory: options.directory,
+            last: patterns.last().copied().unwrap_or(""),
+            has_others: Cell::new(false),
         }
     }
 
@@ -107,11 +114,19 @@ impl<'f, 'd, F: PathKinds> Sieve<'f, 'd, F> {
         ensures { (keeps : Text → Bool) → sieved F.kinds self.now ≡ Some keeps
             → IfOk result (λ yes. yes ≡ keeps path.now) }
     {
+        if path != self.last {
+            self.has_others.set(true);
+        }
         if !sifts(self.kinds) {
             return Ok(true);
         }
         let kind = self.files.kind(alloc, self.follows, self.directory, path)?;
         Ok(is_of(self.kinds, kind))
+    }
+
+    /// Whether it was asked about a path that is not the last of the patterns.
+    pub fn has_others(&self) -> bool {
+        self.has_others.get()
     }
 }
 

@@ -62,7 +62,7 @@ pub fn run_search<A, T, X, F, W, E>(
     search: Search<A>,
     tree: &mut T,
     texts: &mut X,
-    sieve: &Sieve<'_, '_, F>,
+    sieve: &Sieve<'_, '_, '_, F>,
     end: u8,
     output: &mut W,
     errors: &mut ErrorLines<'_, A, E>,
@@ -95,7 +95,7 @@ fn write_found<A, T, X, F, W, E>(
     search: &mut Search<A>,
     tree: &mut T,
     texts: &mut X,
-    sieve: &Sieve<'_, '_, F>,
+    sieve: &Sieve<'_, '_, '_, F>,
     end: u8,
     output: &mut W,
     errors: &mut ErrorLines<'_, A, E>,
@@ -153,7 +153,7 @@ where
 /// does not keep. Returns whether the search ends with that: then no line waits.
 fn write_item<A, F, W, E>(
     alloc: A,
-    sieve: &Sieve<'_, '_, F>,
+    sieve: &Sieve<'_, '_, '_, F>,
     item: Result<Found<A>, SearchFault<A>>,
     spent: u64,
     lines: &mut Lines<A>,
