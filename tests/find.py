@@ -18,10 +18,14 @@ from lib import make, reference
 from lib.count import Count, built, has, run
 
 EACH = 20
-OPTIONS = [[], [], ["-i"], ["-d"], ["-i", "-d"], ["-t", "f"], ["-t", "d"], ["--max-depth", "1"], ["--max-depth", "2"]]
+OPTIONS = [[], [], ["-i"], ["-d"], ["-i", "-d"], ["-t", "f"], ["-t", "d"], ["-t", "l"],
+    ["-t", "l", "-t", "f"], ["-t", "d", "-t", "f"], ["--max-depth", "1"], ["--max-depth", "2"]]
 RULES = ["a", "b", "/a", "/b", "a/", "b/", "*", "!*", "!a", "!b", "!a/", "!/a/b", "a/b", "/a/*", "a/**", "**/b", "?", "!?", "[ab]",
     "*b", "!*b", ".*", "!.a", "a*", "e", "!A", "# a", "", "*.b", "\\!a", "a ", "/*/", "!*/"]
 GIT = {"GIT_CONFIG_NOSYSTEM": "1", "GIT_CONFIG_GLOBAL": "/dev/null"}
+
+# Lines about words that may have been meant otherwise.
+HINT = re.compile(r"globs: (`.*` is (of one path|a directory)|\[\^ lists a \^ here)")
 
 # Patterns, and how many directories are listed in a tree with src/{a.c,b.c,deep/c.c}, lib/{a.h,b.h} and doc/x.
 LISTED = [("src/*.c lib/a*", 2), ("src/a.c lib/a.h doc", 0), ("*", 1), ("*/a.c", 1), ("src/**/*.c", 2), ("**/*.c", 5),
@@ -52,10 +56,11 @@ def is_kept(path, rules, tree):
     return not any(rule in above and (tree[rule] or not only_directories) for rule, only_directories in rules)
 
 
-def is_wanted(path, is_dir, options):
-    kind = options[1] if options[:1] == ["-t"] else ""
+def is_wanted(path, end, options):
+    """Whether the options ask for a path with this end."""
+    kinds = options[1::2] if options[:1] == ["-t"] else "fdl"
     depth = int(options[1]) if options[:1] == ["--max-depth"] else 99
-    return (kind == "" or (kind == "d") == is_dir) and path.count("/") < depth
+    return {"": "f", "/": "d"}.get(end, "l") in kinds and path.count("/") < depth
 
 
 def matched(paths, patterns, options):
@@ -88,17 +93,19 @@ class Searches:
     def same(self, top, what, words, wanted):
         """Compares the output of a search."""
         status, output, errors = run([built("globs"), "find", *words], cwd=top)
-        self.count.same(f"{what} {words}", (output.splitlines(), errors, status), (wanted, "", not wanted))
+        faults = [line for line in errors.splitlines() if not HINT.match(line)]
+        self.count.same(f"{what} {words}", (output.splitlines(), faults, status), (wanted, [], not wanted))
 
     def filtered(self, top):
         """Searches a tree, and compares with a filter of its paths. Half of the searches begin in another directory."""
         source = self.source
         tree = make.grown(source, source.randint(0, 30), make.few_name, 0.7)
-        make.place(top, [path + some_end(source, path, tree) for path in tree])
+        ends = {path: some_end(source, path, tree) for path in tree}
+        make.place(top, [path + end for path, end in ends.items()])
         for _ in range(EACH):
             options, patterns = source.choice(OPTIONS), some_patterns(source)
             rules = [(source.choice([*tree] or ["b"]), source.random() < 0.5) for _ in range(source.randint(0, 3))]
-            kept = [path for path, is_dir in tree.items() if is_kept(path, rules, tree) and is_wanted(path, is_dir, options)]
+            kept = [path for path in tree if is_kept(path, rules, tree) and is_wanted(path, ends[path], options)]
             excluded = [word for rule, only in rules for word in ("-x", f"/{rule}" + "/" * only)]
             start, place = source.choice([([], top), (["-C", top], "/")])
             words = [*start, *excluded, *options, *map(written, patterns)]

@@ -29,7 +29,7 @@ pub aim_is : {A : Type 0} (o : Chosen) (list : Ignores) (after : List Ignores) (
 aim_is o list after s patterns known asked same =
     let by = aim_by patterns known in
     let depth = depth_of o.settings.depth in
-    let wanted = wanted_of o.settings.kind in
+    let wanted = wanted_of o.settings.kinds in
     let first = first_lists o.settings.is_git (is_ruled o) list in
     ap (λ x. by x s.depth s.wanted s.first.items (files_of s) s.last.items) asked.options
     ∙ ap (λ x. by o.settings.options x s.wanted s.first.items (files_of s) s.last.items) asked.depth

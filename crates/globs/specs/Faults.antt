@@ -1,5 +1,5 @@
 -- The printed texts of faults. Control characters in words from outside are escaped.
-use Rattle.std.specs.Prelude.{ℕ, List, [], ◌++◌, ◌∷◌, Option, None, Some, ⊤, codes, decimal}
+use Rattle.std.specs.Prelude.{ℕ, Bool, true, false, ◌&&◌, ◌||◌, if◌then◌else◌, List, [], ◌++◌, ◌∷◌, Option, None, Some, ⊤, bytes_eq, codes, decimal}
 use Rattle.glob_console.specs.Lines.{WritesLine}
 use Rattle.glob_pattern.specs.Grammar.Faults.{kind_of, message_of}
 use Rattle.glob_pattern.specs.declared.error.PatternErrorKind.{PatternErrorKind}
@@ -51,7 +51,7 @@ why_words name why.Unknown = codes " is no option"
 why_words name why.Valueless = codes " needs a value"
 why_words name why.Limit = codes " is no limit: -n takes a number below 2 to the power of 64"
 why_words name why.Depth = codes " is no depth: --max-depth takes a number below 2 to the power of 64"
-why_words name why.Kind = codes " is no kind: -t takes f or d"
+why_words name why.Kind = codes " is no kind: -t takes f, d or l, and may be given again"
 why_words name why.RuleFile = codes " is no name: --ignore-files takes one, such as .gitignore"
 why_words name why.Late = codes " stands after an operand: options come first"
 why_words name why.Bare = bare_words name
@@ -79,9 +79,63 @@ subject_words why.Extra word = quoted word
 subject_words why.Command word = quoted word
 subject_words why.Empty word = []
 
+-- what to write instead of an option that other tools have
+abbrev pub foreign_words : (word : Text) → Text
+foreign_words word =
+    if bytes_eq word (codes "-type") || bytes_eq word (codes "--type")
+    then codes "; -t f, -t d and -t l ask for kinds"
+    else (if bytes_eq word (codes "-maxdepth") || bytes_eq word (codes "--depth")
+    then codes "; --max-depth N says how deep"
+    else (if bytes_eq word (codes "-name") || (bytes_eq word (codes "-path") || (bytes_eq word (codes "-g") || bytes_eq word (codes "--glob")))
+    then codes "; a pattern says what names: '**/*.rs'"
+    else (if bytes_eq word (codes "-iname") || bytes_eq word (codes "-ipath")
+    then codes "; -i and a pattern say what names: -i '**/*.rs'"
+    else (if bytes_eq word (codes "-e") || bytes_eq word (codes "--extension")
+    then codes "; a pattern says which extension: '**/*.rs'"
+    else (if bytes_eq word (codes "-print0") || bytes_eq word (codes "--print0")
+    then codes "; -0 ends each path in a NUL"
+    else (if bytes_eq word (codes "-exec") || bytes_eq word (codes "--exec")
+    then codes "; -0 and xargs -0 run a command on the paths"
+    else (if bytes_eq word (codes "-not") || (bytes_eq word (codes "-prune") || (bytes_eq word (codes "-E") || bytes_eq word (codes "--exclude")))
+    then codes "; -x RULE ignores what RULE names"
+    else (if bytes_eq word (codes "-H") || (bytes_eq word (codes "--hidden") || (bytes_eq word (codes "-u") || bytes_eq word (codes "--no-ignore")))
+    then codes "; nothing is hidden or ignored by default"
+    else (if bytes_eq word (codes "-follow") || bytes_eq word (codes "--follow")
+    then codes "; -L follows links"
+    else (if bytes_eq word (codes "-o") || bytes_eq word (codes "-or")
+    then codes "; several patterns may be given" else []))))))))))
+
+-- the fault is of an option that the command does not know, or that comes too late
+abbrev pub is_of_option : Why → Bool
+is_of_option why.Unknown = true
+is_of_option why.Valueless = false
+is_of_option why.Limit = false
+is_of_option why.Depth = false
+is_of_option why.Kind = false
+is_of_option why.RuleFile = false
+is_of_option why.Late = true
+is_of_option why.Bare = false
+is_of_option why.Textless = false
+is_of_option why.Extra = false
+is_of_option why.Command = false
+is_of_option why.Empty = false
+
+abbrev pub is_for_find : Option Name → Bool
+is_for_find None = false
+is_for_find (Some Find) = true
+is_for_find (Some Match) = false
+is_for_find (Some Ignore) = false
+is_for_find (Some Explain) = false
+is_for_find (Some Escape) = false
+
+-- what is said further of a word of `find`
+abbrev pub instead_words : Option Name → Why → (word : Text) → Text
+instead_words name w word = if is_of_option w && is_for_find name then foreign_words word else []
+
 -- the text about a wrong word, of a command or before one
 abbrev pub word_fault_words : Option Name → Why → (word : Text) → Text
-word_fault_words name w word = subject_words w word ++ (why_words name w ++ (codes ": " ++ help_words name))
+word_fault_words name w word =
+    subject_words w word ++ (why_words name w ++ (instead_words name w word ++ (codes ": " ++ help_words name)))
 
 -- the line of a usage fault
 abbrev pub usage_words : UsageLine → Text

@@ -10,6 +10,7 @@ use Rattle.globs.specs.declared.name.Name.{Name}
 use Rattle.globs.specs.declared.name.Name.TheVariants.{Find, Match, Ignore, Explain, Escape}
 use Rattle.globs.specs.declared.options.Kind as kinds
 use Rattle.globs.specs.declared.options.Kind.TheVariants as kind
+use Rattle.globs.specs.declared.options.Kinds.{Kinds}
 use Rattle.globs.specs.declared.options.Valued.{Valued}
 use Rattle.globs.specs.declared.options.Valued.TheVariants.{Limit, Depth, Kind, Rule, File, RuleFile, Directory}
 use Rattle.globs.specs.declared.options.Settings.{Settings}
@@ -24,6 +25,16 @@ is_find Ignore = false
 is_find Explain = false
 is_find Escape = false
 
+-- no kind is asked for, so that each path is written
+abbrev pub no_kinds : Kinds
+no_kinds = record { files = false; directories = false; links = false }
+
+-- the kinds and one more
+abbrev pub with_kind : kinds.Kind → Kinds → Kinds
+with_kind kind.File asked = record asked { files = true }
+with_kind kind.Directory asked = record asked { directories = true }
+with_kind kind.Link asked = record asked { links = true }
+
 -- the defaults: lines, case-sensitive, without the dot rule, any kind, no limit
 abbrev pub new_settings : Name → Settings
 new_settings name = record {
@@ -32,9 +43,10 @@ new_settings name = record {
   inverts = false;
   limit = 2 ^ 64 - 1;
   depth = None;
-  kind = kind.Any;
+  kinds = no_kinds;
   follows = false;
   is_git = false;
+  is_utf8_only = false;
 }
 
 abbrev pub new_options : Name → Chosen
@@ -77,8 +89,9 @@ with_flag name word s =
     else (if bytes_eq word (codes "-v") && is_match name then Some (record s { inverts = true })
     else (if bytes_eq word (codes "-L") && is_find name then Some (record s { follows = true })
     else (if bytes_eq word (codes "--git") && is_find name then Some (record s { is_git = true })
+    else (if bytes_eq word (codes "--utf8-only") && is_find name then Some (record s { is_utf8_only = true })
     else (if bytes_eq word (codes "-s") && is_find name then None
-    else (if has_pattern name then option_map (λ o. record s { options = o }) (option_set word s.options) else None)))))
+    else (if has_pattern name then option_map (λ o. record s { options = o }) (option_set word s.options) else None))))))
 
 -- the option that the word names, if it has a value and the command accepts it
 abbrev pub valued_of : Name → Text → Option Valued
@@ -96,17 +109,19 @@ valued_of name word =
 abbrev pub kind_of : Text → Option kinds.Kind
 kind_of word =
     if bytes_eq word (codes "f") then Some kind.File
-    else (if bytes_eq word (codes "d") then Some kind.Directory else None)
+    else (if bytes_eq word (codes "d") then Some kind.Directory
+    else (if bytes_eq word (codes "l") then Some kind.Link else None))
 
 -- the options with one set to its value, or why the word is not a value of it; any word may be a rule, a file or a
--- directory
+-- directory, and a kind comes to those before
 abbrev pub value_taken : Valued → Text → Chosen → Result Chosen Why
 value_taken Limit word o =
     ok_or (option_map (λ n. record o { settings = record o.settings { limit = n } }) (limit_of word)) why.Limit
 value_taken Depth word o =
     ok_or (option_map (λ n. record o { settings = record o.settings { depth = Some n } }) (limit_of word)) why.Depth
 value_taken Kind word o =
-    ok_or (option_map (λ k. record o { settings = record o.settings { kind = k } }) (kind_of word)) why.Kind
+    ok_or (option_map (λ k. record o { settings = record o.settings { kinds = with_kind k o.settings.kinds } }) (kind_of word))
+    why.Kind
 value_taken Rule word o = Ok (record o { rules = o.rules ++ word ∷ [] })
 value_taken File word o = Ok (record o { files = o.files ++ word ∷ [] })
 value_taken RuleFile word o =

@@ -11,14 +11,16 @@ use Rattle.globs.specs.Help.{page_of}
 use Rattle.globs.specs.Matching.{CopiesMatches}
 use Rattle.globs.specs.Reading.{Request, Runs, Helps, VersionLine, Refused}
 use Rattle.globs.specs.Unignored.{CopiesUnignored}
+use Rattle.globs.specs.declared.find.kinds.PathKind.{PathKind}
 use Rattle.globs.specs.declared.help.TheConstants.{VERSION}
 use Rattle.globs.specs.declared.name.Name.TheVariants.{Find, Match, Ignore, Explain, Escape}
 
 -- What is known of a run's surroundings: the content of the disk from a directory on, with symbolic links to directories
--- followed or not, and the texts of its files; the texts of files that are named; and the input.
+-- followed or not, the texts of its files, and the kinds of its paths; the texts of files that are named; and the input.
 pub record World : Type 0 where
   pub content : (follows : Bool) → (directory : Text) → Option Content
   pub texts : (directory : Text) → Option (Text → Option Text)
+  pub kinds : (follows : Bool) → (directory : Text) → Option (Text → PathKind)
   pub holds : (path : Text) → Option Text
   pub input : Input
 
@@ -32,8 +34,11 @@ unfoldable pub Fulfils : {W : Type 0} → (contents : W → Option (List ℕ)) �
     → (status : ℕ) → Type 0
 Fulfils contents world (Runs Find o operands) old new status =
     IsUnread world.input
-    × FindsUnignored contents (world.content o.settings.follows o.directory) (world.texts o.directory) world.holds o
-    operands old new status
+    × FindsUnignored contents (record {
+      content = world.content o.settings.follows o.directory;
+      texts = world.texts o.directory;
+      kinds = world.kinds o.settings.follows o.directory;
+    }) world.holds o operands old new status
 Fulfils contents world (Runs Match o operands) old new status =
     CopiesMatches contents o.settings operands world.input old new status
 Fulfils contents world (Runs Ignore o operands) old new status =

@@ -15,13 +15,14 @@ pub mod below;
 pub mod disk;
 mod fault;
 mod heeding;
+mod hints;
+pub mod kinds;
 mod lines;
 mod searching;
 mod strays;
 
 use crate::braces::expand_words;
 use crate::command::Asked;
-use crate::explain::notes::first_form;
 use crate::files::IgnoreFiles;
 use crate::ignoring::read_rules;
 use crate::name::Name;
@@ -37,6 +38,8 @@ use glob_search::{RuleTexts, Search};
 use glob_set::SetRefusal;
 use glob_tree::Tree;
 use heeding::Heeded;
+use hints::{note_above, note_astray, note_directory, note_name, note_words};
+use kinds::{PathKinds, Sieve};
 use searching::run_search;
 use std::alloc::{AllocError, Allocator};
 use std::fmt::{self, Display};
@@ -56,13 +59,16 @@ pub fn find_asked<T, X, F, W, E>(
 where
     T: Tree,
     X: RuleTexts<Alloc = T::Alloc>,
-    F: IgnoreFiles,
+    F: IgnoreFiles + PathKinds,
     W: Write,
     E: Write,
     ensures most { result ≤ 2 }
-    ensures found { FindsUnignored W.contents (T.tells (if asked.now.options.settings.follows
-        then disks.entry.followed else disks.entry.kept)) (X.texts disks.entry.texts)
-        (F.holds files.now) asked.now.options (map (λ w. w.now) asked.now.operands.now)
+    ensures found { let o = asked.now.options in FindsUnignored W.contents (record {
+      content = T.tells
+          (if o.settings.follows then disks.entry.followed else disks.entry.kept);
+      texts = X.texts disks.entry.texts;
+      kinds = F.kinds files.now o.settings.follows o.directory;
+    }) (F.holds files.now) o (map (λ w. w.now) asked.now.operands.now)
         output.old output.new result }
 {
     let options = &asked.options;
@@ -83,6 +89,7 @@ where
                 alloc,
                 tree,
                 texts,
+                files,
                 list,
                 options,
                 asked.operands,
@@ -95,13 +102,13 @@ where
 }
 
 /// Expands the braces of the words, `*.{c,h}` to `*.c` and `*.h`, and then does what [`find_below`] does. A refused word
-/// is a fault, before anything is looked up or written. If a single pattern finds nothing and contains another tool's
-/// syntax, a line says what that means here.
+/// is a fault, before anything is looked up or written. Lines say what the words may have been meant to say.
 #[tactic(auto, unfolding(crate::specs::Find::Outcomes::Finds))]
-fn find_words<T, X, W, E>(
+fn find_words<T, X, F, W, E>(
     alloc: T::Alloc,
     tree: T,
     texts: X,
+    files: &F,
     list: IgnoreList<T::Alloc>,
     options: &Options<'_, T::Alloc>,
     words: &[&str],
@@ -111,15 +118,22 @@ fn find_words<T, X, W, E>(
 where
     T: Tree,
     X: RuleTexts<Alloc = T::Alloc>,
+    F: PathKinds,
     W: Write,
     E: Write,
     ensures most { result ≤ 2 }
-    ensures found { Finds W.contents (T.tells tree) (X.texts texts) options.now list
-        (map (λ w. w.now) words.now) output.old output.new result }
+    ensures found { let o = options.now in Finds W.contents (record {
+      content = T.tells tree;
+      texts = X.texts texts;
+      kinds = F.kinds files.now o.settings.follows o.directory;
+    }) o list (map (λ w. w.now) words.now) output.old output.new result }
 {
     let expanded = match expand_words(alloc, Name::Find, words, errors) {
         Ok(expanded) => expanded,
-        Err(status) => return status,
+        Err(status) => {
+            note_astray(alloc, options.directory, words, errors);
+            return status;
+        }
     };
     let Ok(patterns) = words_of(alloc, expanded.as_slice()) else {
         return errors.fault("out of memory");
@@ -128,24 +142,26 @@ where
         alloc,
         tree,
         texts,
+        files,
         list,
         options,
         patterns.as_slice(),
         output,
         errors,
     );
-    if status == UNFOUND {
-        note_form(alloc, patterns.as_slice(), errors);
+    if status != FAULT {
+        note_words(alloc, options, words, patterns.as_slice(), status, errors);
     }
     status
 }
 
 /// Searches the tree, unless the directory where the search is to begin is none, or a pattern is refused. Each is a
 /// fault, before anything is written.
-fn find_below<T, X, W, E>(
+fn find_below<T, X, F, W, E>(
     alloc: T::Alloc,
     tree: T,
     texts: X,
+    files: &F,
     list: IgnoreList<T::Alloc>,
     options: &Options<'_, T::Alloc>,
     patterns: &[&str],
@@ -155,14 +171,19 @@ fn find_below<T, X, W, E>(
 where
     T: Tree,
     X: RuleTexts<Alloc = T::Alloc>,
+    F: PathKinds,
     W: Write,
     E: Write,
     ensures most { result ≤ 2 }
     ensures accepted { result ≢ 2 → AreAccepted (map (λ p. p.now) patterns.now) }
     ensures below { result ≢ 2 → are_below (map (λ p. p.now) patterns.now) ≡ true }
     ensures found { IsRefused output.old output.new result
-        ⊎ FindsPaths (T.tells tree) (X.texts texts) options.now list (map (λ p. p.now) patterns.now)
-        (W.contents output.old) (W.contents output.new) result }
+        ⊎ (let o = options.now in FindsPaths (record {
+          content = T.tells tree;
+          texts = X.texts texts;
+          kinds = F.kinds files.now o.settings.follows o.directory;
+        }) o list (map (λ p. p.now) patterns.now)
+        (W.contents output.old) (W.contents output.new) result) }
 {
     if let Err(fault) = check_patterns(alloc, patterns) {
         return errors.fault(FaultLines {
@@ -172,7 +193,9 @@ where
     }
     let mut tree = tree;
     match is_directory(&mut tree, options.directory) {
-        Ok(true) => run_find(alloc, tree, texts, list, options, patterns, output, errors),
+        Ok(true) => run_find(
+            alloc, tree, texts, files, list, options, patterns, output, errors,
+        ),
         Ok(false) => errors.fault(NoDirectory {
             path: options.directory,
         }),
@@ -190,17 +213,18 @@ fn is_directory<T: Tree>(tree: &mut T, directory: &str) -> Result<bool, AllocErr
     Ok(tree.look(".")?.is_dir())
 }
 
-/// Searches the tree, and writes each path below its current directory that any pattern matches, that has the kind in
+/// Searches the tree, and writes each path below its current directory that any pattern matches, that is of a kind in
 /// the settings, and that neither rules nor the depth exclude: once, in ascending byte order of the names. Returns the
 /// exit status: 0 if there is a path, 1 if there is none, and 2 if a directory could not be listed, a file with rules
 /// could not be read, or the search did not finish.
 ///
 /// With the files `a.rs`, `b.c`, `d/a.rs` and `t/a.rs`, and a list that ignores `t`, the patterns `**/*.rs` and `d/*`
 /// write `a.rs` and `d/a.rs`.
-fn run_find<T, X, W, E>(
+fn run_find<T, X, F, W, E>(
     alloc: T::Alloc,
     tree: T,
     texts: X,
+    files: &F,
     list: IgnoreList<T::Alloc>,
     options: &Options<'_, T::Alloc>,
     patterns: &[&str],
@@ -210,12 +234,17 @@ fn run_find<T, X, W, E>(
 where
     T: Tree,
     X: RuleTexts<Alloc = T::Alloc>,
+    F: PathKinds,
     W: Write,
     E: Write,
     ensures most { result ≤ 2 }
     ensures found { IsRefused output.old output.new result
-        ⊎ FindsPaths (T.tells tree) (X.texts texts) options.now list (map (λ p. p.now) patterns.now)
-        (W.contents output.old) (W.contents output.new) result }
+        ⊎ (let o = options.now in FindsPaths (record {
+          content = T.tells tree;
+          texts = X.texts texts;
+          kinds = F.kinds files.now o.settings.follows o.directory;
+        }) o list (map (λ p. p.now) patterns.now)
+        (W.contents output.old) (W.contents output.new) result) }
 {
     let heeds = heeds_files(options);
     let mut tree = tree;
@@ -230,7 +259,21 @@ where
         }
     };
     let end = options.settings.end;
-    let status = run_search(alloc, search, &mut tree, &mut texts, end, output, errors);
+    let sieve = Sieve::new(files, options, patterns);
+    let status = run_search(
+        alloc, search, &mut tree, &mut texts, &sieve, end, output, errors,
+    );
+    if status != FAULT {
+        if !sieve.has_others() {
+            note_directory(&mut tree, patterns, errors);
+        }
+        if status == UNFOUND {
+            note_name(&mut tree, patterns, errors);
+        }
+        if options.settings.is_git {
+            note_above(alloc, &mut texts, errors);
+        }
+    }
     if has_fault { FAULT } else { status }
 }
 
@@ -272,34 +315,6 @@ fn fault_of<'a>(patterns: &[&'a str], refusal: SetRefusal) -> PatternFault<'a> {
             None => PatternFault::Memory,
         },
         SetRefusal::Memory => PatternFault::Memory,
-    }
-}
-
-/// Writes what another tool's syntax means here, if there is a single pattern and it contains such syntax.
-fn note_form<A: Allocator + Copy, E: Write>(
-    alloc: A,
-    patterns: &[&str],
-    errors: &mut ErrorLines<'_, A, E>,
-) {
-    if let [pattern] = patterns {
-        if let Ok(Some((form, words))) = first_form(alloc, pattern) {
-            errors.write(&FormLine { form, words });
-        }
-    }
-}
-
-/// The line about another tool's syntax.
-#[derive(Clone, Copy)]
-struct FormLine {
-    form: &'static str,
-    words: &'static str,
-}
-
-impl Display for FormLine {
-    ghost output = { λ line. Some (line.form.now ++ 32 ∷ line.words.now) };
-
-    fn fmt<W: fmt::Write>(&self, f: &mut fmt::Formatter<W>) -> fmt::Result {
-        write!(f, "{} {}", self.form, self.words)
     }
 }
 

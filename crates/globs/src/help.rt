@@ -73,8 +73,9 @@ globs help shows what a PATTERN may have: ?, *, **, brackets and braces.
                  Without -L nothing is below a link: link/a is not found
   -n LIMIT       the search spends at most LIMIT units: one for each lookup, listing, entry and file
                  of rules. Where it takes more, paths may be missing, and a line says so
-  -t KIND        -t d writes only directories. -t f writes all else: files, pipes, devices, and
-                 symbolic links, unless -L makes one a directory
+  -t KIND        write only paths of this kind: f is a regular file, d a directory, and l a symbolic
+                 link. -t f -t l writes both. Pipes, sockets and devices are of none of them. With
+                 -L a link is what it leads to, and l is one that leads nowhere
   -x RULE        ignore what RULE names, as a line of an ignore file: -x target -x '*.o' -x '!a.o'.
                  In a rule braces are characters, [^a] is [!a], and case counts, with -i too
   --ignore FILE  ignore what the rules of FILE name, which are taken from the start:
@@ -84,13 +85,15 @@ globs help shows what a PATTERN may have: ?, *, **, brackets and braces.
                  below its own: --ignore-files .gitignore --ignore-files .ignore. A deeper file
                  comes first, and in one directory the NAME that was given last
   --git          ignore what git does by the files of a repository whose top is the start: each
-                 .gitignore, and .git/info/exclude after all others; and .git itself
+                 .gitignore, and .git/info/exclude after all others; and .git itself. Rules above
+                 the start are not read: a line says so where a .gitignore is there
   --max-depth N  write no path of more than N names. A directory of N names is not listed
+  --utf8-only    pass over names that are not UTF-8: no line names them, and they make no status 2
   --             ends the options. A pattern that begins with - needs it
 
 A pattern matches a whole path, as src/main.rs, where no ?, * or bracket takes a /: '*.rs' is of
 names here, and '**/*.rs' also of those below. One that begins or ends with /, or has an empty
-component, . or .., is refused.
+component, . or .., is refused, and a line says what to write instead.
 
 Nothing is skipped by default: neither names that begin with a . (see -d), nor what .gitignore
 names (--git), nor .git (-x .git). Rules of -x and --ignore come before those of --ignore-files and
@@ -99,16 +102,19 @@ its lines that is refused. The search goes on by all other lines.
 
 Each path that one of the patterns matches is written once, in ascending byte order of its names.
 A directory is listed only where something in it may still be found: 'src/*.c' 'lib/**' lists src,
-lib and what is below lib, and src/main.c nothing. What is ignored is never listed. Where one
-pattern finds nothing and contains a form of another tool, such as ~/ or [^a], a line on standard
-error says what that is here.
+lib and what is below lib, and src/main.c nothing. What is ignored is never listed.
+
+Lines on standard error, which change no status, say where words may be meant for another tool: a
+bracket [^a]; where nothing was found, a form such as ~/, or a word that is only part of a name; a
+rule of -x that ignores nothing; and, where nothing else was found, a last word that is a directory.
 
 Status:
   0         a path was written
   1         no path was found
   2         a fault, a directory that could not be listed, a path that could not be looked up, a
-            name that is not UTF-8, ignored or not, a link that leads back, a file of rules that
-            could not be read or has a line that is refused, or the limit
+            name that is not UTF-8, ignored or not, unless --utf8-only passes it over, a link that
+            leads back, a file of rules that could not be read or has a line that is refused, or the
+            limit
 ";
 
 /// The page of `match`.

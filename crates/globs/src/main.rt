@@ -33,6 +33,7 @@ use explain::run_explain;
 use files::{DiskFiles, IgnoreFiles};
 use find::disk::{Disks, SharedRules, Start, StartTexts, disk_of, last_status};
 use find::find_asked;
+use find::kinds::PathKinds;
 use glob_console::{ErrorLines, FAULT, arguments, words_of, write_line, write_text};
 use glob_lines::Watch;
 use glob_search::RuleTexts;
@@ -66,7 +67,7 @@ pub fn run_words<T, X, F, R, W, E>(
 where
     T: Tree,
     X: RuleTexts<Alloc = T::Alloc>,
-    F: IgnoreFiles,
+    F: IgnoreFiles + PathKinds,
     R: Read,
     W: Write,
     E: Write,
@@ -76,6 +77,7 @@ where
       content = λ follows d. known_at d disks.entry.directory.now
           (T.tells (if follows then disks.entry.followed else disks.entry.kept));
       texts = λ d. known_at d disks.entry.directory.now (X.texts disks.entry.texts);
+      kinds = F.kinds files.now;
       holds = F.holds files.now;
       input = input_of R.remaining input.old input.new;
     })
@@ -108,7 +110,7 @@ fn run_asked<T, X, F, R, W, E>(
 where
     T: Tree,
     X: RuleTexts<Alloc = T::Alloc>,
-    F: IgnoreFiles,
+    F: IgnoreFiles + PathKinds,
     R: Read,
     W: Write,
     E: Write,
@@ -118,6 +120,7 @@ where
       content = λ follows d. known_at d disks.entry.directory.now
           (T.tells (if follows then disks.entry.followed else disks.entry.kept));
       texts = λ d. known_at d disks.entry.directory.now (X.texts disks.entry.texts);
+      kinds = F.kinds files.now;
       holds = F.holds files.now;
       input = input_of R.remaining input.old input.new;
     })
@@ -147,7 +150,7 @@ fn run_command<T, X, F, R, W, E>(
 where
     T: Tree,
     X: RuleTexts<Alloc = T::Alloc>,
-    F: IgnoreFiles,
+    F: IgnoreFiles + PathKinds,
     R: Read,
     W: Write,
     E: Write,
@@ -157,6 +160,7 @@ where
       content = λ follows d. known_at d disks.entry.directory.now
           (T.tells (if follows then disks.entry.followed else disks.entry.kept));
       texts = λ d. known_at d disks.entry.directory.now (X.texts disks.entry.texts);
+      kinds = F.kinds files.now;
       holds = F.holds files.now;
       input = input_of R.remaining input.old input.new;
     })
@@ -174,12 +178,19 @@ where
     }
 }
 
-/// The directory that the words ask to begin in: the current one if it is empty, as it is where they ask for none, or
-/// without memory to read them.
-fn directory_asked<'a, A: Allocator + Copy>(alloc: A, words: &'a [&'a str]) -> &'a str {
-    match Command::parse(alloc, words) {
-        Ok(Command::Run(_, asked)) => asked.options.directory,
-        Ok(Command::Help(_) | Command::Version) | Err(_) => "",
+/// Where the words ask to begin: in the current directory where they ask for none, or without memory to read them.
+fn start_asked<'a>(rt: HostRuntime, words: &'a [&'a str]) -> Start<'a> {
+    let (directory, is_utf8_only) = match Command::parse(rt.alloc(), words) {
+        Ok(Command::Run(_, asked)) => {
+            let options = &asked.options;
+            (options.directory, options.settings.is_utf8_only)
+        }
+        Ok(Command::Help(_) | Command::Version) | Err(_) => ("", false),
+    };
+    Start {
+        rt,
+        directory,
+        is_utf8_only,
     }
 }
 
@@ -198,10 +209,7 @@ fn main(rt: HostRuntime) -> ExitCode {
     };
     let has_stray = Cell::new(false);
     let rules = SharedRules::new();
-    let start = Start {
-        rt,
-        directory: directory_asked(alloc, words.as_slice()),
-    };
+    let start = start_asked(rt, words.as_slice());
     let (mut kept_errors, mut followed_errors) = (rt.stderr(), rt.stderr());
     let disks = Disks {
         kept: disk_of(start, Links::Kept, &mut kept_errors, &has_stray, &rules),

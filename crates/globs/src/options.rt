@@ -1,6 +1,6 @@
 //! The options of the commands: which command accepts each, and what it sets.
 ghost use Rattle.std.specs.Prelude.{◌≡◌, Ok, IfErr, OnOk};
-ghost use Rattle.globs.specs.Options.{kind_of, new_options, new_settings, value_taken, valued_of, with_flag};
+ghost use Rattle.globs.specs.Options.{kind_of, new_options, new_settings, no_kinds, value_taken, valued_of, with_flag, with_kind};
 ghost use Rattle.globs.specs.Requests.{IsValueFault};
 
 use crate::name::Name;
@@ -25,13 +25,22 @@ pub enum Valued {
     Directory,
 }
 
-/// Which paths are written.
+/// A kind of paths.
 #[derive(Clone, Copy, PartialEq, Eq)]
 pub enum Kind {
-    Any,
-    /// Anything but a directory.
+    /// A regular file.
     File,
     Directory,
+    /// A symbolic link.
+    Link,
+}
+
+/// The kinds of the paths that are written; with none of them set, each path is.
+#[derive(Clone, Copy, PartialEq, Eq)]
+pub struct Kinds {
+    pub files: bool,
+    pub directories: bool,
+    pub links: bool,
 }
 
 /// What the options set, except for ignore files and rules.
@@ -46,11 +55,13 @@ pub struct Settings {
     pub limit: u64,
     /// The most names that a path may have.
     pub depth: Option<u64>,
-    pub kind: Kind,
+    pub kinds: Kinds,
     /// Whether symbolic links to directories are followed.
     pub follows: bool,
     /// Whether what git ignores is passed over.
     pub is_git: bool,
+    /// Whether names that are not UTF-8 are passed over, rather than reported.
+    pub is_utf8_only: bool,
 }
 
 /// Everything that the options set.
@@ -100,6 +111,32 @@ impl Valued {
     }
 }
 
+impl Kinds {
+    /// None of them.
+    pub fn new() -> Self
+        ensures { result ≡ no_kinds }
+    {
+        Kinds {
+            files: false,
+            directories: false,
+            links: false,
+        }
+    }
+
+    /// These kinds and one more.
+    fn with(self, kind: Kind) -> Self
+        ensures { result ≡ with_kind kind self }
+    {
+        let mut kinds = self;
+        match kind {
+            Kind::File => kinds.files = true,
+            Kind::Directory => kinds.directories = true,
+            Kind::Link => kinds.links = true,
+        }
+        kinds
+    }
+}
+
 impl Settings {
     /// The defaults of a command.
     pub fn new(name: Name) -> Self
@@ -114,9 +151,10 @@ impl Settings {
             inverts: false,
             limit: u64::MAX,
             depth: None,
-            kind: Kind::Any,
+            kinds: Kinds::new(),
             follows: false,
             is_git: false,
+            is_utf8_only: false,
         }
     }
 
@@ -130,6 +168,7 @@ impl Settings {
             ("-v", Name::Match) => settings.inverts = true,
             ("-L", Name::Find) => settings.follows = true,
             ("--git", Name::Find) => settings.is_git = true,
+            ("--utf8-only", Name::Find) => settings.is_utf8_only = true,
             ("-s", Name::Find) => return None,
             (_, Name::Find | Name::Match | Name::Explain)
                 if set_match_option(&mut settings.options, word) => {}
@@ -168,7 +207,8 @@ impl<'a, A: Allocator + Copy> Options<'a, A> {
                 self.settings.depth = Some(depth);
             }
             Valued::Kind => {
-                self.settings.kind = parse_kind(word).ok_or(UsageFault::Word(Why::Kind, word))?;
+                let kind = parse_kind(word).ok_or(UsageFault::Word(Why::Kind, word))?;
+                self.settings.kinds = self.settings.kinds.with(kind);
             }
             Valued::Rule => self.rules.push(word)?,
             Valued::File => self.files.push(word)?,
@@ -184,13 +224,14 @@ impl<'a, A: Allocator + Copy> Options<'a, A> {
     }
 }
 
-/// Parses a kind: `f` or `d`.
+/// Parses a kind: `f`, `d` or `l`.
 fn parse_kind(word: &str) -> Option<Kind>
     ensures { result ≡ kind_of word.now }
 {
     match word {
         "f" => Some(Kind::File),
         "d" => Some(Kind::Directory),
+        "l" => Some(Kind::Link),
         _ => None,
     }
 }

@@ -1,6 +1,6 @@
 //! What is wrong with a command line.
 ghost use Rattle.std.specs.Prelude.{◌≡◌, Some};
-ghost use Rattle.globs.specs.Faults.{help_words, subject_words, usage_words, why_words};
+ghost use Rattle.globs.specs.Faults.{foreign_words, help_words, instead_words, subject_words, usage_words, why_words};
 ghost use Rattle.globs.specs.declared.usage.UsageFault.TheVariants.{Word};
 
 use crate::name::Name;
@@ -86,7 +86,8 @@ impl Display for UsageLine<'_> {
             UsageFault::Word(why, word) => {
                 let subject = Subject { why, word };
                 let help = Help { name: self.name };
-                write!(f, "{subject}{}: {help}", why.words(self.name))
+                let instead = instead_of(self.name, why, word);
+                write!(f, "{subject}{}{instead}: {help}", why.words(self.name))
             }
             UsageFault::Memory => f.write_str("out of memory"),
         }
@@ -130,7 +131,7 @@ impl Why {
             Why::Valueless => " needs a value",
             Why::Limit => " is no limit: -n takes a number below 2 to the power of 64",
             Why::Depth => " is no depth: --max-depth takes a number below 2 to the power of 64",
-            Why::Kind => " is no kind: -t takes f or d",
+            Why::Kind => " is no kind: -t takes f, d or l, and may be given again",
             Why::RuleFile => " is no name: --ignore-files takes one, such as .gitignore",
             Why::Late => " stands after an operand: options come first",
             Why::Bare => match name {
@@ -143,6 +144,35 @@ impl Why {
             Why::Command => " is no command",
             Why::Empty => "there is no command",
         }
+    }
+}
+
+/// What the line says further of a word that is an option of another tool, for `find`: what to write instead. For other
+/// words nothing.
+fn instead_of(name: Option<Name>, why: Why, word: &str) -> &'static str
+    ensures { result.now ≡ instead_words name why word.now }
+{
+    let is_asked = matches!(why, Why::Unknown | Why::Late) && matches!(name, Some(Name::Find));
+    if is_asked { foreign(word) } else { "" }
+}
+
+/// What to write instead of an option that other tools have.
+fn foreign(word: &str) -> &'static str
+    ensures { result.now ≡ foreign_words word.now }
+{
+    match word {
+        "-type" | "--type" => "; -t f, -t d and -t l ask for kinds",
+        "-maxdepth" | "--depth" => "; --max-depth N says how deep",
+        "-name" | "-path" | "-g" | "--glob" => "; a pattern says what names: '**/*.rs'",
+        "-iname" | "-ipath" => "; -i and a pattern say what names: -i '**/*.rs'",
+        "-e" | "--extension" => "; a pattern says which extension: '**/*.rs'",
+        "-print0" | "--print0" => "; -0 ends each path in a NUL",
+        "-exec" | "--exec" => "; -0 and xargs -0 run a command on the paths",
+        "-not" | "-prune" | "-E" | "--exclude" => "; -x RULE ignores what RULE names",
+        "-H" | "--hidden" | "-u" | "--no-ignore" => "; nothing is hidden or ignored by default",
+        "-follow" | "--follow" => "; -L follows links",
+        "-o" | "-or" => "; several patterns may be given",
+        _ => "",
     }
 }
 

@@ -9,5 +9,5 @@ unfolding Fulfils
 returns-in-Find-clause-request g c =
     rw c.in-Find.is (
       (c.requires, refl),
-      FindsUnignored-less g.W.Write.contents (bytes_eq c.args.asked.now.options.directory c.args.disks.directory.now) _ _ _ _ _ _ _ _ c.find_asked.ensures.found,
+      FindsUnignored-less g.W.Write.contents (bytes_eq c.args.asked.now.options.directory c.args.disks.directory.now) _ _ _ _ _ _ _ c.find_asked.ensures.found,
     )

@@ -13,14 +13,14 @@ use Rattle.glob_text.specs.Text.{Text}
 use Rattle.glob_tree.specs.Content.{Key, is_dir}
 use Rattle.glob_tree.specs.Paths.{is_proper}
 use Rattle.globs.specs.Chosen.{Chosen}
-use Rattle.globs.specs.declared.options.Kind.{Kind}
-use Rattle.globs.specs.declared.options.Kind.TheVariants.{Any, File, Directory}
+use Rattle.globs.specs.Find.Kinds.{sifts}
+use Rattle.globs.specs.declared.options.Kinds.{Kinds}
 
--- the kinds that are found
-abbrev pub wanted_of : Kind → Wanted
-wanted_of Any = wanted.All
-wanted_of File = wanted.Others
-wanted_of Directory = wanted.Directories
+-- which paths are found: where only directories, or no directories are asked for, only those
+abbrev pub wanted_of : Kinds → Wanted
+wanted_of kinds =
+    if kinds.directories then (if sifts kinds then wanted.All else wanted.Directories)
+    else (if sifts kinds then wanted.Others else wanted.All)
 
 -- the most names of a path
 abbrev pub depth_of : Option ℕ → ℕ
@@ -61,7 +61,7 @@ aim o list patterns known = record {
   options = o.settings.options;
   patterns = patterns;
   depth = depth_of o.settings.depth;
-  is_wanted = λ kind. wants (wanted_of o.settings.kind) (is_dir kind);
+  is_wanted = λ kind. wants (wanted_of o.settings.kinds) (is_dir kind);
   first = first_lists o.settings.is_git (is_ruled o) list;
   rules_in = rules_from known (rule_files o);
   last = last_lists o.settings.is_git known;
@@ -86,7 +86,7 @@ IgnoresByList o =
 pub record IsAsked {A : Type 0} (o : Chosen) (list : Ignores) (after : List Ignores) (s : Settings A) : Type 0 where
   pub options : s.options ≡ o.settings.options
   pub depth : s.depth ≡ depth_of o.settings.depth
-  pub wanted : s.wanted ≡ wanted_of o.settings.kind
+  pub wanted : s.wanted ≡ wanted_of o.settings.kinds
   pub limit : s.limit ≡ o.settings.limit
   pub first : s.first.items ≡ first_lists o.settings.is_git (is_ruled o) list
   pub last : s.last.items ≡ after

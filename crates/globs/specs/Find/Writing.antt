@@ -37,15 +37,17 @@ WritesGifts end gifts old new status =
 abbrev pub status_of : Findings → ℕ
 status_of findings = if findings.has_fault then 2 else (if findings.has_path then 0 else 1)
 
--- the record of what a search gives; a fault has none
-abbrev pub item_record : {A : Type 0} → (end : ℕ) → Result (FoundPath A) (SearchFault A) → List ℕ
-item_record end (Ok found) = ended_record end (string_bytes found.path)
-item_record end (Err e) = []
+-- the record of what a search gives; a fault has none, nor has a path that is not kept
+abbrev pub item_record : {A : Type 0} → (keeps : Text → Bool) → (end : ℕ) → Result (FoundPath A) (SearchFault A) → List ℕ
+item_record keeps end (Ok found) =
+    if keeps (string_bytes found.path) then ended_record end (string_bytes found.path) else []
+item_record keeps end (Err e) = []
 
 -- the findings with one more item
-abbrev pub noting : {A : Type 0} → Findings → Result (FoundPath A) (SearchFault A) → Findings
-noting findings (Ok found) = record findings { has_path = true }
-noting findings (Err e) = record findings { has_fault = true }
+abbrev pub noting : {A : Type 0} → (keeps : Text → Bool) → Findings → Result (FoundPath A) (SearchFault A) → Findings
+noting keeps findings (Ok found) =
+    if keeps (string_bytes found.path) then record findings { has_path = true } else findings
+noting keeps findings (Err e) = record findings { has_fault = true }
 
 -- the search ends with this fault
 abbrev pub is_end : {A : Type 0} → SearchFault A → Bool

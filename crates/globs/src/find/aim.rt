@@ -5,8 +5,9 @@ ghost use Rattle.glob_text.specs.Text.{Text};
 ghost use Rattle.globs.specs.Find.Aiming.{IgnoresByList, IsAsked, depth_of, first_lists, git_lists, git_names, heeds, is_ruled, last_lists, lists_of, rule_files, wanted_of};
 
 use crate::find::fault::report_refusals;
+use crate::find::kinds::sifts;
 use crate::ignoring::RulesFault;
-use crate::options::{Kind, Options};
+use crate::options::{Kinds, Options};
 use glob_console::ErrorLines;
 use glob_rules::IgnoreList;
 use glob_search::{RuleTexts, Settings, Wanted};
@@ -58,8 +59,8 @@ pub fn settings_of<A: Allocator + Copy>(
     Ok(Settings {
         options: settings.options,
         depth: depth_of(settings.depth),
-        wanted: wanted_of(settings.kind),
-        kinds: false,
+        wanted: wanted_of(settings.kinds),
+        kinds: sifts(settings.kinds),
         limit: settings.limit,
         first,
         last,
@@ -85,14 +86,14 @@ fn depth_of(depth: Option<u64>) -> usize
     }
 }
 
-/// Which kinds are found.
-fn wanted_of(kind: Kind) -> Wanted
-    ensures { result ≡ wanted_of kind }
+/// Which paths are found. Those that are no directories may still be sifted by their kinds.
+fn wanted_of(kinds: Kinds) -> Wanted
+    ensures { result ≡ wanted_of kinds }
 {
-    match kind {
-        Kind::Any => Wanted::All,
-        Kind::File => Wanted::Others,
-        Kind::Directory => Wanted::Directories,
+    match (kinds.directories, sifts(kinds)) {
+        (true, false) => Wanted::Directories,
+        (false, true) => Wanted::Others,
+        (true, true) | (false, false) => Wanted::All,
     }
 }
 

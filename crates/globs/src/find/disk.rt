@@ -51,6 +51,8 @@ impl<T: Drop, X: Drop, A: Allocator> Disks<'_, T, X, A> {
 pub struct Start<'a> {
     pub rt: HostRuntime,
     pub directory: &'a str,
+    /// Whether names that are not UTF-8 are passed over.
+    pub is_utf8_only: bool,
 }
 
 /// The texts of the files on it, without byte order marks.
@@ -59,9 +61,9 @@ pub struct StartTexts<'a> {
     pub start: Start<'a>,
 }
 
-/// The disk from a directory on. Each name that is not UTF-8, ignored or not, is a line of `errors`, and so is each path
-/// that cannot be looked up and that the rules of the command line do not ignore. That there was one is noted. Tests,
-/// not clauses, show it.
+/// The disk from a directory on. Each name that is not UTF-8, ignored or not, is a line of `errors`, unless these are
+/// passed over, and so is each path that cannot be looked up and that the rules of the command line do not ignore. That
+/// there was one is noted. Tests, not clauses, show it.
 pub fn disk_of<'a, E: Write>(
     start: Start<'a>,
     links: Links,
@@ -72,6 +74,7 @@ pub fn disk_of<'a, E: Write>(
     let alloc = start.rt.alloc();
     let strays = StrayLines {
         alloc,
+        is_utf8_only: start.is_utf8_only,
         errors,
         has_any: has_stray,
         rules,

@@ -1,5 +1,5 @@
 //! What a search finds, a record for each path.
-ghost use Rattle.std.specs.Prelude.{◌≡◌, ◌≤◌, ◌++◌, false, true, [], List, Option, Some, IfOk, OnErr, OnOk};
+ghost use Rattle.std.specs.Prelude.{◌≡◌, ◌≤◌, ◌++◌, Bool, false, true, [], List, Option, Some, IfOk, OnErr, OnOk};
 ghost use Rattle.glob_console.specs.Private.Writing.{Queues};
 ghost use Rattle.glob_lines.specs.Lines.{AppendsFront, with_ends};
 ghost use Rattle.glob_search.specs.Aims.{AreTextsOf};
@@ -9,9 +9,11 @@ ghost use Rattle.glob_search.specs.Visiting.{Gift};
 ghost use Rattle.glob_text.specs.Text.{Text};
 ghost use Rattle.glob_tree.specs.Answers.{IsTold};
 ghost use Rattle.glob_tree.specs.Content.{Content};
+ghost use Rattle.globs.specs.Find.Kinds.{kept, sieved};
 ghost use Rattle.globs.specs.Find.Writing.{WritesGifts, found_paths, is_last, item_record, noting, status_of};
 
 use crate::find::fault::{FindFault, report_search};
+use crate::find::kinds::{PathKinds, Sieve};
 use crate::find::lines::Lines;
 use glob_console::{ErrorLines, FAULT, FOUND, UNFOUND};
 use glob_search::{Found, RuleTexts, Search, SearchFault};
@@ -53,13 +55,14 @@ impl Findings {
     }
 }
 
-/// Searches to the end. Each path that is found becomes a record of `output`, and what the search could not do a line
-/// of `errors`, after the paths before it. Returns the exit status.
-pub fn run_search<A, T, X, W, E>(
+/// Searches to the end. Each path that is found and that the sieve keeps becomes a record of `output`, and what the
+/// search could not do a line of `errors`, after the paths before it. Returns the exit status.
+pub fn run_search<A, T, X, F, W, E>(
     alloc: A,
     search: Search<A>,
     tree: &mut T,
     texts: &mut X,
+    sieve: &Sieve<'_, '_, '_, F>,
     end: u8,
     output: &mut W,
     errors: &mut ErrorLines<'_, A, E>,
@@ -68,28 +71,31 @@ where
     A: Allocator + Copy,
     T: Tree<Alloc = A>,
     X: RuleTexts<Alloc = A>,
+    F: PathKinds,
     W: Write,
     E: Write,
     ensures most { result ≤ 2 }
-    ensures written { (c : Content) (a : Aim) (known : Text → Option Text)
+    ensures written { (keeps : Text → Bool) → sieved F.kinds sieve.now ≡ Some keeps
+        → (c : Content) (a : Aim) (known : Text → Option Text)
         → IsTold (T.tells tree.old) c → X.texts texts.old ≡ Some known
         → AreTextsOf c a search.files known → (all : List Gift) → HasGiven all c a known [] search
-        → WritesGifts end all
+        → WritesGifts end (kept keeps all)
         (W.contents output.old) (W.contents output.new) result }
 {
     let mut search = search;
-    match write_found(alloc, &mut search, tree, texts, end, output, errors) {
+    match write_found(alloc, &mut search, tree, texts, sieve, end, output, errors) {
         Ok(findings) => findings.status(),
         Err(find_fault) => find_fault.report(errors),
     }
 }
 
-/// Writes what is found, and the lines about what could not be done.
-fn write_found<A, T, X, W, E>(
+/// Writes what is found and kept, and the lines about what could not be done.
+fn write_found<A, T, X, F, W, E>(
     alloc: A,
     search: &mut Search<A>,
     tree: &mut T,
     texts: &mut X,
+    sieve: &Sieve<'_, '_, '_, F>,
     end: u8,
     output: &mut W,
     errors: &mut ErrorLines<'_, A, E>,
@@ -98,18 +104,21 @@ where
     A: Allocator + Copy,
     T: Tree<Alloc = A>,
     X: RuleTexts<Alloc = A>,
+    F: PathKinds,
     W: Write,
     E: Write,
-    ensures written { (c : Content) (a : Aim) (known : Text → Option Text)
+    ensures written { (keeps : Text → Bool) → sieved F.kinds sieve.now ≡ Some keeps
+        → (c : Content) (a : Aim) (known : Text → Option Text)
         → IsTold (T.tells tree.old) c → X.texts texts.old ≡ Some known
         → AreTextsOf c a search.old.files known → (all : List Gift) → HasGiven all c a known [] search.old
-        → IfOk result (λ findings. WritesGifts end all
+        → IfOk result (λ findings. WritesGifts end (kept keeps all)
         (W.contents output.old) (W.contents output.new) (status_of findings)) }
-    ensures some { (c : Content) (a : Aim) (known : Text → Option Text)
+    ensures some { (keeps : Text → Bool) → sieved F.kinds sieve.now ≡ Some keeps
+        → (c : Content) (a : Aim) (known : Text → Option Text)
         → IsTold (T.tells tree.old) c → X.texts texts.old ≡ Some known
         → AreTextsOf c a search.old.files known → (all : List Gift) → HasGiven all c a known [] search.old
-        → OnErr result (AppendsFront
-        (W.contents output.old) (W.contents output.new) (with_ends end (found_paths all))) }
+        → OnErr result (AppendsFront (W.contents output.old) (W.contents output.new)
+        (with_ends end (found_paths (kept keeps all)))) }
 {
     let mut lines = Lines::new(alloc, end)?;
     let mut findings = Findings::new();
@@ -122,7 +131,16 @@ where
             }
             Some(item) => {
                 let spent = search.spent();
-                if write_item(item, spent, &mut lines, &mut findings, output, errors)? {
+                if write_item(
+                    alloc,
+                    sieve,
+                    item,
+                    spent,
+                    &mut lines,
+                    &mut findings,
+                    output,
+                    errors,
+                )? {
                     return Ok(findings);
                 }
             }
@@ -131,9 +149,11 @@ where
     Err(FindFault::Memory)
 }
 
-/// Writes what a search has given, where it has spent so many units, and notes it. Returns whether the search ends with
-/// that: then no line waits.
-fn write_item<A, W, E>(
+/// Writes what a search has given, where it has spent so many units, and notes it, unless it is a path that the sieve
+/// does not keep. Returns whether the search ends with that: then no line waits.
+fn write_item<A, F, W, E>(
+    alloc: A,
+    sieve: &Sieve<'_, '_, '_, F>,
     item: Result<Found<A>, SearchFault<A>>,
     spent: u64,
     lines: &mut Lines<A>,
@@ -143,19 +163,26 @@ fn write_item<A, W, E>(
 ) -> Result<bool, FindFault>
 where
     A: Allocator + Copy,
+    F: PathKinds,
     W: Write,
     E: Write,
     ensures end { lines.new.end ≡ lines.old.end }
     ensures last { IfOk result (λ ends. ends ≡ is_last item) }
-    ensures noted { OnOk result (findings.new ≡ noting findings.old item) }
+    ensures noted { (keeps : Text → Bool) → sieved F.kinds sieve.now ≡ Some keeps
+        → OnOk result (findings.new ≡ noting keeps findings.old item) }
     ensures none { IfOk result (λ ends. ends ≡ true → lines.new.waiting.items ≡ []) }
-    ensures written { OnOk result (Queues (W.contents output.old) lines.old.waiting.items
-        (W.contents output.new) lines.new.waiting.items (item_record lines.old.end item)) }
-    ensures some { OnErr result (AppendsFront (W.contents output.old) (W.contents output.new)
-        (lines.old.waiting.items ++ item_record lines.old.end item)) }
+    ensures written { (keeps : Text → Bool) → sieved F.kinds sieve.now ≡ Some keeps
+        → OnOk result (Queues (W.contents output.old) lines.old.waiting.items
+        (W.contents output.new) lines.new.waiting.items (item_record keeps lines.old.end item)) }
+    ensures some { (keeps : Text → Bool) → sieved F.kinds sieve.now ≡ Some keeps
+        → OnErr result (AppendsFront (W.contents output.old) (W.contents output.new)
+        (lines.old.waiting.items ++ item_record keeps lines.old.end item)) }
 {
     match item {
         Ok(found) => {
+            if !sieve.keeps(alloc, found.path.as_str())? {
+                return Ok(false);
+            }
             findings.has_path = true;
             lines.add(found.path.as_str(), spent, output)?;
             Ok(false)

@@ -18,12 +18,14 @@ use std::collections::BTreeSet;
 use std::fmt::{self, Display};
 use std::io::{self, Write};
 
-/// Writes a line for each name that is not UTF-8, ignored or not, and for each path that could not be looked up and
-/// that the rules of the command line do not ignore; and notes that there was one. A path has one line, however often
-/// it is looked up, as far as there is memory to know it. Tests, not clauses, show it.
+/// Writes a line for each name that is not UTF-8, ignored or not, unless these are passed over, and for each path that
+/// could not be looked up and that the rules of the command line do not ignore; and notes that there was one. A path has
+/// one line, however often it is looked up, as far as there is memory to know it. Tests, not clauses, show it.
 #[derive(Drop)]
 pub struct StrayLines<'a, A: Allocator, E> {
     pub alloc: A,
+    /// Whether names that are not UTF-8 are passed over.
+    pub is_utf8_only: bool,
     pub errors: &'a mut E,
     pub has_any: &'a Cell<bool>,
     pub rules: &'a SharedRules<A>,
@@ -32,6 +34,9 @@ pub struct StrayLines<'a, A: Allocator, E> {
 
 impl<A: Allocator + Copy, E: Write> Strays for StrayLines<'_, A, E> {
     fn stray(&mut self, directory: &str, name: &[u8]) {
+        if self.is_utf8_only {
+            return;
+        }
         self.has_any.set(true);
         let line = StrayLine { directory, name };
         write_line(self.alloc, PREFIX, &line, self.errors);
