@@ -72,11 +72,17 @@ reading name o (word ∷ next ∷ words) =
       ]
     ]
 
--- the words after `help`
+-- the page that the word after `help` names: that of a command or, for `help` itself, of the program
+abbrev pub page_named : Text → Option (Option Name)
+page_named word =
+    if bytes_eq word (codes "help") || is_help word then Some None else option_map (λ name. Some name) (name_of word)
+
+-- the words after `help`, at most one
 abbrev pub help_asked : List Text → Request
 help_asked [] = Helps None
-help_asked (word ∷ words) =
-    unwrap_or (option_map (λ name. Helps (Some name)) (name_of word)) (Refused None why.Command word)
+help_asked (word ∷ []) = unwrap_or (option_map Helps (page_named word)) (Refused None why.Command word)
+help_asked (word ∷ extra ∷ words) =
+    if is_some (page_named word) then Refused None why.Surplus extra else Refused None why.Command word
 
 -- the request of a command with this reading of its words
 abbrev pub request_of_reading : Name → Reading → Request

@@ -31,7 +31,7 @@ globs: shell patterns, ignore lists and directory walks
   globs explain [OPTION].. PATTERN TEXT
                                      show why a pattern matches a text, or does not
   globs escape TEXT..                write patterns that match exactly these texts
-  globs help [COMMAND]               write this page, or that of a command
+  globs help [COMMAND]               write this page, or that of one command
   globs --version                    write the version
 
 Quote a pattern: globs find '**/*.rs'. A shell would expand it otherwise.
@@ -51,7 +51,8 @@ Options stand before the patterns, files or texts, each a word of its own: -t f,
 Status:
   0         something was found, copied or matched; for escape and help, all was written
   1         nothing was found, copied or matched
-  2         a fault: lines on standard error, but no line where the reader of the output goes away
+  2         a fault: lines on standard error
+  141       the reader of the output went away, as in globs find '**' | head. No line says so
 ";
 
 /// The page of `find`.

@@ -17,6 +17,7 @@ mod escape;
 mod explain;
 mod files;
 mod find;
+mod gone;
 mod help;
 mod ignore;
 mod ignoring;
@@ -37,6 +38,7 @@ use glob_console::{ErrorLines, FAULT, arguments, words_of, write_line, write_tex
 use glob_lines::Watch;
 use glob_search::RuleTexts;
 use glob_tree::{Links, Tree};
+use gone::{Heard, heard_status};
 use ignore::run_ignore;
 use matching::match_words;
 use name::Name;
@@ -183,6 +185,42 @@ fn directory_asked<'a, A: Allocator + Copy>(alloc: A, words: &'a [&'a str]) -> &
     }
 }
 
+/// Runs the command that `words` ask for over the real disk and the standard streams, and returns the exit status.
+fn run_here(rt: HostRuntime, words: &[&str]) -> u8 {
+    let (has_stray, is_gone) = (Cell::new(false), Cell::new(false));
+    let rules = SharedRules::new();
+    let directory = directory_asked(rt.alloc(), words);
+    let start = Start { rt, directory };
+    let (mut kept_errors, mut followed_errors) = (rt.stderr(), rt.stderr());
+    let disks = Disks {
+        kept: disk_of(start, Links::Kept, &mut kept_errors, &has_stray, &rules),
+        followed: disk_of(
+            start,
+            Links::Followed,
+            &mut followed_errors,
+            &has_stray,
+            &rules,
+        ),
+        texts: StartTexts { start },
+        directory,
+        rules: &rules,
+    };
+    let mut output = Heard {
+        writer: rt.stdout(),
+        is_gone: &is_gone,
+    };
+    let status = run_words(
+        rt.alloc(),
+        disks,
+        &DiskFiles { rt },
+        words,
+        &mut Watch::new(rt.stdin()),
+        &mut output,
+        &mut rt.stderr(),
+    );
+    heard_status(is_gone.get(), last_status(has_stray.get(), status))
+}
+
 fn main(rt: HostRuntime) -> ExitCode {
     let alloc = rt.alloc();
     let mut stderr = rt.stderr();
@@ -196,34 +234,5 @@ fn main(rt: HostRuntime) -> ExitCode {
     let Ok(words) = words_of(alloc, arguments.as_slice()) else {
         return ExitCode::from(errors.fault("out of memory"));
     };
-    let has_stray = Cell::new(false);
-    let rules = SharedRules::new();
-    let start = Start {
-        rt,
-        directory: directory_asked(alloc, words.as_slice()),
-    };
-    let (mut kept_errors, mut followed_errors) = (rt.stderr(), rt.stderr());
-    let disks = Disks {
-        kept: disk_of(start, Links::Kept, &mut kept_errors, &has_stray, &rules),
-        followed: disk_of(
-            start,
-            Links::Followed,
-            &mut followed_errors,
-            &has_stray,
-            &rules,
-        ),
-        texts: StartTexts { start },
-        directory: start.directory,
-        rules: &rules,
-    };
-    let status = run_words(
-        alloc,
-        disks,
-        &DiskFiles { rt },
-        words.as_slice(),
-        &mut Watch::new(rt.stdin()),
-        &mut rt.stdout(),
-        &mut rt.stderr(),
-    );
-    ExitCode::from(last_status(has_stray.get(), status))
+    ExitCode::from(run_here(rt, words.as_slice()))
 }
