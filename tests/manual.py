@@ -28,6 +28,7 @@ COMPLETIONS = [
     ("globs find a --m", ""),
     ("globs find -i a -x b --m", ""),
     ("globs explain -", "-- -d -i -s"),
+    ("globs escape -", "-- -0"),
     ("globs find -", "-- --directory --git --ignore --ignore-files --max-depth -0 -C -L -d -i -n -t -x"),
     ("globs find --m", "--max-depth"),
     ("globs find -t ", "d f"),

@@ -9,6 +9,7 @@ ghost use Rattle.globs.specs.Requests.{IsWrong, IsWrongRequest, asked_reading, r
 
 use crate::name::Name;
 use crate::options::{Options, Valued};
+use crate::spelling::{attached, with_flags};
 use crate::usage::{UsageFault, UsageLine, Why};
 use std::alloc::Allocator;
 
@@ -130,7 +131,10 @@ impl<'a, A: Allocator + Copy> Asked<'a, A> {
                 };
                 options.take(option, value)?;
                 others
-            } else if let Some(settings) = options.settings.with_flag(name, word) {
+            } else if let Some((option, value)) = attached(name, word) {
+                options.take(option, value)?;
+                after
+            } else if let Some(settings) = with_flags(options.settings, name, word) {
                 options.settings = settings;
                 after
             } else {

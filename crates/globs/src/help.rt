@@ -30,7 +30,7 @@ globs: shell patterns, ignore lists and directory walks
   globs ignore [OPTION].. FILE..     copy the paths of standard input that rules do not ignore
   globs explain [OPTION].. PATTERN TEXT
                                      show why a pattern matches a text, or does not
-  globs escape TEXT..                write patterns that match exactly these texts
+  globs escape [OPTION].. TEXT..     write patterns that match exactly these texts
   globs help [COMMAND]               write this page, or that of one command
   globs --version                    write the version
 
@@ -44,9 +44,9 @@ Patterns:
   [*]       a literal *. In the same way: [?], [[], []], [{] and [}]
   a.{c,h}   a.c and a.h. Alternatives may be empty, or have braces of their own
 
-Options stand before the patterns, files or texts, each a word of its own: -t f, not -tf, and
---max-depth 2, not --max-depth=2. -- ends them: what is after it may begin with -. Among them
--h or --help writes the page of the command.
+Options stand before the patterns, files or texts. Letters without a value may be joined: -is is
+-i -s. A value is the next word, as in -t f, not -tf, or after =, as in --max-depth=2. -- ends the
+options: what is after it may begin with -. Among them -h or --help writes the page of the command.
 
 Status:
   0         something was found, copied or matched; for escape and help, all was written
@@ -209,9 +209,10 @@ Status:
 const ESCAPE: &str = "\
 globs escape: patterns that match exactly the given texts
 
-  globs escape TEXT..
+  globs escape [OPTION].. TEXT..
 
-  --  ends the options; there is no other. A TEXT that begins with - needs it
+  -0  each pattern ends in a NUL in place of a line feed
+  --  ends the options. A TEXT that begins with - needs it
 
 For each TEXT it writes the pattern that matches this text and no other, under each option but -i,
 and a line feed. So *.rs is written as [*].rs, and {a} as [{]a[}], which find and match do not

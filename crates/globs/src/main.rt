@@ -25,6 +25,7 @@ mod matching;
 mod name;
 mod options;
 mod patterns;
+mod spelling;
 mod usage;
 mod visible;
 
@@ -172,7 +173,7 @@ where
         Name::Match => match_words(alloc, settings, operands, input, output, errors),
         Name::Ignore => run_ignore(alloc, files, settings.end, operands, input, output, errors),
         Name::Explain => run_explain(alloc, settings.options, operands, output, errors),
-        Name::Escape => run_escape(alloc, operands, output, errors),
+        Name::Escape => run_escape(alloc, settings.end, operands, output, errors),
     }
 }
 
