@@ -131,6 +131,11 @@ A line is copied if one of the patterns matches all of it, as it comes: before m
 A line ends before a line feed, which the last may lack; a carriage return belongs to its line. No
 pattern matches a line that is not UTF-8. Files are not opened: globs match '*.rs' <FILE.
 
+Lines on standard error say what may have been meant: what a form of another tool is here, such as
+~/ or [^a], where one pattern matches nothing and contains it; that lines are read from standard
+input, where that is a terminal, or where none came and the last of several patterns may be a FILE;
+and -0, where the first line has a NUL.
+
 Status:
   0         a line was copied
   1         no line was copied
@@ -159,7 +164,8 @@ path that is not UTF-8 is left out, and a line on standard error says how many a
 looked at, but for the files.
 
 Paths are written as they come, before more input is read. A line ends before a line feed, which the
-last may lack. A carriage return belongs to its line.
+last may lack. A carriage return belongs to its line. Lines on standard error say that paths are
+read from standard input, where that is a terminal, and name -0, where the first has a NUL.
 
 Status:
   0         a path was copied

@@ -17,10 +17,12 @@ mod escape;
 mod explain;
 mod files;
 mod find;
+mod forms;
 mod gone;
 mod help;
 mod ignore;
 mod ignoring;
+mod input;
 mod matching;
 mod name;
 mod options;
@@ -41,11 +43,12 @@ use glob_search::RuleTexts;
 use glob_tree::{Links, Tree};
 use gone::{Heard, heard_status};
 use ignore::run_ignore;
+use input::note_terminal;
 use matching::match_words;
 use name::Name;
 use std::alloc::Allocator;
 use std::cell::Cell;
-use std::io::{Read, Write};
+use std::io::{IsTerminal, Read, Write};
 use std::process::ExitCode;
 
 /// The prefix of each fault on standard error.
@@ -177,12 +180,12 @@ where
     }
 }
 
-/// The directory that the words ask to begin in: the current one if it is empty, as it is where they ask for none, or
-/// without memory to read them.
-fn directory_asked<'a, A: Allocator + Copy>(alloc: A, words: &'a [&'a str]) -> &'a str {
+/// The command that the words ask for, if they do, and the directory to begin in: the current one if it is empty, as it
+/// is where they ask for none, or without memory to read them.
+fn asked_here<'a, A: Allocator + Copy>(alloc: A, words: &'a [&'a str]) -> (Option<Name>, &'a str) {
     match Command::parse(alloc, words) {
-        Ok(Command::Run(_, asked)) => asked.options.directory,
-        Ok(Command::Help(_) | Command::Version) | Err(_) => "",
+        Ok(Command::Run(name, asked)) => (Some(name), asked.options.directory),
+        Ok(Command::Help(_) | Command::Version) | Err(_) => (None, ""),
     }
 }
 
@@ -190,7 +193,13 @@ fn directory_asked<'a, A: Allocator + Copy>(alloc: A, words: &'a [&'a str]) -> &
 fn run_here(rt: HostRuntime, words: &[&str]) -> u8 {
     let (has_stray, is_gone) = (Cell::new(false), Cell::new(false));
     let rules = SharedRules::new();
-    let directory = directory_asked(rt.alloc(), words);
+    let (name, directory) = asked_here(rt.alloc(), words);
+    if rt.stdin().is_terminal() {
+        note_terminal(
+            name,
+            &mut ErrorLines::quiet(rt.alloc(), PREFIX, &mut rt.stderr()),
+        );
+    }
     let start = Start { rt, directory };
     let (mut kept_errors, mut followed_errors) = (rt.stderr(), rt.stderr());
     let disks = Disks {
