@@ -123,6 +123,7 @@ abbrev pub fault_words : FaultLines → Text
 fault_words lines = elim lines.fault [
   | pattern.Astray text column ↦
       marked_words lines.name (codes "no component may be empty, `.` or `..`") text.now column
+  | pattern.Parted text column ↦ marked_words lines.name (codes "find takes no / in a bracket") text.now column
   | pattern.Syntax text e ↦ marked_words lines.name (message_words (kind_of e.msg.now)) text.now e.pos
   | pattern.Braces text e ↦ brace_lines text.now e ++ 10 ∷ help_words (Some lines.name)
   | pattern.Memory ↦ codes "out of memory"

@@ -91,7 +91,7 @@ globs help shows what a PATTERN may have: ?, *, **, brackets and braces.
 
 A pattern matches a whole path, as src/main.rs, where no ?, * or bracket takes a /: '*.rs' is of
 names here, and '**/*.rs' also of those below. One that begins or ends with /, or has an empty
-component, . or .., is refused.
+component, . or .., is refused, and so is a bracket with a / in it.
 
 Nothing is skipped by default: neither names that begin with a . (see -d), nor what .gitignore
 names (--git), nor .git (-x .git). Rules of -x and --ignore come before those of --ignore-files and

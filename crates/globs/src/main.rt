@@ -30,6 +30,7 @@ mod patterns;
 mod spelling;
 mod usage;
 mod visible;
+mod wide;
 
 use command::{Asked, Command};
 use escape::run_escape;
