@@ -22,7 +22,13 @@ COMPLETIONS = [
     ("globs m", "match"),
     ("globs match -", "-- -0 -d -i -s -v"),
     ("globs match a", ""),
+    ("globs match a -", ""),
+    ("globs match -- -", ""),
+    ("globs find -t d -n 5 --m", "--max-depth"),
+    ("globs find a --m", ""),
+    ("globs find -i a -x b --m", ""),
     ("globs explain -", "-- -d -i -s"),
+    ("globs escape -", "-- -0"),
     ("globs find -", "-- --directory --git --ignore --ignore-files --max-depth -0 -C -L -d -i -n -t -x"),
     ("globs find --m", "--max-depth"),
     ("globs find -t ", "d f"),
@@ -32,6 +38,7 @@ COMPLETIONS = [
     ("globs find -C fo", "folder"),
     ("globs ignore -0 fo", "folder"),
     ("globs help f", "find"),
+    ("globs help find f", ""),
 ]
 NO_DASHES = {line: found.removeprefix("-- ") for line, found in COMPLETIONS}
 OTHERS = {"bash": {}, "zsh": NO_DASHES, "fish": NO_DASHES | {"globs ": "escape explain find help ignore match",

@@ -8,3 +8,4 @@ pub mod ListLemmas
 pub mod RequestLemmas
 pub mod SearchedLemmas
 pub mod SourceLemmas
+pub mod SpellingLemmas

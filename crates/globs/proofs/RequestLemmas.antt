@@ -8,7 +8,8 @@ use Rattle.globs.specs.Chosen.{Chosen}
 use Rattle.globs.specs.CommandLine.{command_asked, is_help, name_of, reading, request_asked, request_of_reading}
 use Rattle.globs.specs.Reading.{Reading}
 use Rattle.globs.specs.Requests.{IsWrong, IsWrongRequest}
-use Rattle.globs.specs.Options.{new_options, value_taken, valued_of, with_flag}
+use Rattle.globs.specs.Options.{new_options, value_taken, valued_of}
+use Rattle.globs.specs.Spelling.{attached, with_flags}
 use Rattle.globs.specs.declared.name.Name.{Name}
 use Rattle.globs.specs.declared.options.Settings.{Settings}
 use Rattle.globs.specs.declared.options.Valued.{Valued}
@@ -20,18 +21,31 @@ abbrev pub behind : List (Bor (List ℕ)) → List (Bor (List ℕ))
 behind words = take (length words - 1) (drop 1 words)
 
 module _ (name : Name) (o : Chosen) where
-  at_flag : (settings : Settings) (word : List ℕ) (words : List (List ℕ)) → is_help word ≡ false → valued_of name word ≡ None → with_flag name word o.settings ≡ Some settings
+  at_flags : (settings : Settings) (word : List ℕ) (words : List (List ℕ)) → is_help word ≡ false → valued_of name word ≡ None → attached name word ≡ None → with_flags name word o.settings ≡ Some settings
       → reading name o (word ∷ words) ≡ reading name (record o { settings = settings }) words
-  at_flag settings word [] page valued flag = rw page (rw valued (rw flag refl))
-  at_flag settings word (next ∷ words) page valued flag = rw (reading, page) (rw (reading, valued) (rw (reading, flag) refl))
+  at_flags settings word [] page valued apart flags = rw page (rw valued (rw apart (rw flags refl)))
+  at_flags settings word (next ∷ words) page valued apart flags = rw (reading, page) (rw (reading, valued) (rw (reading, apart) (rw (reading, flags) refl)))
 
-  -- at an option without a value
-  pub reading_flag : (settings : Settings) (none : Bor (List ℕ)) (words : List (Bor (List ℕ))) → 1 ≤ length words
-      → is_help (get_or words 0 none).now ≡ false → valued_of name (get_or words 0 none).now ≡ None → with_flag name (get_or words 0 none).now o.settings ≡ Some settings
+  -- at options without values
+  pub reading_flags : (settings : Settings) (none : Bor (List ℕ)) (words : List (Bor (List ℕ))) → 1 ≤ length words
+      → is_help (get_or words 0 none).now ≡ false → valued_of name (get_or words 0 none).now ≡ None → attached name (get_or words 0 none).now ≡ None → with_flags name (get_or words 0 none).now o.settings ≡ Some settings
       → reading name o (map (λ w. w.now) words) ≡ reading name (record o { settings = settings }) (map (λ w. w.now) (behind words))
-  reading_flag settings none [] long page valued flag = absurd (omega (arith, long))
-  reading_flag settings none (word ∷ words) long page valued flag =
-      rw (take_rest (word ∷ words) 1) (at_flag settings word.now (map (λ w. w.now) words) page valued flag)
+  reading_flags settings none [] long page valued apart flags = absurd (omega (arith, long))
+  reading_flags settings none (word ∷ words) long page valued apart flags =
+      rw (take_rest (word ∷ words) 1) (at_flags settings word.now (map (λ w. w.now) words) page valued apart flags)
+
+  at_attached : (v : Valued) (value : List ℕ) (taken : Chosen) (word : List ℕ) (words : List (List ℕ)) → is_help word ≡ false → valued_of name word ≡ None → attached name word ≡ Some (v, value) → value_taken v value o ≡ Ok taken
+      → reading name o (word ∷ words) ≡ reading name taken words
+  at_attached v value taken word [] page valued has is = rw page (rw valued (rw has (rw is refl)))
+  at_attached v value taken word (next ∷ words) page valued has is = rw (reading, page) (rw (reading, valued) (rw (reading, has) (rw (reading, is) refl)))
+
+  -- at an option whose word has its value
+  pub reading_attached : (v : Valued) (value : List ℕ) (taken : Chosen) (none : Bor (List ℕ)) (words : List (Bor (List ℕ))) → 1 ≤ length words
+      → is_help (get_or words 0 none).now ≡ false → valued_of name (get_or words 0 none).now ≡ None → attached name (get_or words 0 none).now ≡ Some (v, value) → value_taken v value o ≡ Ok taken
+      → reading name o (map (λ w. w.now) words) ≡ reading name taken (map (λ w. w.now) (behind words))
+  reading_attached v value taken none [] long page valued has is = absurd (omega (arith, long))
+  reading_attached v value taken none (word ∷ words) long page valued has is =
+      rw (take_rest (word ∷ words) 1) (at_attached v value taken word.now (map (λ w. w.now) words) page valued has is)
 
   -- at an option and its value
   pub reading_value : (v : Valued) (taken : Chosen) (none other : Bor (List ℕ)) (words : List (Bor (List ℕ))) → 1 ≤ length words → 1 ≤ length (behind words)

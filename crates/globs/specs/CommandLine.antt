@@ -3,8 +3,9 @@ use Rattle.std.specs.Prelude.{◌||◌, ◌&&◌, not, Bool, true, false, List, 
 use Rattle.glob_text.specs.Text.{Text}
 use Rattle.glob_console.specs.Words.{is_option}
 use Rattle.globs.specs.Chosen.{Chosen}
-use Rattle.globs.specs.Options.{new_options, value_taken, valued_of, with_flag}
+use Rattle.globs.specs.Options.{new_options, value_taken, valued_of}
 use Rattle.globs.specs.Reading.{Reading, Asks, Page, Wrong, Request, Runs, Helps, VersionLine, Refused}
+use Rattle.globs.specs.Spelling.{attached, with_flags}
 use Rattle.globs.specs.declared.name.Name.{Name}
 use Rattle.globs.specs.declared.name.Name.TheVariants.{Find, Match, Ignore, Explain, Escape}
 use Rattle.globs.specs.declared.usage.Why.TheVariants as why
@@ -54,29 +55,41 @@ operands_asked name o (word ∷ next ∷ words) =
 abbrev pub is_help : Text → Bool
 is_help word = bytes_eq word (codes "-h") || bytes_eq word (codes "--help")
 
--- The remaining words of a command, after the options in `o`. An option with a value takes the word after it. Words
--- after one that asks for help are ignored.
+-- The remaining words of a command, after the options in `o`. An option with a value takes the word after it, unless its
+-- own word has one. Words after one that asks for help are ignored.
 abbrev pub reading : Name → Chosen → List Text → Reading
 reading name o [] = Wrong why.Bare []
 reading name o (word ∷ []) =
     if is_help word then Page
     else (if is_some (valued_of name word) then Wrong why.Valueless word
-    else (if is_some (with_flag name word o.settings) then Wrong why.Bare [] else operands_asked name o (word ∷ [])))
+    else elim (attached name word) [
+      | Some it ↦ elim (value_taken it.0 it.1 o) [ Ok taken ↦ Wrong why.Bare [] | Err w ↦ Wrong w it.1 ]
+      | None ↦ if is_some (with_flags name word o.settings) then Wrong why.Bare [] else operands_asked name o (word ∷ [])
+    ])
 reading name o (word ∷ next ∷ words) =
     if is_help word then Page
     else elim (valued_of name word) [
       | Some option ↦ elim (value_taken option next o) [ Ok taken ↦ reading name taken words | Err w ↦ Wrong w next ]
-      | None ↦ elim (with_flag name word o.settings) [
-        | Some settings ↦ reading name (record o { settings = settings }) (next ∷ words)
-        | None ↦ operands_asked name o (word ∷ next ∷ words)
+      | None ↦ elim (attached name word) [
+        | Some it ↦ elim (value_taken it.0 it.1 o) [ Ok taken ↦ reading name taken (next ∷ words) | Err w ↦ Wrong w it.1 ]
+        | None ↦ elim (with_flags name word o.settings) [
+          | Some settings ↦ reading name (record o { settings = settings }) (next ∷ words)
+          | None ↦ operands_asked name o (word ∷ next ∷ words)
+        ]
       ]
     ]
 
--- the words after `help`
+-- the page that the word after `help` names: that of a command or, for `help` itself, of the program
+abbrev pub page_named : Text → Option (Option Name)
+page_named word =
+    if bytes_eq word (codes "help") || is_help word then Some None else option_map (λ name. Some name) (name_of word)
+
+-- the words after `help`, at most one
 abbrev pub help_asked : List Text → Request
 help_asked [] = Helps None
-help_asked (word ∷ words) =
-    unwrap_or (option_map (λ name. Helps (Some name)) (name_of word)) (Refused None why.Command word)
+help_asked (word ∷ []) = unwrap_or (option_map Helps (page_named word)) (Refused None why.Command word)
+help_asked (word ∷ extra ∷ words) =
+    if is_some (page_named word) then Refused None why.Surplus extra else Refused None why.Command word
 
 -- the request of a command with this reading of its words
 abbrev pub request_of_reading : Name → Reading → Request

@@ -53,10 +53,11 @@ why_words name why.Limit = codes " is no limit: -n takes a number below 2 to the
 why_words name why.Depth = codes " is no depth: --max-depth takes a number below 2 to the power of 64"
 why_words name why.Kind = codes " is no kind: -t takes f, d or l, and may be given again"
 why_words name why.RuleFile = codes " is no name: --ignore-files takes one, such as .gitignore"
-why_words name why.Late = codes " stands after an operand: options come first"
+why_words name why.Late = codes " stands after an operand, where it may be a name: options come first"
 why_words name why.Bare = bare_words name
 why_words name why.Textless = codes "there is no text"
 why_words name why.Extra = codes " stands after the text: quote the pattern"
+why_words name why.Surplus = codes " is too much: help takes one command"
 why_words name why.Command = codes " is no command"
 why_words name why.Empty = codes "there is no command"
 
@@ -76,6 +77,7 @@ subject_words why.Late word = quoted word
 subject_words why.Bare word = []
 subject_words why.Textless word = []
 subject_words why.Extra word = quoted word
+subject_words why.Surplus word = quoted word
 subject_words why.Command word = quoted word
 subject_words why.Empty word = []
 
@@ -175,6 +177,7 @@ abbrev pub fault_words : FaultLines → Text
 fault_words lines = elim lines.fault [
   | pattern.Astray text column ↦
       marked_words lines.name (codes "no component may be empty, `.` or `..`") text.now column
+  | pattern.Parted text column ↦ marked_words lines.name (codes "find takes no / in a bracket") text.now column
   | pattern.Syntax text e ↦ marked_words lines.name (message_words (kind_of e.msg.now)) text.now e.pos
   | pattern.Braces text e ↦ brace_lines text.now e ++ 10 ∷ help_words (Some lines.name)
   | pattern.Memory ↦ codes "out of memory"
@@ -190,4 +193,5 @@ rules_words (rules.NoText file) = Some (visible file.now ++ codes ": the file is
 rules_words (rules.Unread file e) = None
 rules_words (rules.Refused source line reason) =
     Some (visible source.now ++ (codes ": line " ++ (decimal line ++ (codes ": " ++ reason_words reason))))
+rules_words (rules.Rule text reason) = Some (codes "-x " ++ (quoted text.now ++ (codes ": " ++ reason_words reason)))
 rules_words rules.Memory = Some (codes "out of memory")

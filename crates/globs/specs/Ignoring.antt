@@ -7,7 +7,7 @@ use Rattle.glob_lines.specs.Lines.{line_feed, with_ends}
 use Rattle.glob_rules.specs.Lists.{AreTaken, Ignores, rules_of}
 use Rattle.glob_text.specs.Text.{Text}
 use Rattle.globs.specs.declared.ignoring.RulesFault.{RulesFault}
-use Rattle.globs.specs.declared.ignoring.RulesFault.TheVariants.{NoText, Unread, Refused, Memory}
+use Rattle.globs.specs.declared.ignoring.RulesFault.TheVariants.{NoText, Unread, Refused, Rule, Memory}
 use Rattle.globs.specs.declared.ignoring.Source.{Source}
 
 -- the byte order mark
@@ -47,3 +47,4 @@ IsReadFault file error (NoText name) = (error_kind error ≡ InvalidData) × (na
 IsReadFault file error (Unread name e) =
     (error_kind error ≢ OutOfMemory) × (error_kind error ≢ InvalidData) × (name.now ≡ file) × (e ≡ error)
 IsReadFault file error (Refused name line reason) = ⊥
+IsReadFault file error (Rule text reason) = ⊥

@@ -13,5 +13,6 @@ pub mod Outcomes
 pub mod Patterns
 pub mod Reading
 pub mod Requests
+pub mod Spelling
 pub mod Unignored
 pub mod Visible

@@ -64,7 +64,7 @@ has_records Find = true
 has_records Match = true
 has_records Ignore = true
 has_records Explain = false
-has_records Escape = false
+has_records Escape = true
 
 -- the command takes patterns, and the options of matching
 abbrev pub has_pattern : Name → Bool

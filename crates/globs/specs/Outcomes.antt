@@ -46,7 +46,7 @@ Fulfils contents world (Runs Ignore o operands) old new status =
 Fulfils contents world (Runs Explain o operands) old new status =
     IsUnread world.input × Answers contents o.settings.options operands old new status
 Fulfils contents world (Runs Escape o operands) old new status =
-    IsUnread world.input × WritesEscaped operands (contents old) (contents new) status
+    IsUnread world.input × WritesEscaped o.settings.end operands (contents old) (contents new) status
 Fulfils contents world (Helps name) old new status =
     IsUnread world.input × WritesText (page_of name) (contents old) (contents new) status
 Fulfils contents world VersionLine old new status =

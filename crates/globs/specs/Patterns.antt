@@ -11,7 +11,7 @@ use Rattle.glob_set.specs.BraceSets.{AreAccepted}
 use Rattle.glob_set.specs.Sets.{Set}
 use Rattle.globs.specs.Find.Below.{are_below, is_below}
 use Rattle.globs.specs.declared.patterns.PatternFault.{PatternFault}
-use Rattle.globs.specs.declared.patterns.PatternFault.TheVariants.{Astray, Syntax, Braces, Memory}
+use Rattle.globs.specs.declared.patterns.PatternFault.TheVariants.{Astray, Parted, Syntax, Braces, Memory}
 
 -- the set of the patterns, under these options
 abbrev pub set_of : MatchOptions → (patterns : List Text) → Set
@@ -28,9 +28,10 @@ IsFirstAstray texts text =
     × (are_below before ≡ true) × (is_below text ≡ false)
 
 -- The fault is that of the first text with an empty component, `.` or `..`; or of the first that is not a valid
--- pattern; or of the braces of some text; or an allocation failed.
+-- pattern; or of the braces of some text; or an allocation failed. A bracket with a `/` is none of a valid pattern.
 abbrev pub IsPatternFault : (texts : List Text) → PatternFault → Type 0
 IsPatternFault texts (Astray pattern column) = IsFirstAstray texts pattern.now
+IsPatternFault texts (Parted pattern column) = ⊥
 IsPatternFault texts (Syntax pattern e) =
     (before after : List Text) × (texts ≡ before ++ pattern.now ∷ after)
     × AreAccepted before × IsFault (chars pattern.now) (record { place = e.pos; message = e.msg.now })

@@ -1,9 +1,10 @@
 -- Texts with their control characters escaped.
-use Rattle.std.specs.Prelude.{ℕ, ◌==◌, ◌||◌, [], ◌∷◌, ◌++◌, false, if◌then◌else◌, chars, codes, encode_utf8, nat_lt, replicate, take}
+use Rattle.std.specs.Prelude.{ℕ, ◌==◌, ◌||◌, ◌&&◌, Bool, List, [], ◌∷◌, ◌++◌, false, true, if◌then◌else◌, chars, codes, encode_utf8, nat_le, nat_lt, replicate, take}
 use Rattle.std.specs.Char.{is_control}
 use Rattle.std.specs.Fmt.{digits}
 use Rattle.std.specs.List.{flat_map}
 use Rattle.glob_text.specs.Text.{Text}
+use Rattle.globs.specs.declared.wide.TheConstants.{WIDE}
 
 -- a backslash and a letter
 abbrev pub escape : (letter : ℕ) → Text
@@ -22,12 +23,26 @@ visible_character c =
 abbrev pub visible : Text → Text
 visible text = flat_map visible_character (chars text)
 
--- how many columns a character takes: one, or the length of its escape for a control character
+-- the character is from the first of a range to the last
+abbrev pub is_within : ℕ → (range : ℕ × ℕ) → Bool
+is_within c range = nat_le range.0 c && nat_le c range.1
+
+-- the character is in one of the ranges
+abbrev pub is_among : ℕ → (ranges : List (ℕ × ℕ)) → Bool
+is_among c [] = false
+is_among c (range ∷ ranges) = if is_within c range then true else is_among c ranges
+
+-- a terminal shows the character in two columns
+unfoldable pub is_wide : ℕ → Bool
+is_wide c = is_among c WIDE
+
+-- how many columns a character takes: one, two if it is wide, or the length of its escape for a control character
 abbrev pub width : ℕ → ℕ
 width c =
     if c == 9 || (c == 10 || c == 13) then 2
     else (if nat_lt c 16 then 5
-    else (if is_control c then 6 else 1))
+    else (if is_control c then 6
+    else (if is_wide c then 2 else 1)))
 
 -- blanks as wide as the first characters
 abbrev pub indent : Text → (characters : ℕ) → Text

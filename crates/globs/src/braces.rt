@@ -4,10 +4,12 @@ ghost use Rattle.glob_set.specs.Braces.{AreAlternatives};
 ghost use Rattle.glob_set.specs.BraceSets.{AreAlternativesOf};
 ghost use Rattle.globs.specs.Faults.{alternative_words};
 
+use crate::explain::rows::part_of;
 use crate::find::below::{astray_column, is_below};
 use crate::name::Name;
 use crate::patterns::{FaultLines, PatternFault};
 use crate::visible::Visible;
+use glob_captures::tokens;
 use glob_console::ErrorLines;
 use glob_pattern::{Pattern, PatternRefusal};
 use glob_set::braces::{BraceRefusal, expand};
@@ -103,9 +105,27 @@ fn pattern_fault<A: Allocator + Copy>(
         return Some(PatternFault::Astray(pattern, astray_column(pattern)));
     }
     match Pattern::new(alloc, pattern) {
+        Ok(parsed) if name == Name::Find => parted_fault(alloc, &parsed, pattern),
         Err(PatternRefusal::Syntax(error)) => Some(PatternFault::Syntax(pattern, error)),
         Err(PatternRefusal::Memory) | Ok(_) => None,
     }
+}
+
+/// The fault of the first bracket with a `/` in it, which `find` refuses.
+fn parted_fault<'a, A: Allocator + Copy>(
+    alloc: A,
+    parsed: &Pattern<A>,
+    pattern: &'a str,
+) -> Option<PatternFault<'a>> {
+    let list = tokens(alloc, parsed).ok()?;
+    for token in list.as_slice() {
+        let written = part_of(pattern, token.piece);
+        if written.starts_with('[') && written.contains('/') {
+            let before = pattern.get(..token.piece.start)?;
+            return Some(PatternFault::Parted(pattern, before.chars().count()));
+        }
+    }
+    None
 }
 
 /// The lines for a refused alternative of a word.

@@ -2,13 +2,14 @@
 ghost use Rattle.std.specs.Prelude.{◌≡◌, IfOk, IfErr, map, option_map, Option, None};
 ghost use Rattle.globs.specs.Options.{new_options};
 ghost use Rattle.globs.specs.CommandLine.{command_asked, extra_word, first_option, help_asked, is_help};
-ghost use Rattle.globs.specs.CommandLine.{operands_asked, reading, request_asked};
+ghost use Rattle.globs.specs.CommandLine.{operands_asked, page_named, reading, request_asked};
 ghost use Rattle.globs.specs.Chosen.{Chosen};
 ghost use Rattle.globs.specs.Reading.{Asks};
 ghost use Rattle.globs.specs.Requests.{IsWrong, IsWrongRequest, asked_reading, request_of};
 
 use crate::name::Name;
 use crate::options::{Options, Valued};
+use crate::spelling::{attached, with_flags};
 use crate::usage::{UsageFault, UsageLine, Why};
 use std::alloc::Allocator;
 
@@ -58,8 +59,12 @@ impl<'a, A: Allocator + Copy> Command<'a, A> {
     {
         match words {
             [] => Ok(Command::Help(None)),
-            [word, ..] => match Name::named(word) {
-                Some(name) => Ok(Command::Help(Some(name))),
+            [word] => match page_named(word) {
+                Some(page) => Ok(Command::Help(page)),
+                None => Err(UsageLine::new(None, Why::Command, word)),
+            },
+            [word, extra, ..] => match page_named(word) {
+                Some(_) => Err(UsageLine::new(None, Why::Surplus, extra)),
                 None => Err(UsageLine::new(None, Why::Command, word)),
             },
         }
@@ -85,6 +90,16 @@ impl<'a, A: Allocator + Copy> Command<'a, A> {
             }),
         }
     }
+}
+
+/// The page that the word after `help` names: that of a command or, for `help` itself, of the program, which is `None`.
+fn page_named(word: &str) -> Option<Option<Name>>
+    ensures { result ≡ page_named word.now }
+{
+    if word == "help" || asks_help(word) {
+        return Some(None);
+    }
+    Name::named(word).map(Some)
 }
 
 /// Whether the word is `-h` or `--help`.
@@ -116,7 +131,10 @@ impl<'a, A: Allocator + Copy> Asked<'a, A> {
                 };
                 options.take(option, value)?;
                 others
-            } else if let Some(settings) = options.settings.with_flag(name, word) {
+            } else if let Some((option, value)) = attached(name, word) {
+                options.take(option, value)?;
+                after
+            } else if let Some(settings) = with_flags(options.settings, name, word) {
                 options.settings = settings;
                 after
             } else {

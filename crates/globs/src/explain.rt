@@ -16,7 +16,7 @@ mod instead;
 pub mod notes;
 mod offers;
 mod refusal;
-mod rows;
+pub mod rows;
 mod stop;
 mod verdict;
 

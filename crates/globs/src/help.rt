@@ -30,8 +30,8 @@ globs: shell patterns, ignore lists and directory walks
   globs ignore [OPTION].. FILE..     copy the paths of standard input that rules do not ignore
   globs explain [OPTION].. PATTERN TEXT
                                      show why a pattern matches a text, or does not
-  globs escape TEXT..                write patterns that match exactly these texts
-  globs help [COMMAND]               write this page, or that of a command
+  globs escape [OPTION].. TEXT..     write patterns that match exactly these texts
+  globs help [COMMAND]               write this page, or that of one command
   globs --version                    write the version
 
 Quote a pattern: globs find '**/*.rs'. A shell would expand it otherwise.
@@ -44,14 +44,15 @@ Patterns:
   [*]       a literal *. In the same way: [?], [[], []], [{] and [}]
   a.{c,h}   a.c and a.h. Alternatives may be empty, or have braces of their own
 
-Options stand before the patterns, files or texts, each a word of its own: -t f, not -tf, and
---max-depth 2, not --max-depth=2. -- ends them: what is after it may begin with -. Among them
--h or --help writes the page of the command.
+Options stand before the patterns, files or texts. Letters without a value may be joined: -is is
+-i -s. A value is the next word, as in -t f, not -tf, or after =, as in --max-depth=2. -- ends the
+options: what is after it may begin with -. Among them -h or --help writes the page of the command.
 
 Status:
   0         something was found, copied or matched; for escape and help, all was written
   1         nothing was found, copied or matched
-  2         a fault: lines on standard error, but no line where the reader of the output goes away
+  2         a fault: lines on standard error
+  141       the reader of the output went away, as in globs find '**' | head. No line says so
 ";
 
 /// The page of `find`.
@@ -93,7 +94,8 @@ globs help shows what a PATTERN may have: ?, *, **, brackets and braces.
 
 A pattern matches a whole path, as src/main.rs, where no ?, * or bracket takes a /: '*.rs' is of
 names here, and '**/*.rs' also of those below. One that begins or ends with /, or has an empty
-component, . or .., is refused, and a line says what to write instead.
+component, . or .., is refused, and so is a bracket with a / in it; a line says what to write
+instead.
 
 Nothing is skipped by default: neither names that begin with a . (see -d), nor what .gitignore
 names (--git), nor .git (-x .git). Rules of -x and --ignore come before those of --ignore-files and
@@ -136,6 +138,11 @@ A line is copied if one of the patterns matches all of it, as it comes: before m
 A line ends before a line feed, which the last may lack; a carriage return belongs to its line. No
 pattern matches a line that is not UTF-8. Files are not opened: globs match '*.rs' <FILE.
 
+Lines on standard error say what may have been meant: what a form of another tool is here, such as
+~/ or [^a], where one pattern matches nothing and contains it; that lines are read from standard
+input, where that is a terminal, or where none came and the last of several patterns may be a FILE;
+and -0, where the first line has a NUL.
+
 Status:
   0         a line was copied
   1         no line was copied
@@ -164,7 +171,8 @@ path that is not UTF-8 is left out, and a line on standard error says how many a
 looked at, but for the files.
 
 Paths are written as they come, before more input is read. A line ends before a line feed, which the
-last may lack. A carriage return belongs to its line.
+last may lack. A carriage return belongs to its line. Lines on standard error say that paths are
+read from standard input, where that is a terminal, and name -0, where the first has a NUL.
 
 Status:
   0         a path was copied
@@ -214,9 +222,10 @@ Status:
 const ESCAPE: &str = "\
 globs escape: patterns that match exactly the given texts
 
-  globs escape TEXT..
+  globs escape [OPTION].. TEXT..
 
-  --  ends the options; there is no other. A TEXT that begins with - needs it
+  -0  each pattern ends in a NUL in place of a line feed
+  --  ends the options. A TEXT that begins with - needs it
 
 For each TEXT it writes the pattern that matches this text and no other, under each option but -i,
 and a line feed. So *.rs is written as [*].rs, and {a} as [{]a[}], which find and match do not

@@ -8,6 +8,7 @@ mod unignored;
 use crate::copying::copy;
 use crate::files::IgnoreFiles;
 use crate::ignoring::read_rules;
+use crate::input::FirstRecord;
 use glob_console::ErrorLines;
 use glob_lines::Watch;
 use glob_rules::IgnoreList;
@@ -60,8 +61,10 @@ fn copy_unignored<A: Allocator + Copy, R: Read, W: Write, E: Write>(
     let unignored = Unignored {
         list,
         strays: Cell::new(0),
+        first: FirstRecord::new(),
     };
     let status = copy(alloc, &unignored, end, input, output, errors);
+    unignored.first.report(errors);
     match unignored.strays.get() {
         0 => status,
         strays => errors.fault(StraysLine { strays }),

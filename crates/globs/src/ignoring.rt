@@ -13,10 +13,19 @@ use std::alloc::{AllocError, AllocFailed, Allocator};
 use std::fmt::{self, Display};
 use std::io::{self, ErrorKind};
 
-/// A text of rules, and where it comes from: a file's name, or `-x`.
+/// Where rules come from.
+#[derive(Clone, Copy)]
+enum Origin<'a> {
+    /// The file of this name.
+    File(&'a str),
+    /// This value of `-x`.
+    Rule(&'a str),
+}
+
+/// A text of rules, and where it comes from.
 #[derive(Drop)]
 pub struct Source<'a, A: Allocator> {
-    name: &'a str,
+    origin: Origin<'a>,
     text: String<A>,
 }
 
@@ -27,8 +36,10 @@ pub enum RulesFault<'a> {
     NoText(&'a str),
     /// The file could not be read, for this reason.
     Unread(&'a str, io::Error),
-    /// In the source of this name, the line of this number, counted from 1, is refused for this reason.
+    /// In the file of this name, the line of this number, counted from 1, is refused for this reason.
     Refused(&'a str, usize, Reason),
+    /// This value of `-x` is refused for this reason.
+    Rule(&'a str, Reason),
     /// Out of memory: an allocation failed.
     Memory,
 }
@@ -71,9 +82,13 @@ impl Display for RulesFault<'_> {
                 let file = Visible { text: *file };
                 write!(f, "{file}: {error}")
             }
-            RulesFault::Refused(source, line, reason) => {
-                let source = Visible { text: *source };
-                write!(f, "{source}: line {line}: {reason}")
+            RulesFault::Refused(file, line, reason) => {
+                let file = Visible { text: *file };
+                write!(f, "{file}: line {line}: {reason}")
+            }
+            RulesFault::Rule(rule, reason) => {
+                let rule = Visible { text: *rule };
+                write!(f, "-x `{rule}`: {reason}")
             }
             RulesFault::Memory => f.write_str("out of memory"),
         }
@@ -118,7 +133,8 @@ fn add_files<'a, A: Allocator + Copy, F: IgnoreFiles>(
 {
     for name in names {
         let text = text_of_file(alloc, files, name)?;
-        sources.push(Source { name: *name, text })?;
+        let origin = Origin::File(*name);
+        sources.push(Source { origin, text })?;
     }
     Ok(())
 }
@@ -134,7 +150,8 @@ fn add_rules<'a, A: Allocator + Copy>(
 {
     for rule in rules {
         let text = String::from_str(alloc, rule)?;
-        sources.push(Source { name: "-x", text })?;
+        let origin = Origin::Rule(*rule);
+        sources.push(Source { origin, text })?;
     }
     Ok(())
 }
@@ -186,11 +203,14 @@ fn refusal_of<'a, A: Allocator>(
     for source in sources {
         let lines = line_count(source.text.as_str());
         if left <= lines {
-            return RulesFault::Refused(source.name, left, reason);
+            return match source.origin {
+                Origin::File(name) => RulesFault::Refused(name, left, reason),
+                Origin::Rule(rule) => RulesFault::Rule(rule, reason),
+            };
         }
         left -= lines;
     }
-    RulesFault::Refused("-x", left, reason)
+    RulesFault::Refused("", left, reason)
 }
 
 /// How many lines a text has, counting one after its last line feed, even if it is empty.

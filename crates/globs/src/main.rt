@@ -17,15 +17,20 @@ mod escape;
 mod explain;
 mod files;
 mod find;
+mod forms;
+mod gone;
 mod help;
 mod ignore;
 mod ignoring;
+mod input;
 mod matching;
 mod name;
 mod options;
 mod patterns;
+mod spelling;
 mod usage;
 mod visible;
+mod wide;
 
 use command::{Asked, Command};
 use escape::run_escape;
@@ -38,12 +43,14 @@ use glob_console::{ErrorLines, FAULT, arguments, words_of, write_line, write_tex
 use glob_lines::Watch;
 use glob_search::RuleTexts;
 use glob_tree::{Links, Tree};
+use gone::{Heard, heard_status};
 use ignore::run_ignore;
+use input::note_terminal;
 use matching::match_words;
 use name::Name;
 use std::alloc::Allocator;
 use std::cell::Cell;
-use std::io::{Read, Write};
+use std::io::{IsTerminal, Read, Write};
 use std::process::ExitCode;
 
 /// The prefix of each fault on standard error.
@@ -174,24 +181,67 @@ where
         Name::Match => match_words(alloc, settings, operands, input, output, errors),
         Name::Ignore => run_ignore(alloc, files, settings.end, operands, input, output, errors),
         Name::Explain => run_explain(alloc, settings.options, operands, output, errors),
-        Name::Escape => run_escape(alloc, operands, output, errors),
+        Name::Escape => run_escape(alloc, settings.end, operands, output, errors),
     }
 }
 
-/// Where the words ask to begin: in the current directory where they ask for none, or without memory to read them.
-fn start_asked<'a>(rt: HostRuntime, words: &'a [&'a str]) -> Start<'a> {
-    let (directory, is_utf8_only) = match Command::parse(rt.alloc(), words) {
-        Ok(Command::Run(_, asked)) => {
+/// The command that the words ask for, if they do, and where to begin: in the current directory if they do not say, or
+/// without memory to read them.
+fn asked_here<'a>(rt: HostRuntime, words: &'a [&'a str]) -> (Option<Name>, Start<'a>) {
+    let (name, directory, is_utf8_only) = match Command::parse(rt.alloc(), words) {
+        Ok(Command::Run(name, asked)) => {
             let options = &asked.options;
-            (options.directory, options.settings.is_utf8_only)
+            (Some(name), options.directory, options.settings.is_utf8_only)
         }
-        Ok(Command::Help(_) | Command::Version) | Err(_) => ("", false),
+        Ok(Command::Help(_) | Command::Version) | Err(_) => (None, "", false),
     };
-    Start {
+    let start = Start {
         rt,
         directory,
         is_utf8_only,
+    };
+    (name, start)
+}
+
+/// Runs the command that `words` ask for over the real disk and the standard streams, and returns the exit status.
+fn run_here(rt: HostRuntime, words: &[&str]) -> u8 {
+    let (has_stray, is_gone) = (Cell::new(false), Cell::new(false));
+    let rules = SharedRules::new();
+    let (name, start) = asked_here(rt, words);
+    if rt.stdin().is_terminal() {
+        note_terminal(
+            name,
+            &mut ErrorLines::quiet(rt.alloc(), PREFIX, &mut rt.stderr()),
+        );
     }
+    let (mut kept_errors, mut followed_errors) = (rt.stderr(), rt.stderr());
+    let disks = Disks {
+        kept: disk_of(start, Links::Kept, &mut kept_errors, &has_stray, &rules),
+        followed: disk_of(
+            start,
+            Links::Followed,
+            &mut followed_errors,
+            &has_stray,
+            &rules,
+        ),
+        texts: StartTexts { start },
+        directory: start.directory,
+        rules: &rules,
+    };
+    let mut output = Heard {
+        writer: rt.stdout(),
+        is_gone: &is_gone,
+    };
+    let status = run_words(
+        rt.alloc(),
+        disks,
+        &DiskFiles { rt },
+        words,
+        &mut Watch::new(rt.stdin()),
+        &mut output,
+        &mut rt.stderr(),
+    );
+    heard_status(is_gone.get(), last_status(has_stray.get(), status))
 }
 
 fn main(rt: HostRuntime) -> ExitCode {
@@ -207,31 +257,5 @@ fn main(rt: HostRuntime) -> ExitCode {
     let Ok(words) = words_of(alloc, arguments.as_slice()) else {
         return ExitCode::from(errors.fault("out of memory"));
     };
-    let has_stray = Cell::new(false);
-    let rules = SharedRules::new();
-    let start = start_asked(rt, words.as_slice());
-    let (mut kept_errors, mut followed_errors) = (rt.stderr(), rt.stderr());
-    let disks = Disks {
-        kept: disk_of(start, Links::Kept, &mut kept_errors, &has_stray, &rules),
-        followed: disk_of(
-            start,
-            Links::Followed,
-            &mut followed_errors,
-            &has_stray,
-            &rules,
-        ),
-        texts: StartTexts { start },
-        directory: start.directory,
-        rules: &rules,
-    };
-    let status = run_words(
-        alloc,
-        disks,
-        &DiskFiles { rt },
-        words.as_slice(),
-        &mut Watch::new(rt.stdin()),
-        &mut rt.stdout(),
-        &mut rt.stderr(),
-    );
-    ExitCode::from(last_status(has_stray.get(), status))
+    ExitCode::from(run_here(rt, words.as_slice()))
 }

@@ -6,10 +6,12 @@ ghost use Rattle.globs.specs.Matching.{CopiesChosen, CopiesMatches, is_chosen, i
 
 use crate::braces::expand_words;
 use crate::copying::copy;
+use crate::forms::note_form;
+use crate::input::{FirstRecord, note_file};
 use crate::name::Name;
 use crate::options::Settings;
 use crate::patterns::{FaultLines, is_any_match, read_set};
-use glob_console::{ErrorLines, words_of};
+use glob_console::{ErrorLines, UNFOUND, words_of};
 use glob_lines::{Selection, Watch};
 use glob_set::PatternSet;
 use std::alloc::{AllocError, Allocator};
@@ -17,7 +19,8 @@ use std::io::{Read, Write};
 use std::str;
 
 /// Expands the braces of the words, `*.{c,h}` to `*.c` and `*.h`, and then does what [`run_match`] does. A refused word
-/// is a fault, before anything is read or written.
+/// is a fault, before anything is read or written. Lines say what may have been meant: `-0`, a file to read, or, if a
+/// single pattern matches nothing, another tool's syntax.
 #[tactic(auto, unfolding(crate::specs::Matching::CopiesMatches))]
 pub fn match_words<A: Allocator + Copy, R: Read, W: Write, E: Write>(
     alloc: A,
@@ -39,7 +42,23 @@ pub fn match_words<A: Allocator + Copy, R: Read, W: Write, E: Write>(
     let Ok(patterns) = words_of(alloc, texts.as_slice()) else {
         return errors.fault("out of memory");
     };
-    run_match(alloc, settings, patterns.as_slice(), input, output, errors)
+    let first = FirstRecord::new();
+    let status = run_match(
+        alloc,
+        settings,
+        patterns.as_slice(),
+        &first,
+        input,
+        output,
+        errors,
+    );
+    first.report(errors);
+    if status == UNFOUND && first.is_missing() {
+        note_file(words, errors);
+    } else if status == UNFOUND && !settings.inverts {
+        note_form(alloc, patterns.as_slice(), errors);
+    }
+    status
 }
 
 /// Copies the records of the input that any pattern matches or, if the settings invert that, that none matches, and
@@ -51,6 +70,7 @@ fn run_match<A: Allocator + Copy, R: Read, W: Write, E: Write>(
     alloc: A,
     settings: Settings,
     patterns: &[&str],
+    first: &FirstRecord,
     input: &mut Watch<R>,
     output: &mut W,
     errors: &mut ErrorLines<'_, A, E>,
@@ -65,6 +85,7 @@ fn run_match<A: Allocator + Copy, R: Read, W: Write, E: Write>(
             let chosen = Chosen {
                 patterns: set,
                 inverts: settings.inverts,
+                first,
             };
             copy(alloc, &chosen, settings.end, input, output, errors)
         }
@@ -77,15 +98,17 @@ fn run_match<A: Allocator + Copy, R: Read, W: Write, E: Write>(
 
 /// Selects the records that any pattern matches or, if it `inverts`, that none matches.
 #[derive(Drop)]
-struct Chosen<A: Allocator> {
+struct Chosen<'f, A: Allocator> {
     patterns: PatternSet<A>,
     inverts: bool,
+    first: &'f FirstRecord,
 }
 
-impl<A: Allocator + Copy> Selection for Chosen<A> {
+impl<A: Allocator + Copy> Selection for Chosen<'_, A> {
     ghost selects = { λ c bytes. is_chosen c.patterns c.inverts bytes };
 
     fn selects(&self, bytes: &[u8]) -> Result<bool, AllocError> {
+        self.first.note(bytes);
         let matches = is_record_match(&self.patterns, bytes)?;
         Ok(matches != self.inverts)
     }

@@ -164,7 +164,7 @@ impl Settings {
     {
         let mut settings = self;
         match (word, name) {
-            ("-0", Name::Find | Name::Match | Name::Ignore) => settings.end = 0,
+            ("-0", Name::Find | Name::Match | Name::Ignore | Name::Escape) => settings.end = 0,
             ("-v", Name::Match) => settings.inverts = true,
             ("-L", Name::Find) => settings.follows = true,
             ("--git", Name::Find) => settings.is_git = true,

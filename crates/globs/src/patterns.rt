@@ -20,6 +20,8 @@ use std::fmt::{self, Display};
 pub enum PatternFault<'a> {
     /// The component at this column is empty, `.` or `..`, which `find` refuses.
     Astray(&'a str, usize),
+    /// The bracket at this column has a `/`, which `find` refuses.
+    Parted(&'a str, usize),
     /// The pattern has this syntax error.
     Syntax(&'a str, PatternError),
     /// The pattern has this error in its braces.
@@ -63,6 +65,13 @@ impl Display for FaultLines<'_> {
                     column: *column,
                 };
                 write!(f, "no component may be empty, `.` or `..`\n{caret}\n{help}")
+            }
+            PatternFault::Parted(text, column) => {
+                let caret = Caret {
+                    text: *text,
+                    column: *column,
+                };
+                write!(f, "find takes no / in a bracket\n{caret}\n{help}")
             }
             PatternFault::Syntax(text, error) => {
                 let caret = Caret {

@@ -31,6 +31,8 @@ pub enum Why {
     Textless,
     /// It comes after the text to explain.
     Extra,
+    /// It comes after the command whose help page is asked for.
+    Surplus,
     /// It is not a command.
     Command,
     /// The command is missing. The word is empty.
@@ -116,6 +118,7 @@ impl Display for Subject<'_> {
             | Why::RuleFile
             | Why::Late
             | Why::Extra
+            | Why::Surplus
             | Why::Command => write!(f, "`{word}`"),
         }
     }
@@ -133,7 +136,7 @@ impl Why {
             Why::Depth => " is no depth: --max-depth takes a number below 2 to the power of 64",
             Why::Kind => " is no kind: -t takes f, d or l, and may be given again",
             Why::RuleFile => " is no name: --ignore-files takes one, such as .gitignore",
-            Why::Late => " stands after an operand: options come first",
+            Why::Late => " stands after an operand, where it may be a name: options come first",
             Why::Bare => match name {
                 Some(Name::Ignore) => "there is no FILE",
                 Some(Name::Escape) => "there is no TEXT",
@@ -141,6 +144,7 @@ impl Why {
             },
             Why::Textless => "there is no text",
             Why::Extra => " stands after the text: quote the pattern",
+            Why::Surplus => " is too much: help takes one command",
             Why::Command => " is no command",
             Why::Empty => "there is no command",
         }

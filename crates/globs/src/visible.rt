@@ -3,6 +3,7 @@ ghost use Rattle.std.specs.Prelude.{◌≡◌, Some, replicate};
 ghost use Rattle.std.specs.Fmt.{WritesOnOk};
 ghost use Rattle.globs.specs.Visible.{caret_lines, indent, visible, visible_character, width};
 
+use crate::wide::is_wide;
 use std::fmt::{self, Display};
 
 /// A text that prints its control characters as in a Rust literal: `\r`, `\t`, `\u{1b}`.
@@ -12,7 +13,8 @@ pub struct Visible<'a> {
 }
 
 /// A text that prints on one line, with a caret on the next under the character at index `column`, counted from 0. No
-/// line feed follows. A character takes one column, and a control character as many as its escape.
+/// line feed follows. A character takes one column, a wide one such as `漢` takes two, and a control character as many
+/// as its escape.
 #[derive(Clone, Copy)]
 pub struct Caret<'a> {
     pub text: &'a str,
@@ -99,6 +101,8 @@ fn width(c: char) -> u8
         5
     } else if c.is_control() {
         6
+    } else if is_wide(c) {
+        2
     } else {
         1
     }

@@ -3,6 +3,7 @@ ghost use Rattle.std.specs.Prelude.{◌≡◌};
 ghost use Rattle.globs.specs.Unignored.{has_slash, is_directory, is_here, is_selected, path_of, without_here};
 ghost use Rattle.glob_text.specs.Text.{has};
 
+use crate::input::FirstRecord;
 use glob_lines::Selection;
 use glob_rules::IgnoreList;
 use std::alloc::{AllocError, Allocator};
@@ -19,12 +20,14 @@ pub struct Unignored<'l, A: Allocator> {
     pub list: &'l IgnoreList<A>,
     /// How many paths were not UTF-8.
     pub strays: Cell<u64>,
+    pub first: FirstRecord,
 }
 
 impl<A: Allocator + Copy> Selection for Unignored<'_, A> {
     ghost selects = { λ u bytes. is_selected u.list.now bytes };
 
     fn selects(&self, bytes: &[u8]) -> Result<bool, AllocError> {
+        self.first.note(bytes);
         match str::from_utf8(path_of(bytes)) {
             Ok(path) if is_here(path) => Ok(true),
             Ok(path) => Ok(!self.list.is_ignored(path, is_directory(bytes))?),

@@ -1,0 +1,7 @@
+-- The character is in one of the other ranges exactly if it is in one of all.
+use Rattle.std.proofs.Common.{◌≡◌, drop}
+use Rattle.globs.specs.Visible.{is_among}
+use Rattle.globs.proofs.wide.is_among.Given as goal
+
+abbrev pub invariant-loop-range : goal.invariant-loop-range
+invariant-loop-range l = is_among l.c (drop l.range-index l.ranges) ≡ is_among l.c l.ranges

@@ -1,0 +1,40 @@
+//! A reader of the output that goes away.
+ghost use Rattle.std.specs.Prelude.{◌≡◌, if◌then◌else◌};
+
+use std::cell::Cell;
+use std::io::{self, ErrorKind, Write};
+
+/// The status after the reader went away: the one that a shell reports of a program that SIGPIPE ends.
+const GONE: u8 = 141;
+
+/// A writer that notes whether its reader went away.
+#[derive(Drop)]
+pub struct Heard<'a, W> {
+    pub writer: W,
+    pub is_gone: &'a Cell<bool>,
+}
+
+impl<W: Write> Write for Heard<'_, W> {
+    ghost contents = { λ heard. W.contents heard.writer };
+
+    fn write(&mut self, buf: &[u8]) -> io::Result<usize> {
+        let answer = self.writer.write(buf);
+        if let Err(error) = &answer {
+            if error.kind() == ErrorKind::BrokenPipe {
+                self.is_gone.set(true);
+            }
+        }
+        answer
+    }
+
+    fn flush(&mut self) -> io::Result<()> {
+        self.writer.flush()
+    }
+}
+
+/// The status of a run: 141 if the reader of its output went away, and else its own.
+pub fn heard_status(is_gone: bool, status: u8) -> u8
+    ensures { result ≡ (if is_gone then 141 else status) }
+{
+    if is_gone { GONE } else { status }
+}
