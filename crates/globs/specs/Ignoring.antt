@@ -1,4 +1,4 @@
--- The rules of ignore files.
+-- The rules of ignore files and of single options.
 use Rattle.std.specs.Prelude.{◌≡◌, ◌≢◌, ◌⊎◌, List, [], ◌∷◌, ◌++◌, Option, None, Some, ⊤, map, string_bytes, encode_utf8}
 use Rattle.std.specs.IoError.{error_kind}
 use Rattle.std.specs.declared.io.Error.{Error}

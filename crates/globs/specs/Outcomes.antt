@@ -24,7 +24,7 @@ pub record World : Type 0 where
   pub holds : (path : Text) → Option Text
   pub input : Input
 
--- what is known of a directory, by what is known of one
+-- what is known of a run from a directory on, if that is the one that is known
 abbrev pub known_at : {K : Type 0} → (directory told : Text) → Option K → Option K
 known_at directory told known = if bytes_eq directory told then known else None
 

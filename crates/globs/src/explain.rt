@@ -1,5 +1,5 @@
-//! `globs explain`: what `match` and `find` do with a text by a pattern, and why. It writes which piece of the text each
-//! token matches, or how far the match got and what the pattern wants there, and what to write instead.
+//! `globs explain`: what `match` and `find` do with a text by a pattern, and why. It writes which piece of the text
+//! each token matches, or how far the match got and what is wanted there, and what to write instead.
 ghost use Rattle.std.specs.Prelude.{◌≡◌, ◌≤◌, ◌⊎◌, IfOk, map};
 ghost use Rattle.glob_console.specs.Outcomes.{IsRefused};
 ghost use Rattle.glob_set.specs.BraceSets.{AreAccepted};

@@ -46,7 +46,7 @@ use std::fmt::{self, Display};
 use std::io::Write;
 
 /// Searches as the command line asks, and returns the status. A refused rule or word is a fault, before anything is
-/// looked up or written, and so is a directory that is none, or not that of the disks, as without memory to ask for it.
+/// looked up or written. So is a start that is no directory, or is not that of the disks, as when memory ran out.
 #[tactic(auto, unfolding(crate::specs::Find::Outcomes::FindsUnignored))]
 pub fn find_asked<T, X, F, W, E>(
     alloc: T::Alloc,
@@ -155,8 +155,8 @@ where
     status
 }
 
-/// Searches the tree, unless the directory where the search is to begin is none, or a pattern is refused. Each is a
-/// fault, before anything is written.
+/// Searches the tree. If its start is not a directory, or a pattern is refused, that is a fault, before anything is
+/// written.
 fn find_below<T, X, F, W, E>(
     alloc: T::Alloc,
     tree: T,
@@ -203,7 +203,7 @@ where
     }
 }
 
-/// Whether the directory of a tree is one. The current directory is.
+/// Whether the start of a tree is a directory. The current directory always is.
 fn is_directory<T: Tree>(tree: &mut T, directory: &str) -> Result<bool, AllocError>
     ensures { T.tells tree.new ≡ T.tells tree.old }
 {
@@ -318,7 +318,7 @@ fn fault_of<'a>(patterns: &[&'a str], refusal: SetRefusal) -> PatternFault<'a> {
     }
 }
 
-/// The line about a directory that is none.
+/// The line about a start that is not a directory.
 #[derive(Clone, Copy)]
 struct NoDirectory<'a> {
     path: &'a str,

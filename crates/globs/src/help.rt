@@ -79,13 +79,13 @@ globs help shows what a PATTERN may have: ?, *, **, brackets and braces.
                  -L a link is what it leads to, and l is one that leads nowhere
   -x RULE        ignore what RULE names, as a line of an ignore file: -x target -x '*.o' -x '!a.o'.
                  In a rule braces are characters, [^a] is [!a], and case counts, with -i too
-  --ignore FILE  ignore what the rules of FILE name, which are taken from the start:
-                 --ignore rules. See globs help ignore. Rules of -x come after those of files
+  --ignore FILE  ignore by the rules of FILE, relative to the start directory: --ignore rules.
+                 See globs help ignore. Rules of -x override those of files
   --ignore-files NAME
                  ignore what the files called NAME name in each directory, each for the paths
                  below its own: --ignore-files .gitignore --ignore-files .ignore. A deeper file
                  comes first, and in one directory the NAME that was given last
-  --git          ignore what git does by the files of a repository whose top is the start: each
+  --git          ignore what git does in a repository whose top is the start directory: by each
                  .gitignore, and .git/info/exclude after all others; and .git itself. Rules above
                  the start are not read: a line says so where a .gitignore is there
   --max-depth N  write no path of more than N names. A directory of N names is not listed
@@ -99,7 +99,7 @@ instead.
 
 Nothing is skipped by default: neither names that begin with a . (see -d), nor what .gitignore
 names (--git), nor .git (-x .git). Rules of -x and --ignore come before those of --ignore-files and
---git: -x '!a.o' finds a.o. A file of these two that cannot be read is reported, and so is each of
+--git: -x '!a.o' finds a.o. If a file of these two cannot be read, or has a line that is refused,
 its lines that is refused. The search goes on by all other lines.
 
 Each path that one of the patterns matches is written once, in ascending byte order of its names.
@@ -132,7 +132,7 @@ globs help shows what a PATTERN may have: ?, *, **, brackets and braces.
   -s  ?, * and brackets take no /
   -d  neither wildcards nor brackets take a . at the start of a component
   -v  copy the lines that none of the patterns matches
-  --  ends the options. A pattern that begins with - needs it
+  --  end of options: a pattern after it may begin with -
 
 A line is copied if one of the patterns matches all of it, as it comes: before more input is read.
 A line ends before a line feed, which the last may lack; a carriage return belongs to its line. No
@@ -157,7 +157,7 @@ globs ignore: the paths of standard input that ignore files do not ignore
 
   -0  records end in a NUL in place of a line feed, those read and those written: for names with
       line feeds, as of git ls-files -z, and for xargs -0
-  --  ends the options. A FILE that begins with - needs it
+  --  end of options: a FILE after it may begin with -
 
 FILE has rules as gitignore(5) has them, one a line, for the paths below one directory. Where rules
 of several files speak of a path, the last of them decides. A wildcard takes a character where git
@@ -192,7 +192,7 @@ globs help shows what a PATTERN may have: ?, *, **, brackets and braces.
   -i  ASCII letters in either case are the same
   -s  ?, * and brackets take no /, as in find
   -d  neither wildcards nor brackets take a . at the start of a component
-  --  ends the options. A PATTERN or TEXT that begins with - needs it
+  --  end of options: a PATTERN or TEXT after it may begin with -
 
 The first line says whether globs match would copy TEXT as a line, under these options, and whether
 globs find would find it as a path, where no ?, * or bracket takes a /. Both expand braces. Of

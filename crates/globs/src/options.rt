@@ -19,7 +19,7 @@ pub enum Valued {
     Kind,
     Rule,
     File,
-    /// The name of files with rules, each for the paths below its directory.
+    /// The name of ignore files, each for the paths below its directory.
     RuleFile,
     /// The directory where a search begins.
     Directory,
@@ -58,7 +58,7 @@ pub struct Settings {
     pub kinds: Kinds,
     /// Whether symbolic links to directories are followed.
     pub follows: bool,
-    /// Whether what git ignores is passed over.
+    /// Whether what git ignores is left out.
     pub is_git: bool,
     /// Whether names that are not UTF-8 are passed over, rather than reported.
     pub is_utf8_only: bool,
@@ -72,7 +72,7 @@ pub struct Options<'a, A: Allocator> {
     pub files: Vec<&'a str, A>,
     /// Single rules, which come after those of the files.
     pub rules: Vec<&'a str, A>,
-    /// The names of files with rules, each for the paths below its directory.
+    /// The names of ignore files, each for the paths below its directory.
     pub rule_files: Vec<&'a str, A>,
     /// The directory where a search begins: the current one, if it is empty.
     pub directory: &'a str,

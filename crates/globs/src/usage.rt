@@ -21,7 +21,7 @@ pub enum Why {
     Depth,
     /// It is not a kind.
     Kind,
-    /// It is not a name of files with rules.
+    /// It is not a name for ignore files.
     RuleFile,
     /// It begins with `-` and comes after an operand.
     Late,

@@ -17,8 +17,8 @@ other_words pattern = codes "write instead: " ++ (pattern ++ codes ", which does
 abbrev pub find_words : (pattern : Text) → Text
 find_words pattern = codes "for find write: " ++ (pattern ++ codes "\n")
 
--- Nothing is offered, or a pattern that matches the text under the options, or an accepted one of which the line says
--- that it does not.
+-- Nothing is offered, or a pattern that matches the text under the options, or a valid pattern with a line that says
+-- that it does not match.
 unfoldable pub IsOffer : MatchOptions → (text line : Text) → Type 0
 IsOffer o text line =
     (line ≡ [])

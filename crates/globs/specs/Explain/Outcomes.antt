@@ -10,9 +10,9 @@ use Rattle.globs.specs.Explain.Hints.{AreHints}
 use Rattle.globs.specs.Explain.Offers.{IsFindOffer, IsOffer}
 use Rattle.globs.specs.Explain.Verdict.{by_find, is_taken, verdict_of, verdict_words}
 
--- The lines about a text: what `match` and `find` do with it; the pieces that tokens match, or where the match stops; if
--- `match` does not accept it, which single changes give a match; and what to write instead. Of the second part nothing
--- is specified.
+-- The lines about a text: what `match` and `find` do with it; the pieces that tokens match, or where the match stops;
+-- if `match` does not accept it, which single changes give a match; and what to write instead. Nothing is specified
+-- about the second part.
 unfoldable pub AreLines : MatchOptions → (patterns : List Text) → (text lines : Text) → Type 0
 AreLines o patterns text lines =
     (reasons hints offer deeper : Text)
@@ -28,8 +28,8 @@ Explains o patterns text old new status =
     × (status ≡ 1 → is_taken o patterns text ≡ false)
     × (status ≢ 2 → (lines : Text) × AreLines o patterns text lines × Appends old new lines)
 
--- The pattern is refused before anything is written, or its alternatives are valid patterns, by which the text is
--- explained.
+-- The pattern is refused before anything is written, or its alternatives are valid patterns, and explain the
+-- text.
 unfoldable pub ExplainsWord : {W : Type 0} → (contents : W → Option (List ℕ)) → MatchOptions → (word text : Text)
     → (old new : W) → (status : ℕ) → Type 0
 ExplainsWord contents o word text old new status =

@@ -13,7 +13,7 @@ is_no_name c = is_empty c || (bytes_eq c cur_dir || bytes_eq c parent_dir)
 unfoldable pub is_below : (pattern : Text) → Bool
 is_below pattern = not (list_any is_no_name (pieces pattern))
 
--- each of the patterns is such a one
+-- each of the patterns has none
 abbrev pub are_below : (patterns : List Text) → Bool
 are_below [] = true
 are_below (p ∷ ps) = is_below p && are_below ps

@@ -33,8 +33,8 @@ FindsPaths known o list patterns old new status =
     → let a = aim o list patterns text_at in AreTextsOf c a (rule_files o) text_at
     → WritesGifts o.settings.end (kept keeps (gifts c a)) old new status
 
--- Either the words are refused, or their alternatives are searched for. Then, unless the status is 2, each alternative is
--- a valid pattern that matches only below the directory.
+-- Either the words are refused, or the search is for their alternatives. Then, unless the status is 2, each alternative
+-- is a valid pattern that matches only below the directory.
 unfoldable pub Finds : {W : Type 0} → (contents : W → Option (List ℕ)) → Known → Chosen → Ignores
     → (words : List Text) → (old new : W) → (status : ℕ) → Type 0
 Finds contents known o list words old new status =
@@ -43,7 +43,7 @@ Finds contents known o list words old new status =
     × (status ≢ 2 → AreAccepted patterns × (are_below patterns ≡ true))
     × FindsPaths known o list patterns (contents old) (contents new) status)
 
--- Either the rules of the command line are refused, or the search passes over what the rules of its files and its single
+-- Either the rules of the command line are refused, or the search leaves out what the rules of its files and its single
 -- rules ignore.
 unfoldable pub FindsUnignored : {W : Type 0} → (contents : W → Option (List ℕ)) → Known
     → (holds : Text → Option Text) → Chosen → (words : List Text) → (old new : W) → (status : ℕ) → Type 0

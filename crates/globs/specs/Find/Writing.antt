@@ -1,4 +1,4 @@
--- What a search writes of what it gives.
+-- What is written about the gifts of a search.
 use Rattle.std.specs.Prelude.{◌≡◌, ◌≢◌, ℕ, Bool, true, false, if◌then◌else◌, List, [], ◌∷◌, Option, Result, Ok, Err, filter_map, map, string_bytes}
 use Rattle.std.specs.Io.KnownBytes.{Appends}
 use Rattle.glob_console.specs.FoundPaths.{has_any}
@@ -26,8 +26,8 @@ has_unread (Unread names kind ∷ gifts) = true
 abbrev pub search_status : List Gift → ℕ
 search_status gifts = if has_unread gifts then 2 else (if has_any (found_paths gifts) then 0 else 1)
 
--- With a status other than 2, exactly the paths that are found were written, a record each, in order, and the status says
--- whether there is one. With the status 2, the first bytes of these were, perhaps all.
+-- With a status other than 2, exactly the found paths were written, a record each, in order, and the status says
+-- whether there is one. With the status 2, the first bytes of these were written, perhaps all.
 unfoldable pub WritesGifts : (end : ℕ) → List Gift → (old new : Option (List ℕ)) → (status : ℕ) → Type 0
 WritesGifts end gifts old new status =
     (status ≢ 2 → Appends old new (with_ends end (found_paths gifts)) × (status ≡ search_status gifts))
@@ -57,7 +57,7 @@ is_end (fault.RefusedRules path refusals) = false
 is_end fault.Limit = true
 is_end fault.Memory = true
 
--- it ends with this item
+-- the search ends with this item
 abbrev pub is_last : {A : Type 0} → Result (FoundPath A) (SearchFault A) → Bool
 is_last (Ok found) = false
 is_last (Err e) = is_end e

@@ -13,8 +13,8 @@ use std::alloc::{AllocError, Allocator};
 /// In front of how many components `**` is tried.
 const MOST_PLACES: usize = 16;
 
-/// A line with a pattern by which `find` finds the text, where it does not by this one. It is empty if nothing simple
-/// will do.
+/// A line with a pattern by which `find` finds the text, if it does not by this one. The line is empty if nothing
+/// simple works.
 ///
 /// For `src/*.rs` and `src/a/b.rs` it is `"for find write: src/**/*.rs\n"`.
 #[tactic(auto, unfolding(crate::specs::Explain::Offers::IsFindOffer))]

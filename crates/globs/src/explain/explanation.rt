@@ -40,8 +40,8 @@ pub struct Sets<A: Allocator> {
 #[derive(Drop)]
 pub struct Explanation<A: Allocator> {
     pub is_match: bool,
-    /// What `match` and `find` do with the text. Then for a match a line for each token: the token as written, a tab, and
-    /// its piece. Otherwise the text, a caret under the character where the match stops, what the tokens that wait there
+    /// What `match` and `find` do with the text. For a match, then a line for each token: the token as written, a tab,
+    /// and its piece. Otherwise the text, a caret under the character where the match stops, what the waiting tokens
     /// want, what is easily missed, which single changes give a match, and what to write instead.
     pub lines: String<A>,
 }

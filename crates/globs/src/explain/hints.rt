@@ -43,8 +43,8 @@ const CHANGES: [Change; 9] = [
     Change::LowerCase,
 ];
 
-/// A line for each change that makes one of the patterns match the text, and no other. So `it matches with -i` is there
-/// exactly if one of them matches with `-i`. The error is an allocation failure.
+/// A line for each change that makes one of the patterns match the text, and for no other change. So
+/// `it matches with -i` is there exactly if one of them matches with `-i`. The error is an allocation failure.
 ///
 /// For `*.RS` and `a.rs` it is that line; for `./a` and `a`, `it matches without ./ before the pattern`.
 pub fn hint_lines<A: Allocator + Copy>(

@@ -6,11 +6,11 @@ ghost use Rattle.glob_pattern.specs.Grammar.Units.{IsAccepted};
 use glob_pattern::{MatchOptions, Pattern, PatternRefusal};
 use std::alloc::{AllocError, Allocator};
 
-/// What might be written instead of a refused pattern: first under these options, and then where a `*` is not kept from
-/// a `/`, or is.
+/// What might be written instead of a refused pattern: first under these options, and then under the opposite separator
+/// rule.
 ///
-/// For `**.rs` it is `**/*.rs`, and for `a[b` it is `a[[]b`. For `a**b` they are `a*b` and, where a `*` does not match
-/// `/`, `a*/**/*b`.
+/// For `**.rs` it is `**/*.rs`, and for `a[b` it is `a[[]b`. For `a**b` they are `a*b` and, if `*` does not match `/`,
+/// `a*/**/*b`.
 pub fn valid_forms<A: Allocator + Copy>(
     alloc: A,
     pattern: &str,
@@ -51,7 +51,7 @@ pub fn is_accepted<A: Allocator + Copy>(alloc: A, text: &str) -> Result<bool, Al
 }
 
 /// The pattern with each run of two or more `*` made a component of its own, and each unclosed `[` put in a bracket.
-/// What brackets list is unchanged. A `*` matches no `/` if it `is_kept` from it.
+/// What brackets list is unchanged. `is_kept` says that a `*` matches no `/`.
 fn with_plain_forms<A: Allocator>(
     alloc: A,
     pattern: &str,

@@ -28,7 +28,7 @@ static FORMS: &[(&str, &str)] = &[
     ("!(", GROUPLESS),
 ];
 
-/// The same for syntax that has a meaning elsewhere only at the start of a pattern.
+/// The same for syntax that other tools know only at the start of a pattern.
 static STARTS: &[(&str, &str)] = &[
     (
         "~/",

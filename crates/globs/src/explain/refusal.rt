@@ -11,8 +11,8 @@ use glob_pattern::PatternError;
 use std::alloc::{AllocError, Allocator};
 
 /// Explains why `Pattern::new` refused a pattern with this error, in five lines: the fault, the pattern, a caret under
-/// the character at fault, what to write instead, and where to find help. If braces were expanded to the pattern, the
-/// word stands before the fault. The last line has no line feed. The error is an allocation failure.
+/// the character at fault, what to write instead, and where to find help. If the pattern comes from braces, the word
+/// comes before the fault. The last line has no line feed. The error is an allocation failure.
 ///
 /// For `a[b` they are `unclosed [`, `a[b`, a caret below the `[`, `write instead: a[[]b` and `try globs help explain`.
 pub fn explain_refusal<A: Allocator + Copy>(

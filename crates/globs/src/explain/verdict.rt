@@ -30,8 +30,8 @@ pub struct Verdict {
 }
 
 impl Finding {
-    /// What `find` does with the text, where `is_match` and `is_found` say whether a pattern matches it under the
-    /// options, and under the separator rule too.
+    /// What `find` does with the text. `is_match` says whether a pattern matches it under the options, and `is_found`
+    /// whether one does under the separator rule as well.
     ///
     /// For `src/*.rs` and `src/a/b.rs` it is [`Parts`](Finding::Parts).
     pub fn new(patterns: &[&str], text: &str, is_match: bool, is_found: bool) -> Self

@@ -15,16 +15,16 @@ use glob_tree::ListError;
 use std::alloc::{AllocError, Allocator};
 use std::io::Write;
 
-/// The rules that git heeds beside the files of each directory, from the top of a repository on.
+/// The path of git's rules besides those in each directory, from the top of a repository on.
 const EXCLUDE: &str = ".git/info/exclude";
 
-/// The file with rules in each directory that git heeds.
+/// The name of git's ignore files.
 const GITIGNORE: &str = ".gitignore";
 
-/// The rule for what git keeps to itself.
+/// The rule that ignores git's own directory.
 const GIT: &str = ".git";
 
-/// Rules that come after those of files in directories, and whether some of them could not be read or are refused.
+/// The rules that give way to those of ignore files, and whether some of them could not be read or are refused.
 #[derive(Drop)]
 pub struct LastRules<A: Allocator> {
     pub lists: Vec<IgnoreList<A>, A>,
@@ -44,8 +44,8 @@ impl<A: Allocator> LastRules<A> {
     }
 }
 
-/// What a search is asked for by the options, where `list` has the rules of the command line, and `last` those that come
-/// after the rules of files in directories.
+/// The settings of a search by the options. `list` has the rules of the command line, and `last` those that give way to
+/// the rules of ignore files.
 pub fn settings_of<A: Allocator + Copy>(
     alloc: A,
     options: &Options<'_, A>,
@@ -68,7 +68,7 @@ pub fn settings_of<A: Allocator + Copy>(
     })
 }
 
-/// Whether the search asks for the texts of files with rules.
+/// Whether the search reads ignore files.
 pub fn heeds_files<A: Allocator>(options: &Options<'_, A>) -> bool
     ensures heeds { result ≡ heeds (rule_files options.now) }
     ensures list { IgnoresByList options.now }
@@ -76,7 +76,7 @@ pub fn heeds_files<A: Allocator>(options: &Options<'_, A>) -> bool
     options.settings.is_git || !options.rule_files.is_empty()
 }
 
-/// The most names of a path.
+/// The most names that a path may have.
 fn depth_of(depth: Option<u64>) -> usize
     ensures { result ≡ depth_of depth }
 {
@@ -97,7 +97,7 @@ fn wanted_of(kinds: Kinds) -> Wanted
     }
 }
 
-/// The names of files with rules in each directory. Of two that speak of a path the later decides.
+/// The names of the ignore files in each directory. If rules of two of them name a path, the later file decides.
 fn rule_files<A: Allocator + Copy>(
     alloc: A,
     options: &Options<'_, A>,
@@ -109,8 +109,8 @@ fn rule_files<A: Allocator + Copy>(
     Ok(names)
 }
 
-/// The lists before those of files in directories: that of the command line comes first. Where it has no rules it is left
-/// out, so that no kinds are asked for it.
+/// The lists that take precedence over those of ignore files, where that of the command line is asked first. It is left
+/// out if it has no rules, so that no kinds are asked for on its account.
 fn first_lists<A: Allocator + Copy>(
     alloc: A,
     is_git: bool,
@@ -134,7 +134,7 @@ fn is_ruled<A: Allocator>(options: &Options<'_, A>) -> bool
     !options.files.is_empty() || !options.rules.is_empty()
 }
 
-/// Git's name of files with rules, if git decides.
+/// The name of git's ignore files, with `--git`.
 fn git_names<A: Allocator + Copy>(alloc: A, is_git: bool) -> Result<Vec<String<A>, A>, AllocError>
     ensures { IfOk result (λ names. map string_bytes names.items ≡ git_names is_git) }
 {
@@ -161,7 +161,7 @@ fn add_names<A: Allocator + Copy>(
     Ok(())
 }
 
-/// The lists before all others. Where git decides, each `.git` is ignored.
+/// The lists that take precedence over all others. With `--git`, they ignore each `.git`.
 fn git_lists<A: Allocator + Copy>(
     alloc: A,
     is_git: bool,
@@ -178,8 +178,8 @@ fn git_lists<A: Allocator + Copy>(
     Ok(lists)
 }
 
-/// The rules that come after those of files in directories. Where they cannot be read there are none, and lines of
-/// `errors` say so, and which of their lines are refused.
+/// The rules that give way to those of ignore files. If they cannot be read, there are none. Lines of `errors` say so,
+/// and which of their lines are refused.
 pub fn last_rules<A: Allocator + Copy, X: RuleTexts<Alloc = A>, E: Write>(
     alloc: A,
     is_git: bool,
@@ -198,7 +198,7 @@ pub fn last_rules<A: Allocator + Copy, X: RuleTexts<Alloc = A>, E: Write>(
     }
 }
 
-/// The rules that git heeds beside the files of each directory, if there are any.
+/// The rules of `.git/info/exclude`, with `--git`, if there are any.
 fn exclude_rules<A: Allocator + Copy, X: RuleTexts<Alloc = A>, E: Write>(
     alloc: A,
     texts: &mut X,

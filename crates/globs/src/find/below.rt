@@ -10,7 +10,7 @@ use crate::patterns::PatternFault;
 use glob_pattern::{Pattern, PatternRefusal};
 use std::alloc::Allocator;
 
-/// Whether each component of a pattern is a name below a directory: none is empty, `.` or `..`.
+/// Whether a pattern leads only to paths below a directory: no component is empty, `.` or `..`.
 #[tactic(auto, unfolding(crate::specs::Find::Below::is_below))]
 pub fn is_below(pattern: &str) -> bool
     ensures { result ≡ is_below pattern.now }
@@ -18,7 +18,7 @@ pub fn is_below(pattern: &str) -> bool
     !leads_elsewhere(pattern)
 }
 
-/// Whether each pattern is such a one.
+/// Whether each of the patterns does.
 pub fn are_below(patterns: &[&str]) -> bool
     ensures { result ≡ are_below (map (λ p. p.now) patterns.now) }
 {
@@ -30,7 +30,7 @@ pub fn are_below(patterns: &[&str]) -> bool
     true
 }
 
-/// At which character of a pattern its first component begins that is no name, counted from 0.
+/// Where the first component of a pattern begins that is empty, `.` or `..`, in characters from 0.
 pub fn astray_column(pattern: &str) -> usize {
     let mut column = 0usize;
     for piece in pattern.split('/') {
@@ -44,8 +44,8 @@ pub fn astray_column(pattern: &str) -> usize {
     column
 }
 
-/// Checks that each pattern is valid, and leads below the directory. The error is what is wrong with the first that does
-/// not, or a failed allocation.
+/// Checks that each pattern is valid, and leads below the directory. The error says what is wrong with the first that
+/// is not or does not, or that an allocation failed.
 pub fn check_patterns<'a, A: Allocator + Copy>(
     alloc: A,
     patterns: &[&'a str],
@@ -74,7 +74,7 @@ fn check_pattern<A: Allocator + Copy>(alloc: A, pattern: &str) -> Result<(), Pat
     }
 }
 
-/// Whether some component of a pattern is no name.
+/// Whether a component of a pattern is empty, `.` or `..`.
 fn leads_elsewhere(pattern: &str) -> bool
     ensures { result ≡ list_any is_no_name (pieces pattern.now) }
 {

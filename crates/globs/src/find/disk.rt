@@ -12,26 +12,26 @@ use std::collections::BTreeSet;
 use std::fs::{File, Metadata};
 use std::io::{self, ErrorKind, Write};
 
-/// The text of the rules of the command line, once they are read, for what the disk reports.
+/// The rules of the command line as a text, once they are read: the disk reports no path that they ignore.
 pub type SharedRules<A> = OnceCell<String<A>>;
 
-/// A disk from a directory on, for either way to take symbolic links.
+/// The disk from a directory on, in both forms: with symbolic links kept, and with links followed.
 #[derive(Drop)]
 pub struct Disks<'a, T, X, A: Allocator> {
-    /// One on which a symbolic link to a directory is none.
+    /// The form on which a symbolic link to a directory is not one.
     pub kept: T,
-    /// One on which it is a directory.
+    /// The form on which it is one.
     pub followed: T,
     /// The texts of the files on it.
     pub texts: X,
-    /// The directory, which is the current one if it is empty.
+    /// The directory; empty for the current one.
     pub directory: &'a str,
-    /// Where the rules are put that say what of them is reported.
+    /// Where the rules are put that exclude paths from what is reported.
     pub rules: &'a SharedRules<A>,
 }
 
 impl<T: Drop, X: Drop, A: Allocator> Disks<'_, T, X, A> {
-    /// The disk on which links are followed, or the other, and the texts.
+    /// One of the two forms, with links followed or kept, and the texts.
     pub fn chosen(self, follows: bool) -> (T, X)
         ensures tree { result.0 ≡ (if follows then self.entry.followed else self.entry.kept) }
         ensures texts { result.1 ≡ self.entry.texts }
@@ -46,7 +46,7 @@ impl<T: Drop, X: Drop, A: Allocator> Disks<'_, T, X, A> {
     }
 }
 
-/// The real disk from a directory on, which is the current one if it is empty.
+/// The real disk from a directory on, which is empty for the current one.
 #[derive(Clone, Copy, Drop)]
 pub struct Start<'a> {
     pub rt: HostRuntime,
@@ -141,7 +141,7 @@ impl RuleTexts for StartTexts<'_> {
     }
 }
 
-/// No file, if that is what the error says.
+/// `None` if the error says that there is no file; otherwise the error.
 fn missing(error: io::Error) -> Result<Option<String>, ListError> {
     match error.kind() {
         ErrorKind::NotFound | ErrorKind::NotADirectory | ErrorKind::IsADirectory => Ok(None),
@@ -149,7 +149,7 @@ fn missing(error: io::Error) -> Result<Option<String>, ListError> {
     }
 }
 
-/// The status of a run: 2 where there was a stray, and else its own.
+/// The exit status of a run: 2 if there was a stray, and otherwise its own.
 pub fn last_status(has_stray: bool, status: u8) -> u8
     ensures { result ≡ (if has_stray then 2 else status) }
 {

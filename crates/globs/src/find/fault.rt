@@ -86,7 +86,7 @@ pub fn report_search<A: Allocator + Copy, E: Write>(
     }
 }
 
-/// Writes a line about each line that is refused of the file with rules at a path.
+/// Writes a line for each refused line of the ignore file at a path.
 pub fn report_refusals<A: Allocator + Copy, E: Write>(
     path: &str,
     refusals: &[RuleRefusal],

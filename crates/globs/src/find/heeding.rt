@@ -1,11 +1,11 @@
-//! The texts of files with rules, where a search asks for them.
+//! The texts of ignore files, withheld from a search that has no use for them.
 ghost use Rattle.std.specs.Prelude.{◌≡◌};
 
 use glob_search::RuleTexts;
 use glob_tree::ListError;
 use std::alloc::AllocError;
 
-/// The texts of some files, or of none if the search asks for none.
+/// The texts of ignore files if it `heeds` them, and otherwise none.
 #[derive(Drop)]
 pub struct Heeded<X> {
     pub texts: X,

@@ -8,7 +8,7 @@ use glob_lines::write_whole;
 use std::alloc::{AllocError, Allocator};
 use std::io::{self, Write};
 
-/// After how many units of the search a line is written immediately.
+/// After how many units since the last write a line is written immediately.
 const PATIENCE: u64 = 100;
 
 /// How many bytes of lines may wait. The buffer also has room for one more line with the longest path of most systems.
@@ -26,7 +26,7 @@ pub struct Lines<A: Allocator> {
 }
 
 impl<A: Allocator> Lines<A> {
-    /// No lines yet, each of which is to end in this byte.
+    /// No lines yet. Each will end in this byte.
     pub fn new(alloc: A, end: u8) -> Result<Self, AllocError>
         ensures end { IfOk result (λ lines. lines.end ≡ end) }
         ensures none { IfOk result (λ lines. lines.waiting.items ≡ []) }
@@ -39,7 +39,7 @@ impl<A: Allocator> Lines<A> {
         })
     }
 
-    /// Adds a line, where the search has spent so many units. If that fails, the first bytes of the waiting lines and
+    /// Adds a line, when the search has spent `spent` units. If that fails, the first bytes of the waiting lines and
     /// this one may have been written.
     pub fn add<W: Write>(&mut self, text: &str, spent: u64, output: &mut W) -> Result<(), FindFault>
         ensures end { self.new.end ≡ self.old.end }

@@ -1,4 +1,4 @@
-//! What a search finds, a record for each path.
+//! Runs a search, and writes a record for each path that it finds.
 ghost use Rattle.std.specs.Prelude.{◌≡◌, ◌≤◌, ◌++◌, Bool, false, true, [], List, Option, Some, IfOk, OnErr, OnOk};
 ghost use Rattle.glob_console.specs.Private.Writing.{Queues};
 ghost use Rattle.glob_lines.specs.Lines.{AppendsFront, with_ends};

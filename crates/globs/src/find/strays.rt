@@ -1,4 +1,4 @@
-//! The lines of names that are not UTF-8, and of paths that could not be looked up.
+//! The lines about names that are not UTF-8, and about paths that could not be looked up.
 ghost use Rattle.std.specs.Prelude.{◌≡◌, ◌++◌, Some, codes};
 ghost use Rattle.std.specs.Fmt.{WritesOnOk};
 ghost use Rattle.std.specs.List.{flat_map};
@@ -55,7 +55,7 @@ impl<A: Allocator + Copy, E: Write> Strays for StrayLines<'_, A, E> {
     }
 }
 
-/// Whether the rules ignore what is at a path, which is taken for no directory. Without memory to tell they do not.
+/// Whether the rules ignore the path, taken for a non-directory. If memory runs out, they do not.
 fn is_ignored<A: Allocator + Copy>(alloc: A, rules: &SharedRules<A>, path: &str) -> bool {
     match rules.get() {
         Some(text) if !text.is_empty() => match IgnoreList::new(alloc, text.as_str()) {
@@ -66,7 +66,7 @@ fn is_ignored<A: Allocator + Copy>(alloc: A, rules: &SharedRules<A>, path: &str)
     }
 }
 
-/// Whether a path was not reported before, as far as there is memory to know it. It is from now on.
+/// Whether the path was not reported before. If memory runs out, it counts as new.
 fn is_new<A: Allocator + Copy>(
     alloc: A,
     reported: &mut BTreeSet<String<A>, A>,
@@ -78,7 +78,7 @@ fn is_new<A: Allocator + Copy>(
     }
 }
 
-/// The line of a path, with the reason why it could not be looked up or listed.
+/// The line about a path, with the reason why it could not be looked up or listed.
 #[derive(Clone, Copy)]
 pub struct UnsettledLine<'a> {
     pub path: &'a str,
@@ -92,7 +92,7 @@ impl Display for UnsettledLine<'_> {
     }
 }
 
-/// Writes a path, in which control characters are seen, and what is between it and the reason.
+/// Writes a path, with control characters made visible, and what separates it from the reason.
 fn write_path<W: fmt::Write>(f: &mut fmt::Formatter<W>, path: &str) -> fmt::Result
     ensures { WritesOnOk W.write_str_gives f.old result (visible path.now ++ codes ": ") f.new }
 {
@@ -100,8 +100,8 @@ fn write_path<W: fmt::Write>(f: &mut fmt::Formatter<W>, path: &str) -> fmt::Resu
     write!(f, "{path}: ")
 }
 
-/// The line of a name. Bytes that are no printable ASCII are written as `\xff`, so that no escape reaches a
-/// terminal.
+/// The line about a name. Bytes that are not printable ASCII are written as `\xff`, so that no escape sequence reaches
+/// a terminal.
 #[derive(Clone, Copy)]
 struct StrayLine<'a> {
     directory: &'a str,
@@ -141,7 +141,7 @@ fn write_byte<W: fmt::Write>(f: &mut fmt::Formatter<W>, byte: u8) -> fmt::Result
     }
 }
 
-/// Whether a byte of a name is written as it is: printable ASCII, but no space and no backslash.
+/// Whether a byte of a name is written as it is: printable ASCII, except the space and the backslash.
 fn is_shown(byte: u8) -> bool
     ensures { result ≡ is_shown byte }
 {

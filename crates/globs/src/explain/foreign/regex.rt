@@ -14,7 +14,7 @@ static PARTS: &[(&str, &str)] = &[
     ("\\w", "[a-zA-Z0-9_]"),
 ];
 
-/// Characters whose meaning in a regular expression a pattern lacks, or that stand elsewhere than at its ends.
+/// Characters that mean in a regular expression what patterns cannot say, and `^` and `$` other than at its ends.
 static LACKED: &[char] = &['*', '+', '?', '(', ')', '|', '{', '}', '^', '$'];
 
 /// The pattern that matches the texts in which a regular expression is found. `None` if the text has no sign of a
