@@ -25,23 +25,23 @@ pub fn page_of(name: Option<Name>) -> &'static str
 const HELP: &str = "\
 globs: shell patterns, ignore lists and directory walks
 
-  globs find [OPTION].. PATTERN..    write the paths below a directory that match
-  globs match [OPTION].. PATTERN..   copy the lines of standard input that match
-  globs ignore [OPTION].. FILE..     copy the paths of standard input that rules do not ignore
+  globs find [OPTION].. PATTERN..    write the matching paths below a directory
+  globs match [OPTION].. PATTERN..   copy the matching lines of standard input
+  globs ignore [OPTION].. FILE..     copy the paths of standard input that no rule ignores
   globs explain [OPTION].. PATTERN TEXT
                                      show why a pattern matches a text, or does not
   globs escape [OPTION].. TEXT..     write patterns that match exactly these texts
   globs help [COMMAND]               write this page, or that of one command
   globs --version                    write the version
 
-Quote a pattern: globs find '**/*.rs'. A shell would expand it otherwise.
+Quote a pattern: globs find '**/*.rs'. Otherwise the shell expands it.
 
 Patterns:
   ?         any one character
-  *         any characters, or none. In find no ?, * or bracket takes a /; elsewhere -s says so
+  *         any characters, or none. In find no ?, * or bracket matches a /; elsewhere -s forbids it
   **        any number of whole components: **, **/a, a/** and a/**/b
-  [abc]     a, b or c; [a-c] one from a to c; [!a-c] one that is not
-  [*]       a literal *. In the same way: [?], [[], []], [{] and [}]
+  [abc]     a, b or c; [a-c] a character from a to c; [!a-c] any other character
+  [*]       a literal *. The same goes for [?], [[], []], [{] and [}]
   a.{c,h}   a.c and a.h. Alternatives may be empty, or have braces of their own
 
 Options stand before the patterns, files or texts. Letters without a value may be joined: -is is
@@ -63,10 +63,10 @@ globs find: the paths below a directory that patterns match and no rule ignores
 
 globs help shows what a PATTERN may have: ?, *, **, brackets and braces.
 
-  -0             each path ends in a NUL in place of a line feed
-  -i             ASCII letters in either case are the same
-  -d             neither wildcards nor brackets take a . at the start of a name
-  -C DIR         search below DIR: patterns, rules and paths are taken from there, and FILE is not
+  -0             each path ends in a NUL instead of a line feed
+  -i             case-insensitive, for ASCII letters
+  -d             no wildcard or bracket matches a . at the start of a name
+  -C DIR         search below DIR: patterns, rules and paths are relative to it, but FILE is not
   --directory DIR
                  the same as -C DIR
   -L             a symbolic link to a directory is one, and is entered. One that leads back to a
@@ -82,9 +82,9 @@ globs help shows what a PATTERN may have: ?, *, **, brackets and braces.
   --ignore FILE  ignore by the rules of FILE, relative to the start directory: --ignore rules.
                  See globs help ignore. Rules of -x override those of files
   --ignore-files NAME
-                 ignore what the files called NAME name in each directory, each for the paths
-                 below its own: --ignore-files .gitignore --ignore-files .ignore. A deeper file
-                 comes first, and in one directory the NAME that was given last
+                 ignore by the rules of each file called NAME, for the paths below its directory:
+                 --ignore-files .gitignore --ignore-files .ignore. Deeper files override others,
+                 and in one directory a later NAME overrides an earlier one
   --git          ignore what git does in a repository whose top is the start directory: by each
                  .gitignore, and .git/info/exclude after all others; and .git itself. Rules above
                  the start are not read: a line says so where a .gitignore is there
@@ -98,9 +98,9 @@ component, . or .., is refused, and so is a bracket with a / in it; a line says 
 instead.
 
 Nothing is skipped by default: neither names that begin with a . (see -d), nor what .gitignore
-names (--git), nor .git (-x .git). Rules of -x and --ignore come before those of --ignore-files and
+names (see --git), nor .git (see -x). Rules of -x and --ignore override those of --ignore-files and
 --git: -x '!a.o' finds a.o. If a file of these two cannot be read, or has a line that is refused,
-its lines that is refused. The search goes on by all other lines.
+that is reported, and the search goes on with all other lines.
 
 Each path that one of the patterns matches is written once, in ascending byte order of its names.
 A directory is listed only where something in it may still be found: 'src/*.c' 'lib/**' lists src,
@@ -127,16 +127,16 @@ globs match: the lines of standard input that patterns match
 
 globs help shows what a PATTERN may have: ?, *, **, brackets and braces.
 
-  -0  records end in a NUL in place of a line feed, those read and those written
-  -i  ASCII letters in either case are the same
-  -s  ?, * and brackets take no /
-  -d  neither wildcards nor brackets take a . at the start of a component
-  -v  copy the lines that none of the patterns matches
+  -0  records end in a NUL instead of a line feed, in the input and in the output
+  -i  case-insensitive, for ASCII letters
+  -s  no ?, * or bracket matches a /
+  -d  no wildcard or bracket matches a . at the start of a component
+  -v  copy the lines that no pattern matches
   --  end of options: a pattern after it may begin with -
 
-A line is copied if one of the patterns matches all of it, as it comes: before more input is read.
-A line ends before a line feed, which the last may lack; a carriage return belongs to its line. No
-pattern matches a line that is not UTF-8. Files are not opened: globs match '*.rs' <FILE.
+A line is copied if one of the patterns matches all of it, and before more input is read. It ends
+before a line feed, which the last line may lack; a carriage return belongs to its line. No pattern
+matches a line that is not UTF-8. Files are not opened: globs match '*.rs' <FILE.
 
 Lines on standard error say what may have been meant: what a form of another tool is here, such as
 ~/ or [^a], where one pattern matches nothing and contains it; that lines are read from standard
@@ -155,20 +155,20 @@ globs ignore: the paths of standard input that ignore files do not ignore
 
   globs ignore [OPTION].. FILE..
 
-  -0  records end in a NUL in place of a line feed, those read and those written: for names with
-      line feeds, as of git ls-files -z, and for xargs -0
+  -0  records end in a NUL instead of a line feed, in the input and in the output: for names with
+      line feeds, as from git ls-files -z, and for xargs -0
   --  end of options: a FILE after it may begin with -
 
-FILE has rules as gitignore(5) has them, one a line, for the paths below one directory. Where rules
-of several files speak of a path, the last of them decides. A wildcard takes a character where git
-takes a byte, and case counts. A line is refused if a bracket has an unknown class, as [[:word:]],
-or a character beyond ASCII, or if two stars are right behind plain text, as in src/a**/b.
+FILE has rules as in gitignore(5), one a line, for the paths below one directory. If several rules
+name a path, the last one decides, across files, too. A wildcard matches a character where git
+takes a byte, and case counts. A line is refused if a bracket has an unknown class, such as
+[[:word:]], or a character beyond ASCII, or if two stars come right after plain text: src/a**/b.
 
 Paths: a path is the names from that directory on, with a / between them, as git ls-files -z writes
-them. One that ends in / is that of a directory. A ./ at its start is passed over; . and the empty
-path are copied. Other paths are asked as they are written: by the rule a/b, a//b is not ignored. A
-path that is not UTF-8 is left out, and a line on standard error says how many are. The disk is not
-looked at, but for the files.
+them. A / at its end marks a directory. A ./ at its start is skipped; . and the empty path are
+copied. Other paths are matched as they are written: the rule a/b does not ignore a//b. A path that
+is not UTF-8 is left out, and a line on standard error says how many were. On the disk, only the
+files are read.
 
 Paths are written as they come, before more input is read. A line ends before a line feed, which the
 last may lack. A carriage return belongs to its line. Lines on standard error say that paths are
@@ -177,8 +177,8 @@ read from standard input, where that is a terminal, and name -0, where the first
 Status:
   0         a path was copied
   1         no path was copied
-  2         a fault, such as a refused line of FILE, which is named by its number, or a path that
-            is not UTF-8
+  2         a fault, such as a refused line of FILE, which is reported with its number, or a path
+            that is not UTF-8
 ";
 
 /// The page of `explain`.
@@ -189,33 +189,33 @@ globs explain: why a pattern matches a text, or does not
 
 globs help shows what a PATTERN may have: ?, *, **, brackets and braces.
 
-  -i  ASCII letters in either case are the same
-  -s  ?, * and brackets take no /, as in find
-  -d  neither wildcards nor brackets take a . at the start of a component
+  -i  case-insensitive, for ASCII letters
+  -s  no ?, * or bracket matches a /, as in find
+  -d  no wildcard or bracket matches a . at the start of a component
   --  end of options: a PATTERN or TEXT after it may begin with -
 
 The first line says whether globs match would copy TEXT as a line, under these options, and whether
-globs find would find it as a path, where no ?, * or bracket takes a /. Both expand braces. Of
+globs find would find it as a path, where no ?, * or bracket matches a /. Both expand braces. Of
 several alternatives the first that matches is explained, or else the first that gets farthest.
 
-Of a match the next lines are one for each wildcard, bracket and character of the pattern: that, a
-tab, and the piece of TEXT that it takes, as short as the later ones allow.
+If it matches, there is a line for each wildcard, bracket and character of the pattern: how it is
+written, a tab, and the piece of TEXT that it takes, as short as the later ones allow.
 
-Otherwise a caret is under the character of TEXT where it stops. The lines below say what is wanted
-there, which white space TEXT and the pattern end in, which brackets list nothing, which forms of
-shells and other tools mean nothing here, which single change gives a match, as each was tried, and
-what to write instead of such a form or a regular expression. That was tried too: if it does not
-match TEXT, the line says so. A control character is written as \\r or \\u{1b}.
+Otherwise a caret is under the character of TEXT where the match stops. The lines below say what is
+wanted there, whether TEXT or the pattern ends in white space, which brackets list nothing, which
+forms of shells and other tools mean nothing here, which single change gives a match, and what to
+write instead of such a form or a regular expression. All of these were tried: if one to be written
+does not match TEXT, the line says so. A control character is written as \\r or \\u{1b}.
 
-Where find does not find TEXT, the last line may have a pattern by which it does: **/*.rs for *.rs
+If find does not find TEXT, the last line may have a pattern by which it does: **/*.rs for *.rs
 and a/b.rs.
 
 Status:
   0         the pattern matches TEXT, as globs match would
   1         it does not match
-  2         a fault. That of a pattern that is refused is followed by the pattern, a caret at its
-            place, and what to write instead. It is also a fault if the wildcards, brackets and
-            characters of the pattern, times the bytes of TEXT, are more than 67,108,864
+  2         a fault. After that of a refused pattern come the pattern, a caret at the place, and
+            what to write instead. It is also a fault if the wildcards, brackets and characters
+            of the pattern, times the bytes of TEXT, are more than 67,108,864
 ";
 
 /// The page of `escape`.
@@ -227,8 +227,8 @@ globs escape: patterns that match exactly the given texts
   -0  each pattern ends in a NUL in place of a line feed
   --  ends the options. A TEXT that begins with - needs it
 
-For each TEXT it writes the pattern that matches this text and no other, under each option but -i,
-and a line feed. So *.rs is written as [*].rs, and {a} as [{]a[}], which find and match do not
+For each TEXT it writes a line with the pattern that matches only that text, under every option
+except -i. So *.rs is written as [*].rs, and {a} as [{]a[}], which find and match do not
 expand.
 
 Status:
