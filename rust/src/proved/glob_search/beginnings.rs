@@ -1,10 +1,10 @@
-//! Made by `bin/rust_crate` from `crates/glob_search/src/beginnings.rt`, where its contracts are: sha256 fa77c54fcf11fad6.
+//! Made by `bin/rust_crate` from `crates/glob_search/src/beginnings.rt`, where its contracts are: sha256 b44797a141d12546.
 //!
-//! The beginnings of patterns.
+//! The beginnings of patterns, as a tree: what a search still has to match below a directory.
 //!
-//! Patterns that begin with the same components share their beginnings: each is a node, and goes on to others by one
-//! component. In a directory those are alive that take the names of its path, as `src` and `src/**` do in `src`, and
-//! `src/**` alone in `src/a`. Nothing else of the patterns is needed there.
+//! A beginning is the first components of some patterns. It is a node of the tree, and leads to others, each of one
+//! component more. In a directory those beginnings are alive that take the names of its path: in `src` these are `src`
+//! and `src/**`, in `src/a` only `src/**`. Nothing else of the patterns matters there.
 
 mod growing;
 mod node;
@@ -14,15 +14,15 @@ use crate::proved::glob_set::SetRefusal;
 use crate::proved::glob_tree::begins_with_dot;
 use node::Node;
 
-/// The beginnings of some patterns, and how names are matched. The empty one is the first.
+/// The beginnings of some patterns, and how names are matched. The first is the empty one, the root of the tree.
 pub struct Beginnings {
     nodes: Vec<Node>,
     options: MatchOptions,
 }
 
 impl Beginnings {
-    /// The beginnings of patterns. The error is the fault of the first that has one, or else that of its first
-    /// component that has one.
+    /// The beginnings of some patterns. The error is the fault of the first pattern with one: that of its whole text
+    /// or, if that has none, of its first component with one.
     pub fn of(patterns: &[&str], options: MatchOptions) -> Result<Self, SetRefusal> {
         let mut nodes = Vec::new();
         nodes.push(Node::new(false));
@@ -35,14 +35,14 @@ impl Beginnings {
         Ok(beginnings)
     }
 
-    /// What is alive at the start.
+    /// The beginnings that are alive in the start directory.
     pub fn at_start(&self) -> Vec<usize> {
         let mut alive = Vec::new();
         self.enliven(0, &mut alive);
         alive
     }
 
-    /// What is alive after a further name.
+    /// The beginnings that are alive after one more name.
     pub fn after(&self, alive: &[usize], name: &str) -> Vec<usize> {
         if self.options.case_sensitive {
             return self.after_key(alive, name, name);
@@ -51,7 +51,7 @@ impl Beginnings {
         self.after_key(alive, name, key.as_str())
     }
 
-    /// What is alive after a further name, with the text by which it is compared with literals.
+    /// The same, given also the text by which the name is compared with literals.
     fn after_key(&self, alive: &[usize], name: &str, key: &str) -> Vec<usize> {
         let mut next = Vec::new();
         for number in alive {
@@ -62,7 +62,7 @@ impl Beginnings {
         next
     }
 
-    /// Adds what goes on by a name from one beginning.
+    /// Adds the beginnings that a name leads to from one beginning.
     fn step(&self, number: usize, name: &str, key: &str, next: &mut Vec<usize>) {
         let Some(node) = self.node(number) else {
             return;
@@ -72,21 +72,21 @@ impl Beginnings {
         self.step_wild(node, name, next)
     }
 
-    /// Adds a beginning itself, if it ends in a `**` that may take a name.
+    /// Adds the beginning itself, if it ends in a `**` that may take the name.
     fn stay(&self, number: usize, node: &Node, name: &str, next: &mut Vec<usize>) {
         if node.is_deep && self.is_open(name) {
             next.push(number);
         }
     }
 
-    /// Adds what goes on by the literal that is compared by a key.
+    /// Adds what the literal with this key leads to, if there is one.
     fn step_literal(&self, node: &Node, key: &str, next: &mut Vec<usize>) {
         if let Some(node) = node.literal_leads(key) {
             self.enliven(node, next);
         }
     }
 
-    /// Adds what goes on by the wildcards that match a name.
+    /// Adds what the components with wildcards lead to that match the name.
     fn step_wild(&self, node: &Node, name: &str, next: &mut Vec<usize>) {
         for wild in node.wilds.iter() {
             if wild.pattern.matches_with(name, self.options) {
@@ -95,7 +95,7 @@ impl Beginnings {
         }
     }
 
-    /// Adds a beginning, and the one that goes on by a `**` which takes no name.
+    /// Adds a beginning, and the one that a `**` leads to from there, which may take no name.
     fn enliven(&self, number: usize, alive: &mut Vec<usize>) {
         alive.push(number);
         if let Some(deep) = self.deep_of(number) {
@@ -103,7 +103,7 @@ impl Beginnings {
         }
     }
 
-    /// Where `**` leads from a beginning.
+    /// The beginning that `**` leads to from this one, if there is one.
     fn deep_of(&self, number: usize) -> Option<usize> {
         self.node(number)?.deep
     }
@@ -113,7 +113,7 @@ impl Beginnings {
         self.nodes.get(number)
     }
 
-    /// Whether `**` may take a name.
+    /// Whether the dot rule lets `**` take the name.
     fn is_open(&self, name: &str) -> bool {
         !self.options.require_literal_leading_dot || !begins_with_dot(name)
     }
@@ -131,7 +131,7 @@ impl Beginnings {
         matches!(self.node(number), Some(node) if node.is_whole)
     }
 
-    /// Whether one of these beginnings goes on.
+    /// Whether one of these beginnings leads to another.
     pub fn goes_on(&self, alive: &[usize]) -> bool {
         self.has_further(alive)
     }
@@ -144,7 +144,7 @@ impl Beginnings {
         matches!(self.node(number), Some(node) if node.goes_on())
     }
 
-    /// Whether only literal names go on from these beginnings, and are looked up as they are.
+    /// Whether these beginnings lead on only by literal names, which can be looked up as they are.
     pub fn is_literal(&self, alive: &[usize]) -> bool {
         self.are_looked_up(alive)
     }
@@ -153,7 +153,7 @@ impl Beginnings {
         alive.iter().all(|number| self.is_looked_up(*number))
     }
 
-    /// Whether what goes on from a beginning is looked up by its name.
+    /// Whether a beginning leads on only by literal names, which can be looked up as they are.
     fn is_looked_up(&self, number: usize) -> bool {
         let Some(node) = self.node(number) else {
             return false;
@@ -161,17 +161,17 @@ impl Beginnings {
         node.is_literal() && (self.options.case_sensitive || node.literals.is_empty())
     }
 
-    /// Whether other names than literal ones may lead further on from these beginnings.
+    /// Whether a directory may have to be entered whose name is no literal of these beginnings.
     pub fn enters_many(&self, alive: &[usize]) -> bool {
         alive.iter().any(|number| matches!(self.nodes.get(*number), Some(node) if self.leads_on(node)))
     }
 
-    /// Whether `**` or a wildcard leads from a beginning to one that goes on.
+    /// Whether `**` or a component with wildcards leads from a node to one that leads on.
     fn leads_on(&self, node: &Node) -> bool {
         node.is_deep || node.wilds.iter().any(|wild| matches!(self.nodes.get(wild.node), Some(node) if node.goes_on()))
     }
 
-    /// The names by which literals go on from these beginnings, ascending.
+    /// The literal names by which these beginnings lead on, in ascending order.
     pub fn literal_names(&self, alive: &[usize]) -> Vec<&str> {
         let mut names = self.literals_of(alive);
         names.sort_unstable();
@@ -179,7 +179,7 @@ impl Beginnings {
         names
     }
 
-    /// The literals by which these beginnings go on, in no order.
+    /// The literal names by which these beginnings lead on, in no particular order.
     fn literals_of(&self, alive: &[usize]) -> Vec<&str> {
         let mut names = Vec::new();
         for number in alive {
@@ -193,7 +193,7 @@ impl Beginnings {
     }
 }
 
-/// The refusal of the pattern with a number.
+/// The error for the pattern at index `number`.
 fn refusal_of(number: usize, refusal: PatternError) -> SetRefusal {
     let error = refusal;
     SetRefusal::Syntax(number, error)

@@ -1,6 +1,6 @@
-//! Made by `bin/rust_crate` from `crates/glob_search/src/entries.rt`, where its contracts are: sha256 cb747e197b06f558.
+//! Made by `bin/rust_crate` from `crates/glob_search/src/entries.rt`, where its contracts are: sha256 bc0c107c74a61c7b.
 //!
-//! What a directory has.
+//! The entries of a directory, looked up or listed.
 
 use crate::proved::glob_search::beginnings::Beginnings;
 use crate::proved::glob_search::fault::SearchFault;
@@ -9,13 +9,13 @@ use crate::proved::glob_search::meter::Meter;
 use crate::proved::glob_tree::{child, Entry, Look, Name, Tree};
 use std::io;
 
-/// What is at a path.
+/// Looks up a path, for one unit.
 pub fn look_at<T: Tree>(meter: &mut Meter, tree: &mut T, path: &str) -> Result<Look, SearchFault> {
     meter.charge(1)?;
     Ok(tree.look(path))
 }
 
-/// The entries that have the names by which literals go on, in descending order.
+/// Looks up the literal names by which beginnings lead on: the entries that exist, in descending order.
 pub fn look_up<T: Tree>(
     meter: &mut Meter,
     tree: &mut T,
@@ -32,7 +32,7 @@ pub fn look_up<T: Tree>(
     Ok(entries)
 }
 
-/// The entry of a directory that has a name, if it is there.
+/// Looks up a name in a directory: its entry, if it exists.
 fn entry_at<T: Tree>(
     meter: &mut Meter,
     tree: &mut T,
@@ -50,7 +50,7 @@ fn entry_at<T: Tree>(
     }
 }
 
-/// The entries of a directory, in descending order of names, each once.
+/// Lists a directory: its entries, in descending order of names, each once.
 pub fn list<T: Tree>(
     meter: &mut Meter,
     tree: &mut T,
@@ -69,7 +69,7 @@ pub fn list<T: Tree>(
     Ok(entries)
 }
 
-/// What a directory lists: its names alone where no kinds are known.
+/// The listing of a directory: only names if the source is `Named`, and otherwise kinds as well.
 fn listed<T: Tree>(tree: &mut T, path: &str, source: Source) -> Result<Vec<Entry>, io::Error> {
     if source == Source::Named {
         tree.list_names(path)
@@ -78,7 +78,7 @@ fn listed<T: Tree>(tree: &mut T, path: &str, source: Source) -> Result<Vec<Entry
     }
 }
 
-/// Puts the entries of a directory into descending order of names, each once.
+/// Sorts entries in descending order of names, and keeps each name once.
 fn put_in_order(entries: &mut Vec<Entry>) {
     entries.sort_unstable_by(|a, b| b.name.as_str().cmp(a.name.as_str()));
     entries.dedup_by(|a, b| a.name.as_str() == b.name.as_str());

@@ -1,4 +1,4 @@
-//! Made by `bin/rust_crate` from `crates/glob_search/src/fault.rt`, where its contracts are: sha256 1e6a00f57a232deb.
+//! Made by `bin/rust_crate` from `crates/glob_search/src/fault.rt`, where its contracts are: sha256 c6fa695a997278e7.
 //! `SearchFault` is not `#[non_exhaustive]` there.
 //!
 //! What a search could not do.
@@ -8,16 +8,16 @@ use crate::proved::glob_search::meter::OverLimit;
 use std::error::Error;
 use std::{fmt, io};
 
-/// What a search could not do. It goes on after it.
+/// What a search could not do. After `Limit` it has ended; otherwise it goes on.
 #[derive(Debug)]
 #[non_exhaustive]
 pub enum SearchFault {
     /// The directory at the path could not be listed, so what is below it is not found.
     Unread(String, io::Error),
-    /// The file with rules at the path could not be read, so its rules are not heard.
+    /// The ignore file at the path could not be read, so its rules do not apply.
     UnreadRules(String, io::Error),
-    /// Lines of the file with rules at the path are refused: these are their refusals. The rules of its other lines are
-    /// heard.
+    /// Lines of the ignore file at the path are refused, and these are the refusals. The rules of its other lines do
+    /// apply.
     RefusedRules(String, Vec<RuleRefusal>),
     /// The next unit of work does not fit the limit. The search has ended.
     Limit,

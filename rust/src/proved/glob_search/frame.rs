@@ -1,6 +1,6 @@
-//! Made by `bin/rust_crate` from `crates/glob_search/src/frame.rt`, where its contracts are: sha256 8fb7d8214dbbc10c.
+//! Made by `bin/rust_crate` from `crates/glob_search/src/frame.rt`, where its contracts are: sha256 e3c2701e117a060d.
 //!
-//! A directory on the way.
+//! A directory that a search is in, or enters next.
 
 use crate::proved::glob_tree::Entry;
 
@@ -11,14 +11,14 @@ pub struct Opening {
     pub alive: Vec<usize>,
 }
 
-/// What is known of the entries of a directory.
+/// How the entries of a directory are known.
 #[derive(Clone, Copy, PartialEq, Eq)]
 pub enum Source {
-    /// Some names were looked up, and these are there. Others may be, too.
+    /// Some names were looked up, and these exist. There may be others.
     LookedUp,
     /// All of them, with their kinds.
     Listed,
-    /// All names, and no kinds.
+    /// All of them, without their kinds.
     Named,
 }
 
@@ -28,16 +28,16 @@ pub struct Frame {
     /// The beginnings that are alive in it.
     pub alive: Vec<usize>,
     pub source: Source,
-    /// Its entries that are still to be met, each name once, in descending order: the last is met first.
+    /// The entries that are still to be visited, each name once, in descending order: the last is visited first.
     pub entries: Vec<Entry>,
-    /// How many of the names of files with rules were read, or are not there.
+    /// How many of the names of ignore files are dealt with: read, or known to be missing.
     pub files: usize,
-    /// How many files with rules are heard from the directories above it.
+    /// How many of the lists in `Heard::files` come from above it.
     pub heard: usize,
 }
 
 impl Frame {
-    /// The number of the next of these names that may be in it, which is passed by this.
+    /// The index of the next of these names that may exist in it. A later call goes on after it.
     pub fn next_file(&mut self, names: &[String]) -> Option<usize> {
         while self.files < names.len() {
             let number = self.files;
@@ -57,7 +57,7 @@ impl Frame {
         }
     }
 
-    /// Whether a name may be in it: where its names are known, whether it is one of them.
+    /// Whether the name may exist in it. If its names are known, whether it is one of them.
     fn may_have(&self, name: &str) -> bool {
         match self.source {
             Source::LookedUp => true,

@@ -1,37 +1,37 @@
-//! Made by `bin/rust_crate` from `crates/glob_search/src/heard.rt`, where its contracts are: sha256 166bce8907f70e46.
+//! Made by `bin/rust_crate` from `crates/glob_search/src/heard.rt`, where its contracts are: sha256 a6695cb4080e148f.
 //!
-//! The rules that are heard in a directory.
+//! The ignore rules that apply in a directory.
 
 use crate::proved::glob_rules::IgnoreList;
 
 /// The rules of a file, for the paths below its directory.
 pub struct FileRules {
-    /// How many bytes of a path are its directory's and the separator after it.
+    /// How many bytes of a path come before the part that the rules are about.
     pub above: usize,
     pub list: IgnoreList,
 }
 
-/// The rules that are heard. Of the lists the last one that says something of a path decides, and those that come
-/// before all others are asked first.
+/// The rules that apply. Among several lists the last one with a rule that names the path decides, but those in `first`
+/// are asked before all others.
 pub struct Heard {
     pub first: Vec<FileRules>,
-    /// The rules that come after those of files, and then those of files.
+    /// The lists that are asked last, and after them those of files, the outermost directory first.
     pub files: Vec<FileRules>,
 }
 
 impl Heard {
-    /// Rules from the start on, before those of files and after them.
+    /// The lists for paths from the start directory on: `first` is asked before those of files, and `last` after them.
     pub fn of_lists(first: Vec<IgnoreList>, last: Vec<IgnoreList>) -> Self {
         Heard { first: from_start(first), files: from_start(last) }
     }
 
-    /// Whether there are any.
+    /// Whether there are any rules.
     pub fn is_any(&self) -> bool {
         !self.first.is_empty() || !self.files.is_empty()
     }
 
-    /// Whether the first rules that say something of a path ignore it. The directories above it are not asked about:
-    /// they were when they were entered.
+    /// Whether the rule that decides ignores the path. The directories above it are not checked again: they were when
+    /// they were entered.
     pub fn ignores(&self, path: &str, is_dir: bool) -> bool {
         if let Some(ignored) = last_said(self.first.as_slice(), path, is_dir) {
             return ignored;
@@ -41,7 +41,7 @@ impl Heard {
     }
 }
 
-/// Lists for paths from the start on.
+/// The lists, as rules for paths from the start directory on.
 fn from_start(lists: Vec<IgnoreList>) -> Vec<FileRules> {
     let mut rules = Vec::new();
     for list in lists {
@@ -50,7 +50,7 @@ fn from_start(lists: Vec<IgnoreList>) -> Vec<FileRules> {
     rules
 }
 
-/// What the last list that says something of a path says: whether it ignores it.
+/// Whether the last list with a rule that names the path ignores it; `None` if no list has one.
 fn last_said(rules: &[FileRules], path: &str, is_dir: bool) -> Option<bool> {
     let mut left = rules.len();
     while left > 0 {
@@ -64,7 +64,7 @@ fn last_said(rules: &[FileRules], path: &str, is_dir: bool) -> Option<bool> {
     None
 }
 
-/// Whether a list ignores a path, or `None` where no rule of it names the path.
+/// Whether a list ignores a path; `None` if none of its rules names it.
 fn said(list: &IgnoreList, path: &str, is_dir: bool) -> Option<bool> {
     match list.naming_rule(path, is_dir) {
         Some(rule) => Some(!rule.negative),
@@ -72,7 +72,7 @@ fn said(list: &IgnoreList, path: &str, is_dir: bool) -> Option<bool> {
     }
 }
 
-/// What is after so many bytes of a path.
+/// The path without its first `above` bytes.
 fn below(path: &str, above: usize) -> &str {
     match path.split_at_checked(above) {
         Some((_, rest)) => rest,

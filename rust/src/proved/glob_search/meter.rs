@@ -1,4 +1,4 @@
-//! Made by `bin/rust_crate` from `crates/glob_search/src/meter.rt`, where its contracts are: sha256 91b150dddcada8fd.
+//! Made by `bin/rust_crate` from `crates/glob_search/src/meter.rt`, where its contracts are: sha256 2337eb921b38976c.
 //!
 //! The limit of a search, and what is charged to it.
 
@@ -14,7 +14,7 @@ pub struct Meter {
 }
 
 impl Meter {
-    /// Charges some units, if as many are left.
+    /// Charges units, if that many are left.
     pub fn charge(&mut self, units: usize) -> Result<(), OverLimit> {
         let units = units as u64;
         if units > self.limit - self.spent {

@@ -1,20 +1,20 @@
-//! Made by `bin/rust_crate` from `crates/glob_search/src/lib.rt`, where its contracts are: sha256 c4778541a9dee8d2.
+//! Made by `bin/rust_crate` from `crates/glob_search/src/lib.rt`, where its contracts are: sha256 9cc89a76653b88f9.
 //!
-//! Searches: the paths below a directory that some of many patterns match, each once and in order, without those that
-//! ignore files leave out.
+//! Searches: the paths below a directory that at least one of many patterns matches, each once and in order, without
+//! those that ignore files exclude.
 //!
 //! A [`Search`] for `src/*.c` and `lib/**/*.h` lists `src`, `lib` and the directories below `lib`, and no other.
 //!
-//! Over a known content, the calls of [`Search::next`] give exactly what `specs/Visiting.antt` writes, one after another
-//! and then `None`: each path that a filter of all keys takes (`specs/Searching.antt`), once and in ascending order, and
-//! each directory that could not be listed. The [`laws`] tie the order to the filter. This holds until the limit is
-//! reached, or memory runs out.
+//! Over a known content, the calls of [`Search::next`] return exactly what `specs/Visiting.antt` lists, one after
+//! another, and then `None`: each path that a filter of all keys takes (`specs/Searching.antt`), once and in ascending
+//! order, and each directory that could not be listed. The [`laws`] tie the order to the filter. This holds until the
+//! limit is reached, or memory runs out.
 //!
-//! Over any tree, also one whose answers contradict each other, a search is safe, each call comes to an end, each path
-//! comes after those before it in the order of names, and what is charged only grows and is never more than the limit.
+//! Over any tree, even one whose answers contradict each other, a search is safe, each call returns, paths come in
+//! strictly ascending order of names, and the units charged never exceed the limit.
 //!
-//! A line that is refused in a file with rules is reported, and has no rule. A pattern with an empty component, `.` or
-//! `..` finds nothing.
+//! A refused line of an ignore file is reported, and makes no rule. A pattern with an empty component, `.` or `..`
+//! finds nothing.
 
 mod beginnings;
 mod entries;

@@ -1,10 +1,10 @@
-//! Made by `bin/rust_crate` from `crates/glob_search/src/rule_texts.rt`, where its contracts are: sha256 3c040d3a1e960cfe.
+//! Made by `bin/rust_crate` from `crates/glob_search/src/rule_texts.rt`, where its contracts are: sha256 c9f95ba42a332888.
 //!
 //! Where the texts of ignore files come from.
 
 use std::io;
 
-/// The texts of files with rules, and what else is left out. Where they are, nothing else is left out.
+/// The texts of ignore files, and what else is left out.
 ///
 /// ```
 /// use cadmiumdove::search::{RuleTexts, Search};
@@ -25,11 +25,11 @@ use std::io;
 /// # Ok::<(), cadmiumdove::search::SearchRefusal>(())
 /// ```
 pub trait RuleTexts {
-    /// The text of the file at a path, as `src/.gitignore`, or `None` where there is no file.
+    /// The text of the file at a path such as `src/.gitignore`, or `None` if there is no file.
     ///
     /// # Errors
     ///
-    /// The error says why it cannot be read. Where the texts are known, each can be.
+    /// The error says why it cannot be read. If the texts are known, each can be read.
     ///
     /// <details><summary>Contract</summary>
     ///
@@ -44,8 +44,8 @@ pub trait RuleTexts {
     /// </details>
     fn text(&mut self, path: &str) -> Result<Option<String>, io::Error>;
 
-    /// Whether a path is left out, and all below it, that no rule ignores. It is asked for each path that is found or
-    /// entered.
+    /// Whether to leave out a path that no rule ignores, and all that is below it. This is asked about each path that
+    /// is to be found or entered.
     ///
     /// <details><summary>Contract</summary>
     ///
@@ -61,7 +61,7 @@ pub trait RuleTexts {
     }
 }
 
-/// No files with rules.
+/// No ignore files.
 ///
 /// ```
 /// use cadmiumdove::search::{NoRuleTexts, Search};

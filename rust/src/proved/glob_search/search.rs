@@ -1,6 +1,6 @@
-//! Made by `bin/rust_crate` from `crates/glob_search/src/search.rt`, where its contracts are: sha256 4466cae797b8fa9a.
+//! Made by `bin/rust_crate` from `crates/glob_search/src/search.rt`, where its contracts are: sha256 3b26c791622ed440.
 //!
-//! Searches.
+//! A search, as its callers see it.
 
 use crate::proved::glob_search::fault::SearchFault;
 use crate::proved::glob_search::found::Found;
@@ -10,8 +10,8 @@ use crate::proved::glob_search::settings::Settings;
 use crate::proved::glob_set::SetRefusal;
 use crate::proved::glob_tree::Tree;
 
-/// A search for the paths below the current directory of a tree that some of many patterns match, each once and in
-/// ascending order of names.
+/// A search for the paths below the current directory of a tree that at least one of many patterns matches, each once
+/// and in ascending order of names.
 ///
 /// ```text
 /// let mut search = Search::new(&["src/*.rs", "docs/**"], Settings::new())?;
@@ -24,7 +24,7 @@ pub struct Search {
 }
 
 impl Search {
-    /// A search for what some patterns match. It has asked nothing, and all is left that it has to give.
+    /// A search that has not begun: it has asked nothing and given nothing.
     ///
     /// A pattern is read as a whole, and then each of its components, so that `a/[/]` is refused for its `[`. The error
     /// is the number of the first pattern with a fault, counted from 0, and its first fault.
@@ -33,7 +33,7 @@ impl Search {
         Ok(Search { searcher })
     }
 
-    /// The next path that is found, or what could not be done; `None` where nothing is left, and from then on.
+    /// The next path that is found, or what could not be done. `None` if nothing is left, and from then on.
     ///
     /// Where the content of the tree and the texts of the files with rules are known, the paths and the directories that
     /// cannot be listed are exactly those that the search has to give, one after another, and `None` comes after the last.

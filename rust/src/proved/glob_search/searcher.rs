@@ -1,9 +1,9 @@
-//! Made by `bin/rust_crate` from `crates/glob_search/src/searcher.rt`, where its contracts are: sha256 c7c4c84243b921c7.
+//! Made by `bin/rust_crate` from `crates/glob_search/src/searcher.rt`, where its contracts are: sha256 2b48541b29680a48.
 //!
-//! How a search goes.
+//! The turns of a search.
 //!
 //! A search has a frame for each directory on the way down to where it is. A turn enters a directory, reads one of its
-//! files with rules, meets one of its entries, or leaves it.
+//! ignore files, visits one of its entries, or leaves it.
 
 mod entering;
 
@@ -21,7 +21,7 @@ use crate::proved::glob_search::way::{Way, Work};
 use crate::proved::glob_set::SetRefusal;
 use crate::proved::glob_tree::{child, Entry, Tree};
 
-/// A search, as its own functions see it.
+/// What a search keeps between its turns.
 pub struct Searcher {
     beginnings: Beginnings,
     depth: usize,
@@ -76,7 +76,7 @@ impl Searcher {
         self.meter.spent
     }
 
-    /// Lets go of what is left.
+    /// Drops what is left, after the last fault.
     fn end(&mut self) {
         self.way = Way { entering: None, frames: Vec::new() };
     }
@@ -97,7 +97,7 @@ impl Searcher {
         Ok(None)
     }
 
-    /// Meets an entry of the last directory: it may be found, and may be entered next.
+    /// Visits an entry of the last directory, which may be found, and may be entered next.
     fn meet<T: Tree, R: RuleTexts>(
         &mut self,
         tree: &mut T,
@@ -122,7 +122,7 @@ impl Searcher {
         self.take(path, alive, is_dir, is_found, goes_on)
     }
 
-    /// Whether the entry at a path is a directory. Where that is not known and does not matter, it is not learned.
+    /// Whether the entry at a path is a directory. `None` if that is not known and does not matter.
     fn kind_at<T: Tree>(
         &mut self,
         tree: &mut T,
@@ -145,7 +145,7 @@ impl Searcher {
         texts.leaves_out(path, is_dir)
     }
 
-    /// Takes an entry that was met: enters it next, if it goes on and is a directory, and finds it, if it is wanted.
+    /// Enters an entry next, if it is a directory and patterns go on, and finds it, if it is wanted.
     fn take(
         &mut self,
         path: String,
@@ -162,12 +162,12 @@ impl Searcher {
         Ok(None)
     }
 
-    /// Whether the kind of each entry that is found matters.
+    /// Whether the kind of each path that is found matters.
     fn needs_kinds(&self) -> bool {
         self.kinds || self.wanted != Wanted::All || self.heard.is_any()
     }
 
-    /// Reads the file with rules that has the name with a number, in the last directory.
+    /// Reads, in the last directory, the ignore file with the name at index `number`.
     fn read_rules<R: RuleTexts>(&mut self, texts: &mut R, number: usize) -> Result<(), SearchFault> {
         self.meter.charge(1)?;
         let Some(frame) = self.way.frames.last() else {

@@ -1,7 +1,7 @@
-//! Made by `bin/rust_crate` from `crates/glob_search/src/settings.rt`, where its contracts are: sha256 aa6e4f2fbc5fa8b0.
+//! Made by `bin/rust_crate` from `crates/glob_search/src/settings.rt`, where its contracts are: sha256 006096ad1a668e98.
 //! `Wanted` is not `#[non_exhaustive]` there.
 //!
-//! What a search is asked for, beside its patterns.
+//! What a search is asked for, besides its patterns.
 
 use crate::proved::glob_pattern::MatchOptions;
 use crate::proved::glob_rules::IgnoreList;
@@ -18,16 +18,16 @@ use crate::proved::glob_rules::IgnoreList;
 #[derive(Clone, Copy, Debug, PartialEq, Eq)]
 #[non_exhaustive]
 pub enum Wanted {
-    /// Each of them.
+    /// All of them.
     All,
     /// Directories.
     Directories,
-    /// Those that are no directories.
+    /// Everything but directories.
     Others,
 }
 
 impl Wanted {
-    /// Whether a path is found, where `is_dir` says that it is a directory.
+    /// Whether a path is found; `is_dir` says whether it is a directory.
     ///
     /// <details><summary>Contract</summary>
     ///
@@ -46,25 +46,25 @@ impl Wanted {
     }
 }
 
-/// What a search is asked for, beside its patterns. [`new`](Settings::new) asks for all that they match.
+/// What a search is asked for, besides its patterns. [`new`](Settings::new) asks for all that they match.
 pub struct Settings {
     /// How names are matched. The separator rule holds in any case.
     pub options: MatchOptions,
-    /// The most names of a path: with 1, what is in the start directory.
+    /// The most names that a path may have: with 1, only what is in the start directory is found.
     pub depth: usize,
     /// Which kinds are found.
     pub wanted: Wanted,
-    /// Whether the kind of each path that is found is learned. Without it a kind is asked for only where it decides
+    /// Whether to learn the kind of each path that is found. If not, a kind is asked for only where it decides
     /// something.
     pub kinds: bool,
-    /// The most units of work: one for each lookup, listing, file of rules, and entry of a listing.
+    /// The most units of work: one for each lookup, listing, ignore file, and entry of a listing.
     pub limit: u64,
-    /// Rules that come before those of any file, for paths from the start directory on. Of these lists the last comes
+    /// Lists that take precedence over those of files, for paths from the start directory on. The last of them is asked
     /// first.
     pub first: Vec<IgnoreList>,
-    /// Rules that come after those of any file, as those of git's `info/exclude`. Of these lists the last comes first.
+    /// Lists that give way to those of files, such as git's `info/exclude`. The last of them is asked first.
     pub last: Vec<IgnoreList>,
-    /// The names of files with rules, as `.gitignore`. Of those in one directory the last comes first.
+    /// The names of ignore files, such as `.gitignore`. Of those in one directory the last is asked first.
     pub rule_files: Vec<String>,
 }
 

@@ -1,4 +1,4 @@
-//! Made by `bin/rust_crate` from `crates/glob_search/src/way.rt`, where its contracts are: sha256 e2cbfecf2d3d82e9.
+//! Made by `bin/rust_crate` from `crates/glob_search/src/way.rt`, where its contracts are: sha256 02b5e7142a32708c.
 //!
 //! The way down to where a search is, and what it does next.
 
@@ -9,11 +9,11 @@ use crate::proved::glob_tree::Entry;
 pub enum Work {
     /// It enters a directory.
     Enter(Opening),
-    /// It reads the file with rules that has the name with a number, in the last directory.
+    /// It reads, in the last directory, the ignore file with the name at this index.
     Read(usize),
-    /// It meets an entry of the last directory.
+    /// It visits an entry of the last directory.
     Meet(Entry),
-    /// It has left a directory, above which this many files with rules are heard.
+    /// It has left a directory. This many of the lists in `Heard::files` still apply.
     Leave(usize),
 }
 
@@ -24,7 +24,7 @@ pub struct Way {
 }
 
 impl Way {
-    /// What is done next, where the files with rules have these names; `None` where nothing is left.
+    /// What the search does next, given the names of ignore files. `None` if nothing is left.
     pub fn next(&mut self, names: &[String]) -> Option<Work> {
         if let Some(opening) = self.entering.take() {
             return Some(Work::Enter(opening));

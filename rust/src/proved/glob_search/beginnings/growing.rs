@@ -1,6 +1,6 @@
-//! Made by `bin/rust_crate` from `crates/glob_search/src/beginnings/growing.rt`, where its contracts are: sha256 5c18938ee6f11880.
+//! Made by `bin/rust_crate` from `crates/glob_search/src/beginnings/growing.rt`, where its contracts are: sha256 2b7d0fa196feecae.
 //!
-//! How the tree of beginnings grows by a pattern.
+//! Adds patterns to the tree of beginnings.
 
 use crate::proved::glob_pattern::{Pattern, PatternError};
 use crate::proved::glob_search::beginnings::node::{Component, Node};
@@ -16,7 +16,7 @@ impl Beginnings {
         Ok(())
     }
 
-    /// Adds the beginnings to which the components of a pattern lead. The last of them is returned.
+    /// Adds the beginnings that the components of a pattern lead to, one after another, and returns the last.
     fn walk(&mut self, pattern: &str) -> Result<usize, PatternError> {
         let mut at = 0;
         for component in pattern.split('/') {
@@ -25,7 +25,7 @@ impl Beginnings {
         Ok(at)
     }
 
-    /// The beginning that is a whole pattern, where the last component leads to this one: after `**` a name more.
+    /// The beginning that is the whole pattern, given that of its last component: after `**`, one name further.
     fn end_of(&mut self, at: usize) -> Result<usize, PatternError> {
         if self.nodes[at].is_deep {
             return self.child(at, "*");
@@ -33,12 +33,12 @@ impl Beginnings {
         Ok(at)
     }
 
-    /// Notes that a beginning is a whole pattern.
+    /// Marks a beginning as a whole pattern.
     fn mark_whole(&mut self, at: usize) {
         self.nodes[at].mark_whole();
     }
 
-    /// The beginning that goes on by a component. Where one ends in `**`, a further `**` leads to itself.
+    /// The beginning that a component leads to, added if it is missing. After `**`, another `**` leads to the same one.
     fn child(&mut self, at: usize, component: &str) -> Result<usize, PatternError> {
         let component = self.component(component)?;
         if component.is_deep() && self.nodes[at].is_deep {
@@ -61,7 +61,7 @@ impl Beginnings {
         Ok(Component::Wild(Pattern::new(text)?))
     }
 
-    /// Adds a beginning that goes on by a component.
+    /// Adds a beginning that a component leads to.
     fn lead(&mut self, at: usize, component: Component) -> usize {
         let node = self.nodes.len();
         let is_deep = component.is_deep();

@@ -1,14 +1,14 @@
-//! Made by `bin/rust_crate` from `crates/glob_search/src/beginnings/node.rt`, where its contracts are: sha256 cbeeca5e4e870727.
+//! Made by `bin/rust_crate` from `crates/glob_search/src/beginnings/node.rt`, where its contracts are: sha256 29de27efdf5eaf09.
 //!
-//! One beginning of some patterns.
+//! A node of the tree of beginnings.
 
 use crate::proved::glob_pattern::Pattern;
 
-/// A component.
+/// A component of a pattern.
 pub enum Component {
-    /// A name, in lower case where case does not count.
+    /// A name; in lower case if matching is case-insensitive.
     Literal(String),
-    /// One with wildcards.
+    /// A component with wildcards, other than `**`.
     Wild(Pattern),
     /// `**`.
     Deep,
@@ -21,41 +21,41 @@ impl Component {
     }
 }
 
-/// How a beginning goes on by a name.
+/// A literal name, and where it leads.
 pub struct Literal {
     pub text: String,
     /// The number of the beginning that it leads to.
     pub node: usize,
 }
 
-/// How a beginning goes on by a component with wildcards.
+/// A component with wildcards, and where it leads.
 pub struct Wild {
     pub pattern: Pattern,
     /// The number of the beginning that it leads to.
     pub node: usize,
 }
 
-/// A beginning, and how patterns go on from it.
+/// A beginning, and the components by which it leads to others.
 pub struct Node {
-    /// By literal components, ascending.
+    /// Literal ones, in ascending order.
     pub literals: Vec<Literal>,
-    /// By components with wildcards.
+    /// Those with wildcards, other than `**`.
     pub wilds: Vec<Wild>,
-    /// By `**`.
+    /// The number of the beginning that `**` leads to, if there is one.
     pub deep: Option<usize>,
-    /// Whether it ends in `**`, and takes any further name that is open to it.
+    /// Whether it ends in `**`, and so takes any further name that the dot rule allows.
     pub is_deep: bool,
     /// Whether it is a whole pattern.
     pub is_whole: bool,
 }
 
 impl Node {
-    /// A beginning from which nothing goes on.
+    /// A beginning that leads to no other yet.
     pub fn new(is_deep: bool) -> Self {
         Node { literals: Vec::new(), wilds: Vec::new(), deep: None, is_deep, is_whole: false }
     }
 
-    /// Where a component leads, if somewhere.
+    /// The beginning that a component leads to, if there is one.
     pub fn led_to(&self, component: &Component) -> Option<usize> {
         match component {
             Component::Literal(text) => self.literal_leads(text.as_str()),
@@ -64,7 +64,7 @@ impl Node {
         }
     }
 
-    /// Where a name leads.
+    /// The beginning that a name leads to, if there is one.
     pub fn literal_leads(&self, text: &str) -> Option<usize> {
         match self.find_literal(text) {
             Ok(place) => Some(self.literals[place].node),
@@ -72,7 +72,7 @@ impl Node {
         }
     }
 
-    /// Where a component with wildcards leads.
+    /// The beginning that a component with wildcards leads to, if there is one.
     fn wild_leads(&self, text: &str) -> Option<usize> {
         for wild in self.wilds.iter() {
             if wild.pattern.as_str() == text {
@@ -82,12 +82,12 @@ impl Node {
         None
     }
 
-    /// The place of a literal component, or the one where it belongs.
+    /// The index of a literal component, or the one at which it belongs.
     fn find_literal(&self, text: &str) -> Result<usize, usize> {
         self.literals.as_slice().binary_search_by(|literal| literal.text.as_str().cmp(text))
     }
 
-    /// Lets a component lead to a beginning.
+    /// Makes a component lead to a beginning.
     pub fn lead(&mut self, component: Component, node: usize) {
         match component {
             Component::Literal(text) => self.lead_literal(text, node),
@@ -98,13 +98,13 @@ impl Node {
         }
     }
 
-    /// Lets a name lead to a beginning.
+    /// Makes a name lead to a beginning.
     fn lead_literal(&mut self, text: String, node: usize) {
         let place = self.place_of(text.as_str());
         self.literals.insert(place, Literal { text, node });
     }
 
-    /// Where a name belongs among the literals.
+    /// The index at which a name belongs among the literals.
     fn place_of(&self, text: &str) -> usize {
         match self.find_literal(text) {
             Ok(place) => place,
@@ -112,22 +112,22 @@ impl Node {
         }
     }
 
-    /// Lets a component with wildcards lead to a beginning.
+    /// Makes a component with wildcards lead to a beginning.
     fn lead_wild(&mut self, pattern: Pattern, node: usize) {
         self.wilds.push(Wild { pattern, node });
     }
 
-    /// Notes that it is a whole pattern.
+    /// Marks it as a whole pattern.
     pub fn mark_whole(&mut self) {
         self.is_whole = true;
     }
 
-    /// Whether something goes on from it.
+    /// Whether it can take a further name.
     pub fn goes_on(&self) -> bool {
         !self.is_literal() || !self.literals.is_empty()
     }
 
-    /// Whether nothing goes on from it but literal components.
+    /// Whether it leads on by nothing but literal components.
     pub fn is_literal(&self) -> bool {
         !self.is_deep && self.deep.is_none() && self.wilds.is_empty()
     }

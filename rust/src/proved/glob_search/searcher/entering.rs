@@ -1,4 +1,4 @@
-//! Made by `bin/rust_crate` from `crates/glob_search/src/searcher/entering.rt`, where its contracts are: sha256 802bf61f93781009.
+//! Made by `bin/rust_crate` from `crates/glob_search/src/searcher/entering.rt`, where its contracts are: sha256 6948f814a8af8a7d.
 //!
 //! How a directory is entered.
 
@@ -9,14 +9,14 @@ use crate::proved::glob_search::searcher::Searcher;
 use crate::proved::glob_tree::{Entry, Tree};
 
 impl Searcher {
-    /// Enters a directory.
+    /// Enters a directory: learns its entries, and makes it the last one.
     pub(super) fn enter<T: Tree>(&mut self, tree: &mut T, opening: Opening) -> Result<(), SearchFault> {
         let source = self.source_of(&opening);
         let entries = self.entries(tree, &opening, source)?;
         self.step_into(opening, source, entries)
     }
 
-    /// Puts a directory on the way, unless it has no entries.
+    /// Makes a directory the last one, unless it has no entries.
     fn step_into(&mut self, opening: Opening, source: Source, entries: Vec<Entry>) -> Result<(), SearchFault> {
         if entries.is_empty() {
             return Ok(());
@@ -27,8 +27,8 @@ impl Searcher {
         Ok(())
     }
 
-    /// How what is in a directory is known: names are looked up where only literals go on. It is listed without kinds
-    /// where only entries that literals name may be entered.
+    /// How to learn the entries of a directory. Names are looked up if only literals lead on. Otherwise it is listed,
+    /// without kinds if none are needed and only entries that literals name may be entered.
     fn source_of(&self, opening: &Opening) -> Source {
         let alive = opening.alive.as_slice();
         if self.beginnings.is_literal(alive) {
