@@ -44,7 +44,9 @@
 
 use std::path::Path;
 
-pub use crate::proved::glob_set::{braces, BraceSetRefusal, PatternSet, SetRefusal};
+/// Braces in patterns: the alternatives of a text, and a text without any.
+pub use crate::proved::glob_set::braces;
+pub use crate::proved::glob_set::{BraceSetRefusal, PatternSet, SetRefusal};
 use crate::MatchOptions;
 
 impl PatternSet {

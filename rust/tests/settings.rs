@@ -149,8 +149,12 @@ fn a_function_leaves_out() {
         }
     }
 
-    let left: Vec<_> = search(&["*"]).over(files, Texts).map(|item| item.unwrap().path).collect();
-    assert_eq!(left, [".ignore", "b", "d"].map(PathBuf::from));
+    let left =
+        |search: Search| -> Vec<_> { search.over(files.clone(), Texts).map(|item| item.unwrap().path).collect() };
+    assert_eq!(left(search(&["*"])), [".ignore", "b", "d"].map(PathBuf::from));
+    // Whatever any function leaves out.
+    let both = search(&["*"]).exclude(|path, _is_dir| path == "d").exclude(|path, is_dir| is_dir || path == ".ignore");
+    assert_eq!(left(both), [""; 0].map(PathBuf::from));
 }
 
 /// A set leaves out what its patterns match and all below, and a list has comments and negations.
