@@ -5,7 +5,7 @@ use std::io;
 use std::path::PathBuf;
 
 use cadmiumdove::ignore::IgnoreList;
-use cadmiumdove::search::{NoRuleTexts, RuleTexts, Search, SearchError, SearchRefusal};
+use cadmiumdove::search::{NoRuleTexts, RuleTexts, Search, SearchError, SearchRefusal, Wanted};
 use cadmiumdove::set::{BraceSetRefusal, PatternSet};
 use cadmiumdove::walk::{Disk, Entry, Look, Name, Tree};
 use cadmiumdove::MatchOptions;
@@ -107,6 +107,10 @@ fn the_last_file_decides() {
     assert_eq!(by(&[".first", ".second"]), ["a.o", "x/b.o", refused, "y/a.c", unread, "z/a.c"]);
     assert_eq!(by(&[".second", ".first"]), ["x/b.o", refused, "y/a.c", unread, "z/a.c"]);
     assert_eq!(by(&[]).len(), 7);
+    // Each refused line gives an error, in order.
+    let two = Files(vec![(".first", "[é]\na\n[ü]\n"), ("a", ""), ("b", "")]);
+    let lines = [1, 3].map(|line| format!(".first: line {line}: a bracket names a character beyond ASCII"));
+    assert_eq!(found(search(&["[ab]"]).ignore_files([".first"]), &two), [&lines[0], &lines[1], "b"]);
     // The names that are given last count, with that of git.
     assert_eq!(found(search(&["*.o"]).ignore_files([".first"]).ignore_files([".second"]), &files), ["a.o", "b.o"]);
     let files = Files(vec![
@@ -119,6 +123,9 @@ fn the_last_file_decides() {
         ("x/d.git", ""),
     ]);
     assert_eq!(found(search(&["**/*.o", "*/*.git"]).git(), &files), ["x/d.git"]);
+    // Without `git` its files and directories are like any others.
+    let all = [".git/a.o", "a.o", "b.o", "x/.git", "x/.git/c.o", "x/d.git"];
+    assert_eq!(found(search(&["**/*.o", "*/*.git"]), &files), all);
     let both = Files(vec![(".gitignore", "!a.o\n"), (".ignore", "a.o\n"), ("a.o", "")]);
     assert_eq!(found(search(&["*.o"]).ignore_files([".ignore"]).git(), &both), ["a.o"]);
 }
@@ -187,6 +194,15 @@ fn limits() {
         assert_eq!(matches!(items.last(), Some(Err(SearchError::Limit))), limit < all, "{limit}");
         assert!(searching.spent() <= limit && searching.next().is_none());
     }
+}
+
+/// A tree knows only directories and others, and `files` finds the others.
+#[test]
+fn files_of_a_tree() {
+    let files = Files(vec![("a", ""), ("b/c", ""), ("d/e/f", "")]);
+    assert_eq!(found(search(&["**/*"]).files(), &files), ["a", "b/c", "d/e/f"]);
+    let directories = search(&["**/*"]).files().wanted(Wanted::Directories);
+    assert_eq!(found(directories, &files), ["b", "d", "d/e"]);
 }
 
 #[test]
