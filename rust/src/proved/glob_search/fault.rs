@@ -8,7 +8,7 @@ use crate::proved::glob_search::meter::OverLimit;
 use std::error::Error;
 use std::{fmt, io};
 
-/// What a search could not do. It goes on after it.
+/// What a search could not do. It goes on after it, but for `Limit`.
 #[derive(Debug)]
 #[non_exhaustive]
 pub enum SearchFault {
