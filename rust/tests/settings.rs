@@ -182,17 +182,23 @@ fn a_set_leaves_out() {
     assert_eq!(found(search(&["**/*"]).rules(list), &files), ["#a", "a", "a/b", "e.o", "x", "x/y"]);
 }
 
+/// Also files with rules are charged.
 #[test]
 fn limits() {
-    let files = Files(vec![("a", ""), ("b/c", "")]);
-    let mut whole = search(&["**/*"]).over(files.clone(), NoRuleTexts);
-    assert_eq!((whole.spent(), whole.by_ref().count()), (0, 3));
-    let all = whole.spent();
-    for limit in 0..=all {
-        let mut searching = search(&["**/*"]).limit(limit).over(files.clone(), NoRuleTexts);
-        let items: Vec<_> = searching.by_ref().collect();
-        assert_eq!(matches!(items.last(), Some(Err(SearchError::Limit))), limit < all, "{limit}");
-        assert!(searching.spent() <= limit && searching.next().is_none());
+    let files = Files(vec![("a", ""), ("b/.i", "x\n"), ("b/c", "")]);
+    for (names, given) in [(&[][..], 4), (&[".i"], 4)] {
+        let begun = |limit| search(&["**/*"]).ignore_files(names.iter().copied()).limit(limit);
+        let mut whole = begun(u64::MAX).over(files.clone(), files.clone());
+        assert_eq!((whole.spent(), whole.by_ref().count()), (0, given));
+        let all = whole.spent();
+        // Two listings, four entries, and a file.
+        assert_eq!(all, 6 + names.len() as u64);
+        for limit in 0..=all {
+            let mut searching = begun(limit).over(files.clone(), files.clone());
+            let items: Vec<_> = searching.by_ref().collect();
+            assert_eq!(matches!(items.last(), Some(Err(SearchError::Limit))), limit < all, "{limit}");
+            assert!(searching.spent() <= limit && searching.next().is_none());
+        }
     }
 }
 
