@@ -44,7 +44,8 @@
 
 use std::path::Path;
 
-/// Braces in patterns: the alternatives of a text, and a text without any.
+/// Braces in patterns: `src/*.{c,h}` is short for `src/*.c` and `src/*.h`.
+///
 pub use crate::proved::glob_set::braces;
 pub use crate::proved::glob_set::{BraceSetRefusal, PatternSet, SetRefusal};
 use crate::MatchOptions;
