@@ -182,19 +182,27 @@ fn a_set_leaves_out() {
     assert_eq!(found(search(&["**/*"]).rules(list), &files), ["#a", "a", "a/b", "e.o", "x", "x/y"]);
 }
 
-/// Also files with rules are charged.
+/// Lookups, listings, entries and files with rules are charged.
 #[test]
 fn limits() {
     let files = Files(vec![("a", ""), ("b/.i", "x\n"), ("b/c", "")]);
-    for (names, given) in [(&[][..], 4), (&[".i"], 4)] {
-        let begun = |limit| search(&["**/*"]).ignore_files(names.iter().copied()).limit(limit);
-        let mut whole = begun(u64::MAX).over(files.clone(), files.clone());
-        assert_eq!((whole.spent(), whole.by_ref().count()), (0, given));
-        let all = whole.spent();
-        // Two listings, four entries, and a file.
-        assert_eq!(all, 6 + names.len() as u64);
+    let rows = [
+        // Two listings and four entries.
+        (&["**/*"][..], &[][..], 4, 6),
+        // The same, and a file with rules.
+        (&["**/*"], &[".i"], 4, 7),
+        // Lookups of `a`, `b` and `b/c`: what has no wildcard lists nothing.
+        (&["a", "b/c"], &[], 2, 3),
+    ];
+    for (patterns, names, given, all) in rows {
+        let begun = |limit| {
+            let search = search(patterns).ignore_files(names.iter().copied()).limit(limit);
+            search.over(files.clone(), files.clone())
+        };
+        let mut whole = begun(u64::MAX);
+        assert_eq!((whole.spent(), whole.by_ref().count(), whole.spent()), (0, given, all));
         for limit in 0..=all {
-            let mut searching = begun(limit).over(files.clone(), files.clone());
+            let mut searching = begun(limit);
             let items: Vec<_> = searching.by_ref().collect();
             assert_eq!(matches!(items.last(), Some(Err(SearchError::Limit))), limit < all, "{limit}");
             assert!(searching.spent() <= limit && searching.next().is_none());
