@@ -164,6 +164,18 @@ DOCUMENTED = [
     ("a drawing", "/// A.\n///\n/// ```text\n/// a -> b\n/// ```\npub struct T;", "/// A.\n///\n/// ```text\n/// a -> b\n/// ```"),
     ("an example", "/// A type.\npub struct S;", "/// A type.\n///\n/// ```\n/// let s = S;\n/// ```"),
 ]
+# Functions, and whether their value must be used.
+USED = [
+    ("a value", "pub fn f(n: &u8) -> u8 { *n }", True),
+    ("a value that was a result", "pub fn f() -> Result<u8, AllocError> { Ok(1) }", True),
+    ("an option", "pub fn f() -> Option<u8> { None }", True),
+    ("no value", "pub fn f(n: u8) {}", False),
+    ("a value beside an effect", "pub fn f(n: &mut u8) -> u8 { *n }", False),
+    ("a value of a step", "pub struct S; impl S { pub fn f(&mut self) -> u8 { 1 } }", False),
+    ("a value of a method", "pub struct S; impl S { pub fn f(&self) -> u8 { 1 } }", True),
+    ("a value of a function that users do not reach", "pub fn g(n: u8) -> u8 { n }", False),
+    ("a value of a function that is not public", "pub(crate) fn f(n: u8) -> u8 { n }", False),
+]
 CONTRACT = "/// <details><summary>Contract</summary>\n///\n/// ```text\n/// ensures { a }\n/// ```\n///\n/// </details>"
 # Documentation by hand, and whether `bin/rust_crate` accepts it.
 BY_HAND = [
@@ -177,14 +189,19 @@ BY_HAND = [
 ]
 
 
-def documented(source):
-    """The comments of an erased source, without the contract."""
+def reached(source):
+    """An erased source, of which users reach `f` and `S`."""
     parser = parsed(source)
     facts = Facts([parser.tree])
     facts.public = {}
     eraser = Eraser(parser, facts, {"f", "S"})
     eraser.visit(parser.tree)
-    text = rewritten(parsed(eraser.edits.result()), facts, lambda line: line, {"f", "S"}, {"S": ["```", "let s = S;", "```"]})
+    return rewritten(parsed(eraser.edits.result()), facts, lambda line: line, {"f", "S"}, {"S": ["```", "let s = S;", "```"]})
+
+
+def documented(source):
+    """The comments of an erased source, without the contract."""
+    text = reached(source)
     return "\n".join(line for line in text.split("\n") if line.startswith("///")).replace(CONTRACT, "")
 
 
@@ -229,6 +246,8 @@ def main():
         except SystemExit:
             found = None
         count.same(name, found, wanted)
+    for name, source, wanted in USED:
+        count.same(name, "#[must_use]" in reached(source), wanted)
     for name, source, wanted in BY_HAND:
         count.same(name, is_accepted(source), wanted)
     count.end()
