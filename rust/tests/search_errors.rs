@@ -270,8 +270,7 @@ fn refusals_have_a_number_and_a_source() {
     assert_eq!(plain(&["a", "b", "c/"]), (2, format!("pattern 2: {no_path}"), vec![]));
     let (number, text, below) = braces(&["a", "{b"]);
     assert_eq!((number, text, below.len()), (1, format!("pattern 1: {}", below[0]), 1));
-    assert_eq!(braces(&["{a,b}", "c,{d,[e}"]).0, 1);
-    assert_eq!(braces(&["{a,b}", "{c,[}"]), (1, format!("pattern 1, alternative 1: {fault}"), vec![fault]));
+    assert_eq!(braces(&["{a,b}", "{c,d,[}"]), (1, format!("pattern 1, alternative 2: {fault}"), vec![fault]));
     assert_eq!(braces(&["{a,b}", "{c,/}"]), (1, format!("pattern 1: {no_path}"), vec![]));
 }
 
