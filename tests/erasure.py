@@ -22,6 +22,8 @@ ERASED = [
         "struct S { n: u8, }\nimpl T for S { type I = u8; }"),
     ("a ghost of another form", "fn f(n: &mut u8) { ghost { x } *n += 1; }", None),
     ("tactics and derives", "#[tactic(auto)]\n#[derive(Clone, Drop)]\n#[derive_where(Debug)]\nstruct S;", "#[derive(Clone)]\n#[derive(Debug)]\nstruct S;"),
+    ("tactics of a file", "#![tactic(auto)]\n#![forbid(unsafe_code)]\nfn f() {}", "#![forbid(unsafe_code)] fn f() {}"),
+    ("bounds of a trait", "pub trait T: Drop + Copy {} trait U: Drop {}", "pub trait T: Copy {} trait U {}"),
     ("an allocator", "struct S<A: Allocator = Global> { v: Vec<u8, A>, alloc: A }\nimpl<A: Allocator + Copy> S<A> {\n"
         "fn of(alloc: A) -> Self { S { v: Vec::new(alloc), alloc } } }",
         "struct S { v: Vec<u8> } impl S { fn of() -> Self { S { v: Vec::new() } } }"),
@@ -32,6 +34,10 @@ ERASED = [
         "fn g(v: &mut Vec<u8>) { v.push(1); }"),
     ("another error", "fn g(t: &str) -> Result<u8, ParseError> { let n = t.parse()?; Ok(n) }",
         "fn g(t: &str) -> Result<u8, ParseError> { let n = t.parse()?; Ok(n) }"),
+    ("another error, and no value", "fn g(n: u8) -> Result<(), E> { if n > 1 { return Ok(()); } h(n)?; Ok(()) }",
+        "fn g(n: u8) -> Result<(), E> { if n > 1 { return Ok(()); } h(n)?; Ok(()) }"),
+    ("another error that is passed on", "fn g(n: u8) -> Option<Result<u8, E>> { Some(Ok(n)) }", "fn g(n: u8) -> Option<Result<u8, E>> { Some(Ok(n)) }"),
+    ("two answers", "fn g() -> Result<(u8, bool), AllocError> { Ok((1, true)) }", "fn g() -> (u8, bool) { (1, true) }"),
     ("answers in branches", "fn g(n: u8) -> Result<u8, AllocError> { if n > 1 { return Ok(2); } match n { 0 => Ok(0), _ => { h(n)?; Ok(n) } } }\n"
         "fn h(n: u8) -> Result<(), AllocError> { Ok(()) }",
         "fn g(n: u8) -> u8 { if n > 1 { return 2; } match n { 0 => 0, _ => { h(n); n } } } fn h(n: u8) { }"),
@@ -104,6 +110,14 @@ FINISHED = [
         "pub fn main(n: u8) -> u8 { n }"),
     ("a variable made by a function that changes something", "pub fn main(n: &mut u8) -> u8 { let all = f(n); 1 } fn f(n: &mut u8) -> u8 { *n }",
         "pub fn main(n: &mut u8) -> u8 { let all = f(n); 1 } fn f(n: &mut u8) -> u8 { *n }"),
+    ("variables that are read", "pub fn main(n: u8) -> u8 { let (a, b) = f(n); a + b } fn f(n: u8) -> (u8, u8) { (n, 1) }",
+        "pub fn main(n: u8) -> u8 { let (a, b) = f(n); a + b } fn f(n: u8) -> (u8, u8) { (n, 1) }"),
+    ("variables of which one is read", "pub fn main(n: u8) -> u8 { let (a, b) = f(n); a } fn f(n: u8) -> (u8, u8) { (n, 1) }",
+        "pub fn main(n: u8) -> u8 { let (a, _) = f(n); a } fn f(n: u8) -> (u8, u8) { (n, 1) }"),
+    ("fields of an arm, of which one is read", "pub fn main(n: u8) -> u8 { match f(n) { E::A { n, m } => n, E::B => 0 } }\n"
+        "enum E { A { n: u8, m: u8 }, B } fn f(n: u8) -> E { if n > 1 { E::A { n, m: 1 } } else { E::B } }",
+        "pub fn main(n: u8) -> u8 { match f(n) { E::A { n, m: _ } => n, E::B => 0 } } enum E { A { n: u8, m: u8 }, B } "
+        "fn f(n: u8) -> E { if n > 1 { E::A { n, m: 1 } } else { E::B } }"),
     ("a call for its effect", "pub fn main(v: &mut Vec<u8>) -> u8 { let top = v.pop(); 1 }", "pub fn main(v: &mut Vec<u8>) -> u8 { let top = v.pop(); 1 }"),
     ("a field that is compared", "pub fn main(a: S, b: S) -> bool { a == b } #[derive(PartialEq)] struct S { n: u8 }",
         "pub fn main(a: S, b: S) -> bool { a == b } #[derive(PartialEq)] struct S { n: u8 }"),
@@ -144,10 +158,23 @@ DOCUMENTED = [
     ("what contracts see", "/// Texts. Contracts see them as `texts`, where they are known.\npub fn f() ensures { a } { g() }", "/// Texts.\n///\n"),
     ("a function that users do not reach", "/// Reads. The error is `E`.\nfn f() -> Result<u8, E> ensures { a } { g() }", "/// Reads. The error is `E`."),
     ("a clause about memory", "/// A text; an allocation may fail; more.\npub struct T;", "/// A text; more."),
+    ("an error beside a failed allocation", "/// It goes on, but for `Limit` and `Memory`.\npub struct T;", "/// It goes on, but for `Limit`."),
     ("an example of the sources", "/// A.\n///\n/// ```text\n/// assert!(g(alloc, 1)?);\n/// ```\npub struct T;",
         "/// A.\n///\n/// ```\n/// assert!(g(1)?);\n/// # Ok::<(), Box<dyn std::error::Error>>(())\n/// ```"),
     ("a drawing", "/// A.\n///\n/// ```text\n/// a -> b\n/// ```\npub struct T;", "/// A.\n///\n/// ```text\n/// a -> b\n/// ```"),
     ("an example", "/// A type.\npub struct S;", "/// A type.\n///\n/// ```\n/// let s = S;\n/// ```"),
+]
+# Functions, and whether their value must be used.
+USED = [
+    ("a value", "pub fn f(n: &u8) -> u8 { *n }", True),
+    ("a value that was a result", "pub fn f() -> Result<u8, AllocError> { Ok(1) }", True),
+    ("an option", "pub fn f() -> Option<u8> { None }", True),
+    ("no value", "pub fn f(n: u8) {}", False),
+    ("a value beside an effect", "pub fn f(n: &mut u8) -> u8 { *n }", False),
+    ("a value of a step", "pub struct S; impl S { pub fn f(&mut self) -> u8 { 1 } }", False),
+    ("a value of a method", "pub struct S; impl S { pub fn f(&self) -> u8 { 1 } }", True),
+    ("a value of a function that users do not reach", "pub fn g(n: u8) -> u8 { n }", False),
+    ("a value of a function that is not public", "pub(crate) fn f(n: u8) -> u8 { n }", False),
 ]
 CONTRACT = "/// <details><summary>Contract</summary>\n///\n/// ```text\n/// ensures { a }\n/// ```\n///\n/// </details>"
 # Documentation by hand, and whether `bin/rust_crate` accepts it.
@@ -162,14 +189,19 @@ BY_HAND = [
 ]
 
 
-def documented(source):
-    """The comments of an erased source, without the contract."""
+def reached(source):
+    """An erased source, of which users reach `f` and `S`."""
     parser = parsed(source)
     facts = Facts([parser.tree])
     facts.public = {}
     eraser = Eraser(parser, facts, {"f", "S"})
     eraser.visit(parser.tree)
-    text = rewritten(parsed(eraser.edits.result()), facts, lambda line: line, {"f", "S"}, {"S": ["```", "let s = S;", "```"]})
+    return rewritten(parsed(eraser.edits.result()), facts, lambda line: line, {"f", "S"}, {"S": ["```", "let s = S;", "```"]})
+
+
+def documented(source):
+    """The comments of an erased source, without the contract."""
+    text = reached(source)
     return "\n".join(line for line in text.split("\n") if line.startswith("///")).replace(CONTRACT, "")
 
 
@@ -214,6 +246,8 @@ def main():
         except SystemExit:
             found = None
         count.same(name, found, wanted)
+    for name, source, wanted in USED:
+        count.same(name, "#[must_use]" in reached(source), wanted)
     for name, source, wanted in BY_HAND:
         count.same(name, is_accepted(source), wanted)
     count.end()

@@ -23,7 +23,7 @@ ERROR = re.compile(r"(The|Its) error (is|comes)\b|, (with|and) its errors?\b")
 def without_memory(sentence, fails):
     """A sentence without what it says about memory and, for a function that cannot fail, about its error."""
     sentence = re.sub(r"(`[^`]*\()alloc, ", r"\1", sentence)
-    sentence = re.sub(r"(`\w+`) or `Memory`", r"\1", sentence)
+    sentence = re.sub(r"(`\w+`) (?:or|and) `Memory`", r"\1", sentence)
     if not fails:
         sentence = "" if ERROR.match(sentence) else ERROR.sub("", sentence)
     if not SAID.search(sentence):

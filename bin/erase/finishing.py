@@ -2,6 +2,7 @@
 code."""
 import re
 from collections import Counter
+from functools import cache
 
 from .edits import Edits
 from .facts import last
@@ -11,6 +12,7 @@ from .syntax import Parser
 TRAITS = {("clone", 1): "Clone", ("default", 0): "Default", ("from_str", 1): "std::str::FromStr"}
 
 
+@cache
 def parsed(text):
     parser = Parser(text)
     parser.tree = parser.file()
@@ -187,6 +189,8 @@ class Crate:
     def fields(self, files, edits):
         """Removes fields that nothing reads, and variants that nothing constructs."""
         gone = set()
+        made = {tuple(step.name for step in part.segments[-2:]) for parser in files.values()
+            for part in parser.tree.walk() if part.kind in ("path", "struct_value")}
         for key, parser in files.items():
             for node in parser.tree.walk():
                 if node.kind == "struct":
@@ -195,10 +199,8 @@ class Crate:
                         and not any({"PartialEq", "Hash", "PartialOrd"} & set(one.names) for one in node.attributes)
                         and not any(reads(other.tree, node.name, field.name) for other in self.seeing(key, field, files))}
                 elif node.kind == "enum" and node.name not in self.by_hand:
-                    made = {part.segments[-1].name for other in files.values() for part in other.tree.walk()
-                        if part.kind in ("path", "struct_value") and len(part.segments) > 1
-                        and part.segments[-2].name in (node.name, "Self")}
-                    gone |= {(node.name, variant.name) for variant in node.variants if variant.name not in made}
+                    gone |= {(node.name, variant.name) for variant in node.variants
+                        if not made & {(node.name, variant.name), ("Self", variant.name)}}
         for key, parser in files.items():
             for node, owner in owned(parser.tree):
                 for part in node.walk() if node.kind == "fn" else ():

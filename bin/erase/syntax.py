@@ -14,7 +14,7 @@ class Node:
     """A piece of a source: its kind, its offsets, and its parts by name."""
 
     def __init__(self, kind, start, **parts):
-        self.kind, self.start, self.end = kind, start, start
+        self.kind, self.start, self.end, self.walked = kind, start, start, None
         self.__dict__.update(parts)
 
     def children(self):
@@ -26,10 +26,10 @@ class Node:
                 yield from (piece for piece in part if isinstance(piece, Node))
 
     def walk(self):
-        """The node and all nodes in it."""
-        yield self
-        for child in self.children():
-            yield from child.walk()
+        """The node and all nodes in it, which are collected once: nothing changes after it is parsed."""
+        if self.walked is None:
+            self.walked = (self, *(node for child in self.children() for node in child.walk()))
+        return self.walked
 
 
 class Parser:

@@ -31,11 +31,13 @@
 #[cfg(windows)]
 compile_error!("paths of Windows have prefixes and `\\`, which no pattern of this crate knows");
 
+// First, so that the documentation of a type begins with `new`, and not with what is added to it.
+mod proved;
+
 mod debug;
 mod disk;
 mod lanes;
 mod pattern;
-mod proved;
 mod search_errors;
 mod searching;
 mod traits;

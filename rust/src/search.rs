@@ -73,7 +73,7 @@ pub struct Search {
     start: PathBuf,
     is_git: bool,
     files: bool,
-    exclusion: Option<Exclusion>,
+    exclusions: Vec<Exclusion>,
 }
 
 impl fmt::Debug for Search {
@@ -172,7 +172,7 @@ impl Search {
     fn of(patterns: Vec<String>) -> Self {
         let settings = Settings { kinds: true, ..Settings::new() };
         let start = PathBuf::new();
-        Search { patterns, settings, follow_links: false, start, is_git: false, files: false, exclusion: None }
+        Search { patterns, settings, follow_links: false, start, is_git: false, files: false, exclusions: Vec::new() }
     }
 
     /// How names are matched. The separator rule always holds.
@@ -315,7 +315,8 @@ impl Search {
         self
     }
 
-    /// Leaves out what a list ignores, and everything below it. Its rules override those of files.
+    /// Leaves out what a list ignores, and everything below it. Its rules override those of files, so this is for rules
+    /// of a command line, not for a user's global ignore file. Of several lists, the one given last decides.
     ///
     /// A list is the text of an ignore file: `#` begins a comment, `!` re-includes, and a rule without a `/` is about
     /// names at every depth. For patterns of a command line use [`exclude`](Search::exclude) with a
@@ -343,7 +344,8 @@ impl Search {
 
     /// Reads the files with these names in each directory that is entered, and leaves out what their rules ignore. If
     /// several files have a rule for a path, the deepest decides, and within one directory the last of these names.
-    /// Each refused line gives an error when its file is read, and makes no rule.
+    /// Each refused line gives an error when its file is read, and makes no rule. Files above the start directory are
+    /// not read. A second call replaces the names of the first.
     ///
     /// ```
     /// use cadmiumdove::search::Search;
@@ -369,8 +371,9 @@ impl Search {
     }
 
     /// Heeds what git heeds: reads the `.gitignore` of each directory and `.git/info/exclude`, and leaves out each
-    /// `.git`. The start directory counts as the top of the repository. This adds to
-    /// [`ignore_files`](Search::ignore_files).
+    /// `.git`. The start directory counts as the top of the repository. This adds to the names of
+    /// [`ignore_files`](Search::ignore_files), which has to be called before. A refused line of `.git/info/exclude`
+    /// makes no rule, and gives no error.
     ///
     /// ```
     /// use cadmiumdove::search::Search;
@@ -393,7 +396,8 @@ impl Search {
     }
 
     /// Leaves out each path for which a function returns `true`, and everything below it. The function is called for
-    /// the paths that no rule ignores, with whether each is a directory.
+    /// the paths that no rule ignores, with whether each is a directory. Several calls leave out what any of their
+    /// functions does.
     ///
     /// ```
     /// use cadmiumdove::search::Search;
@@ -403,7 +407,8 @@ impl Search {
     /// # Ok::<(), cadmiumdove::search::SearchRefusal>(())
     /// ```
     ///
-    /// Patterns of a command line make a set. Under the separator rule its `*` takes no `/`, as in the search itself:
+    /// Patterns of a command line make a set. Under the separator rule its `*` takes no `/`, as in the search itself. No
+    /// path has a `./` in front or a `/` at its end, so a pattern that has leaves out nothing:
     ///
     /// ```
     /// use cadmiumdove::search::Search;
@@ -426,7 +431,7 @@ impl Search {
     /// </details>
     #[must_use]
     pub fn exclude(mut self, left_out: impl FnMut(&str, bool) -> bool + Send + 'static) -> Self {
-        self.exclusion = Some(Box::new(left_out));
+        self.exclusions.push(Box::new(left_out));
         self
     }
 
@@ -473,8 +478,8 @@ impl Search {
     ///
     /// </details>
     pub fn over<T: Tree, R: RuleTexts>(self, tree: T, texts: R) -> Searching<T, R> {
-        let Search { patterns, mut settings, is_git, exclusion, .. } = self;
-        let mut guide = Guide { texts, is_git, exclusion };
+        let Search { patterns, mut settings, is_git, exclusions, .. } = self;
+        let mut guide = Guide { texts, is_git, exclusions };
         if is_git {
             if let Ok(Some(text)) = guide.text(".git/info/exclude") {
                 settings.last.push(IgnoreList::lenient(&text).0);

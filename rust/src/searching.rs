@@ -15,7 +15,7 @@ use crate::search::{Found, SearchError};
 use crate::search_errors::errors_of;
 use crate::walk::{Disk, Entry, Look, Tree};
 
-/// The function that says what is left out.
+/// A function that says what is left out.
 pub(crate) type Exclusion = Box<dyn FnMut(&str, bool) -> bool + Send>;
 
 /// What a tree has left out since it was last asked.
@@ -108,11 +108,11 @@ impl<T, R> fmt::Debug for Searching<T, R> {
     }
 }
 
-/// The texts of ignore files, and what a function leaves out.
+/// The texts of ignore files, and what functions leave out.
 pub(crate) struct Guide<R> {
     pub(crate) texts: R,
     pub(crate) is_git: bool,
-    pub(crate) exclusion: Option<Exclusion>,
+    pub(crate) exclusions: Vec<Exclusion>,
 }
 
 impl<R: RuleTexts> RuleTexts for Guide<R> {
@@ -123,7 +123,7 @@ impl<R: RuleTexts> RuleTexts for Guide<R> {
     fn leaves_out(&mut self, path: &str, is_dir: bool) -> bool {
         self.is_git && (path == ".git" || path.ends_with("/.git"))
             || self.texts.leaves_out(path, is_dir)
-            || self.exclusion.as_mut().is_some_and(|says| says(path, is_dir))
+            || self.exclusions.iter_mut().any(|says| says(path, is_dir))
     }
 }
 

@@ -44,7 +44,10 @@
 
 use std::path::Path;
 
-pub use crate::proved::glob_set::{braces, BraceSetRefusal, PatternSet, SetRefusal};
+/// Braces in patterns: `src/*.{c,h}` is short for `src/*.c` and `src/*.h`.
+///
+pub use crate::proved::glob_set::braces;
+pub use crate::proved::glob_set::{BraceSetRefusal, PatternSet, SetRefusal};
 use crate::MatchOptions;
 
 impl PatternSet {

@@ -293,6 +293,8 @@ fn refusals_names_and_entries_are_copied_and_compared() {
     names.sort();
     assert_eq!(names.clone().map(|name| format!("{name:>2}")), [" a", " b"]);
     assert_eq!(Name::try_from(" a ".to_owned()).unwrap().as_str(), " a ");
+    // A text that is no name comes back.
+    assert_eq!(["a/b", "..", ""].map(|text| Name::try_from(text.to_owned()).unwrap_err()), ["a/b", "..", ""]);
     assert_eq!(Pattern::try_from(" a ").unwrap().as_str(), " a ");
     let entries = names.map(|name| Entry { name, is_dir: false });
     assert_eq!(entries.clone(), entries);

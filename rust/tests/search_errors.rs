@@ -12,8 +12,8 @@ use std::path::{Path, PathBuf};
 use std::process;
 
 use cadmiumdove::ignore::Reason;
-use cadmiumdove::search::{NoRuleTexts, Search, SearchError, Wanted};
-use cadmiumdove::walk::Disk;
+use cadmiumdove::search::{NoRuleTexts, RuleTexts, Search, SearchError, SearchRefusal, Wanted};
+use cadmiumdove::walk::{Disk, Entry, Look, Name, Tree};
 
 /// A directory of its own, which is removed at the end.
 struct Scratch(PathBuf);
@@ -216,6 +216,66 @@ fn a_start_that_is_no_directory_is_an_error() {
             assert_eq!(found, [Path::new("a")], "{start} {pattern}");
         }
     }
+}
+
+/// A tree in which nothing can be listed or read, except for the names of the start directory.
+struct Shut;
+
+impl Tree for Shut {
+    fn look(&mut self, path: &str) -> Look {
+        match path {
+            "." | "d" => Look::Dir,
+            _ => Look::Missing,
+        }
+    }
+
+    fn list(&mut self, path: &str) -> io::Result<Vec<Entry>> {
+        if path != "." {
+            return Err(io::ErrorKind::PermissionDenied.into());
+        }
+        let names = [(".i", false), ("d", true)];
+        Ok(names.map(|(name, is_dir)| Entry { name: Name::new(name.to_owned()).unwrap(), is_dir }).into())
+    }
+}
+
+impl RuleTexts for Shut {
+    fn text(&mut self, _path: &str) -> io::Result<Option<String>> {
+        Err(io::ErrorKind::TimedOut.into())
+    }
+}
+
+/// Which error says what, also where the system would let the super-user do all.
+#[test]
+fn what_cannot_be_listed_and_what_cannot_be_read() {
+    let items: Vec<_> = Search::new(["**/*"]).unwrap().ignore_files([".i"]).over(Shut, Shut).collect();
+    let [Err(SearchError::UnreadRules(rules, late)), Ok(file), Ok(dir), Err(SearchError::Unread(shut, denied))] =
+        &items[..]
+    else {
+        panic!("{items:?}");
+    };
+    assert_eq!((rules.as_path(), late.kind()), (Path::new(".i"), io::ErrorKind::TimedOut));
+    assert_eq!((file.path.as_path(), dir.path.as_path()), (Path::new(".i"), Path::new("d")));
+    assert_eq!((shut.as_path(), denied.kind()), (Path::new("d"), io::ErrorKind::PermissionDenied));
+}
+
+/// A refusal prints its number, and its sources are the faults without it.
+#[test]
+fn refusals_have_a_number_and_a_source() {
+    let row = |refusal: SearchRefusal| (refusal.number(), refusal.to_string(), sources(&refusal));
+    let plain = |texts: &[&str]| row(Search::new(texts).unwrap_err());
+    let braces = |texts: &[&str]| row(Search::from_braces(texts).unwrap_err());
+    let fault = "Pattern syntax error near position 0: invalid range pattern".to_owned();
+    assert_eq!(plain(&["a", "[b"]), (1, format!("pattern 1: {fault}"), vec![fault.clone()]));
+    let no_path = "no path of a search matches it: leave out `./`, `..`, `//`, and a `/` at either end";
+    assert_eq!(plain(&["a", "b", "c/"]), (2, format!("pattern 2: {no_path}"), vec![]));
+    let (number, text, below) = braces(&["a", "{b"]);
+    assert_eq!((number, text, below.len()), (1, format!("pattern 1: {}", below[0]), 1));
+    assert_eq!(braces(&["{a,b}", "{c,d,[}"]), (1, format!("pattern 1, alternative 2: {fault}"), vec![fault]));
+    assert_eq!(braces(&["{a,b}", "{c,/}"]), (1, format!("pattern 1: {no_path}"), vec![]));
+}
+
+fn sources(error: &dyn Error) -> Vec<String> {
+    std::iter::successors(error.source(), |&error| error.source()).map(ToString::to_string).collect()
 }
 
 /// Errors name paths from the start directory on, and the search goes on after them.

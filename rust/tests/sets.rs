@@ -56,6 +56,12 @@ fn sets() {
     assert!(set.is_match("a"));
 }
 
+#[test]
+fn an_empty_set() {
+    let none = PatternSet::default();
+    assert_eq!((none.options(), none.is_empty(), none.matches("")), (NEW, true, vec![]));
+}
+
 #[cfg(unix)]
 #[test]
 fn a_set_matches_no_path_that_is_no_text() {

@@ -5,7 +5,7 @@ use std::io;
 use std::path::PathBuf;
 
 use cadmiumdove::ignore::IgnoreList;
-use cadmiumdove::search::{NoRuleTexts, RuleTexts, Search, SearchError, SearchRefusal};
+use cadmiumdove::search::{NoRuleTexts, RuleTexts, Search, SearchError, SearchRefusal, Wanted};
 use cadmiumdove::set::{BraceSetRefusal, PatternSet};
 use cadmiumdove::walk::{Disk, Entry, Look, Name, Tree};
 use cadmiumdove::MatchOptions;
@@ -107,6 +107,10 @@ fn the_last_file_decides() {
     assert_eq!(by(&[".first", ".second"]), ["a.o", "x/b.o", refused, "y/a.c", unread, "z/a.c"]);
     assert_eq!(by(&[".second", ".first"]), ["x/b.o", refused, "y/a.c", unread, "z/a.c"]);
     assert_eq!(by(&[]).len(), 7);
+    // Each refused line gives an error, in order.
+    let two = Files(vec![(".first", "[é]\na\n[ü]\n"), ("a", ""), ("b", "")]);
+    let lines = [1, 3].map(|line| format!(".first: line {line}: a bracket names a character beyond ASCII"));
+    assert_eq!(found(search(&["[ab]"]).ignore_files([".first"]), &two), [&lines[0], &lines[1], "b"]);
     // The names that are given last count, with that of git.
     assert_eq!(found(search(&["*.o"]).ignore_files([".first"]).ignore_files([".second"]), &files), ["a.o", "b.o"]);
     let files = Files(vec![
@@ -119,6 +123,9 @@ fn the_last_file_decides() {
         ("x/d.git", ""),
     ]);
     assert_eq!(found(search(&["**/*.o", "*/*.git"]).git(), &files), ["x/d.git"]);
+    // Without `git` its files and directories are like any others.
+    let all = [".git/a.o", "a.o", "b.o", "x/.git", "x/.git/c.o", "x/d.git"];
+    assert_eq!(found(search(&["**/*.o", "*/*.git"]), &files), all);
     let both = Files(vec![(".gitignore", "!a.o\n"), (".ignore", "a.o\n"), ("a.o", "")]);
     assert_eq!(found(search(&["*.o"]).ignore_files([".ignore"]).git(), &both), ["a.o"]);
 }
@@ -149,8 +156,12 @@ fn a_function_leaves_out() {
         }
     }
 
-    let left: Vec<_> = search(&["*"]).over(files, Texts).map(|item| item.unwrap().path).collect();
-    assert_eq!(left, [".ignore", "b", "d"].map(PathBuf::from));
+    let left =
+        |search: Search| -> Vec<_> { search.over(files.clone(), Texts).map(|item| item.unwrap().path).collect() };
+    assert_eq!(left(search(&["*"])), [".ignore", "b", "d"].map(PathBuf::from));
+    // Whatever any function leaves out.
+    let both = search(&["*"]).exclude(|path, _is_dir| path == "d").exclude(|path, is_dir| is_dir || path == ".ignore");
+    assert_eq!(left(both), [""; 0].map(PathBuf::from));
 }
 
 /// A set leaves out what its patterns match and all below, and a list has comments and negations.
@@ -171,18 +182,41 @@ fn a_set_leaves_out() {
     assert_eq!(found(search(&["**/*"]).rules(list), &files), ["#a", "a", "a/b", "e.o", "x", "x/y"]);
 }
 
+/// Lookups, listings, entries and files with rules are charged.
 #[test]
 fn limits() {
-    let files = Files(vec![("a", ""), ("b/c", "")]);
-    let mut whole = search(&["**/*"]).over(files.clone(), NoRuleTexts);
-    assert_eq!((whole.spent(), whole.by_ref().count()), (0, 3));
-    let all = whole.spent();
-    for limit in 0..=all {
-        let mut searching = search(&["**/*"]).limit(limit).over(files.clone(), NoRuleTexts);
-        let items: Vec<_> = searching.by_ref().collect();
-        assert_eq!(matches!(items.last(), Some(Err(SearchError::Limit))), limit < all, "{limit}");
-        assert!(searching.spent() <= limit && searching.next().is_none());
+    let files = Files(vec![("a", ""), ("b/.i", "x\n"), ("b/c", "")]);
+    let rows = [
+        // Two listings and four entries.
+        (&["**/*"][..], &[][..], 4, 6),
+        // The same, and a file with rules.
+        (&["**/*"], &[".i"], 4, 7),
+        // Lookups of `a`, `b` and `b/c`: what has no wildcard lists nothing.
+        (&["a", "b/c"], &[], 2, 3),
+    ];
+    for (patterns, names, given, all) in rows {
+        let begun = |limit| {
+            let search = search(patterns).ignore_files(names.iter().copied()).limit(limit);
+            search.over(files.clone(), files.clone())
+        };
+        let mut whole = begun(u64::MAX);
+        assert_eq!((whole.spent(), whole.by_ref().count(), whole.spent()), (0, given, all));
+        for limit in 0..=all {
+            let mut searching = begun(limit);
+            let items: Vec<_> = searching.by_ref().collect();
+            assert_eq!(matches!(items.last(), Some(Err(SearchError::Limit))), limit < all, "{limit}");
+            assert!(searching.spent() <= limit && searching.next().is_none());
+        }
     }
+}
+
+/// A tree knows only directories and others, and `files` finds the others.
+#[test]
+fn files_of_a_tree() {
+    let files = Files(vec![("a", ""), ("b/c", ""), ("d/e/f", "")]);
+    assert_eq!(found(search(&["**/*"]).files(), &files), ["a", "b/c", "d/e/f"]);
+    let directories = search(&["**/*"]).files().wanted(Wanted::Directories);
+    assert_eq!(found(directories, &files), ["b", "d", "d/e"]);
 }
 
 #[test]

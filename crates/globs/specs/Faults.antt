@@ -119,6 +119,7 @@ is_of_option why.Late = true
 is_of_option why.Bare = false
 is_of_option why.Textless = false
 is_of_option why.Extra = false
+is_of_option why.Surplus = false
 is_of_option why.Command = false
 is_of_option why.Empty = false
 
