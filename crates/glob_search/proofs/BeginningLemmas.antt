@@ -1,5 +1,6 @@
 pub mod Adding
 pub mod Fronts
+pub mod Gathering
 pub mod Growing
 pub mod Keys
 pub mod LastName

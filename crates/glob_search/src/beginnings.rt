@@ -16,7 +16,7 @@ mod growing;
 mod node;
 
 use glob_pattern::{MatchOptions, Pattern, PatternRefusal};
-use glob_set::SetRefusal;
+use glob_set::{PatternSet, SetRefusal};
 use glob_tree::begins_with_dot;
 use node::{Component, Node};
 use std::alloc::{AllocError, Allocator};
@@ -60,6 +60,7 @@ impl<A: Allocator + Copy> Beginnings<A> {
                 return Err(refusal_of(number, refusal));
             }
         }
+        beginnings.gather()?;
         Ok(beginnings)
     }
 
@@ -164,8 +165,47 @@ impl<A: Allocator + Copy> Beginnings<A> {
         ensures { IfOk result (λ _. Adds (WildStep self.now.nodes.items self.now.options
             name.now node.now.wilds.items) next.old.items next.new.items) }
     {
+        match &node.set {
+            Some(set) if set.options() == self.options => self.step_set(set, node, name, next),
+            _ => self.step_each(node, name, next),
+        }
+    }
+
+    /// The same, asking one component after another.
+    fn step_each(
+        &self,
+        node: &Node<A>,
+        name: &str,
+        next: &mut Vec<usize, A>,
+    ) -> Result<(), AllocError>
+        ensures { IfOk result (λ _. Adds (WildStep self.now.nodes.items self.now.options
+            name.now node.now.wilds.items) next.old.items next.new.items) }
+    {
         for wild in node.wilds.iter() {
             if wild.pattern.matches_with(name, self.options)? {
+                self.enliven(wild.node, next)?;
+            }
+        }
+        Ok(())
+    }
+
+    /// The same, given the components with wildcards also as a set, which is asked once.
+    fn step_set(
+        &self,
+        set: &PatternSet<A>,
+        node: &Node<A>,
+        name: &str,
+        next: &mut Vec<usize, A>,
+    ) -> Result<(), AllocError>
+        ensures { set.now.options ≡ self.now.options
+            → set.now.patterns ≡ map (λ w. w.pattern) node.now.wilds.items
+            → IfOk result (λ _. Adds (WildStep self.now.nodes.items self.now.options
+            name.now node.now.wilds.items) next.old.items next.new.items) }
+    {
+        let mut numbers = Vec::new(self.alloc);
+        set.matches_into(name, &mut numbers)?;
+        for number in numbers.iter() {
+            if let Some(wild) = node.wilds.get(*number) {
                 self.enliven(wild.node, next)?;
             }
         }

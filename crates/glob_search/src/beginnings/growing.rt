@@ -16,12 +16,13 @@ impl<A: Allocator + Copy> Beginnings<A> {
     ghost use Rattle.glob_pattern.specs.Grammar.Faults.{Refuses};
     ghost use Rattle.glob_pattern.specs.Grammar.Units.{IsAccepted};
     ghost use Rattle.glob_pattern.specs.declared.error.PatternRefusal.TheVariants.{Memory};
+    ghost use Rattle.glob_pattern.specs.declared.options.MatchOptions.{MatchOptions};
     ghost use Rattle.glob_set.specs.BraceSets.{AreAccepted};
     ghost use Rattle.glob_search.specs.Refusals.{readings};
     ghost use Rattle.glob_search.specs.Private.Refusing.{RefusesFirst};
     ghost use Rattle.glob_search.specs.Private.NodeGrowth.{Added, FitsKind, GrownTo, IsComponentOf, IsMarked, Led, component_text, finished, is_deep_component, pushed, walked};
     ghost use Rattle.glob_text.specs.Text.{Text};
-    ghost use Rattle.glob_search.specs.Private.Nodes.{Adds, IsTree, folded, key_of};
+    ghost use Rattle.glob_search.specs.Private.Nodes.{AreBeginnings, IsTree, folded, key_of};
 
     /// Adds the beginnings of a pattern.
     pub(super) fn add(&mut self, pattern: &str) -> Result<(), PatternRefusal>
@@ -107,6 +108,27 @@ impl<A: Allocator + Copy> Beginnings<A> {
             return Ok(node);
         }
         Ok(self.lead(at, component)?)
+    }
+
+    /// Makes sets for the beginnings from which many components with wildcards lead on.
+    pub(super) fn gather(&mut self) -> Result<(), AllocError>
+        ensures begins { (o : MatchOptions) (patterns : List Text)
+            → AreBeginnings o patterns self.old → AreBeginnings o patterns self.new }
+    {
+        for number in 0..self.nodes.len() {
+            self.gather_at(number)?;
+        }
+        Ok(())
+    }
+
+    /// Makes a set of the components with wildcards that lead on from this beginning, if there are many.
+    fn gather_at(&mut self, at: usize) -> Result<(), AllocError>
+        requires { at < vec_len self.old.nodes }
+        ensures len { vec_len self.new.nodes ≡ vec_len self.old.nodes }
+        ensures begins { (o : MatchOptions) (patterns : List Text)
+            → AreBeginnings o patterns self.old → AreBeginnings o patterns self.new }
+    {
+        self.nodes[at].gather(self.alloc, self.options)
     }
 
     /// Reads a component. The error is its fault, or a failed allocation.

@@ -1,8 +1,10 @@
 //! A node of the tree of beginnings.
-ghost use Rattle.std.specs.Prelude.{◌<◌, ℕ, IfSome, vec_len};
+ghost use Rattle.std.specs.Prelude.{◌≡◌, ◌<◌, ℕ, IfSome, map, vec_len};
 ghost use Rattle.std.specs.List.Sorted.{IsBinarySearchResult, IsSearchInRange};
+ghost use Rattle.std.specs.Option.{ForSome};
 
-use glob_pattern::Pattern;
+use glob_pattern::{MatchOptions, Pattern};
+use glob_set::PatternSet;
 use std::alloc::{AllocError, Allocator};
 
 /// A component of a pattern.
@@ -17,7 +19,6 @@ pub enum Component<A: Allocator> {
 }
 
 impl<A: Allocator> Component<A> {
-    ghost use Rattle.std.specs.Prelude.{◌≡◌};
     ghost use Rattle.glob_search.specs.Private.NodeGrowth.{is_deep_component};
 
     /// Whether it is `**`.
@@ -57,10 +58,16 @@ pub struct Node<A: Allocator> {
     pub is_deep: bool,
     /// Whether it is a whole pattern.
     pub is_whole: bool,
+    /// The components with wildcards as a set, where there are many.
+    pub set: Option<PatternSet<A>>,
+    ghost gathered: { ForSome set (λ s. s.patterns ≡ map (λ w. w.pattern) wilds.items) },
 }
 
+/// The fewest components with wildcards that are kept as a set. Fewer are faster to ask one after another.
+const FEWEST_IN_SET: usize = 9;
+
 impl<A: Allocator + Copy> Node<A> {
-    ghost use Rattle.std.specs.Prelude.{◌≡◌, ◌≢◌, ◌≤◌, ◌∷◌, ◌++◌, [], Contains, IfOk, List, None, false, string_bytes, true};
+    ghost use Rattle.std.specs.Prelude.{◌≢◌, ◌≤◌, ◌∷◌, ◌++◌, [], Contains, IfOk, List, None, false, string_bytes, true};
     ghost use Rattle.std.specs.List.{list_any};
     ghost use Rattle.glob_text.specs.Text.{Text};
     ghost use Rattle.glob_pattern.specs.Grammar.Characters.{is_wildcard};
@@ -83,6 +90,7 @@ impl<A: Allocator + Copy> Node<A> {
             deep: None,
             is_deep,
             is_whole: false,
+            set: None,
         }
     }
 
@@ -192,6 +200,7 @@ impl<A: Allocator + Copy> Node<A> {
             → front node ≡ front k ++ pattern ∷ []
             → IfOk result (λ _. LeadsMore o front k node self.old self.new) }
     {
+        self.set = None;
         self.wilds.push(Wild { pattern, node })?;
         Ok(())
     }
@@ -206,6 +215,34 @@ impl<A: Allocator + Copy> Node<A> {
         ensures whole { self.new.is_whole ≡ true }
     {
         self.is_whole = true;
+    }
+
+    /// Makes a set of its components with wildcards, if there are many. The set matches by these options.
+    pub fn gather(&mut self, alloc: A, options: MatchOptions) -> Result<(), AllocError>
+        ensures within { (n : ℕ) → IsWithin n self.old → IsWithin n self.new }
+        ensures node { (o : MatchOptions) (front : ℕ → List Text) (k : ℕ) → IsNode o
+            front k self.old
+            → IsNode o front k self.new }
+        ensures leads { (d : ℕ) → LeadsTo self.old d → LeadsTo self.new d }
+        ensures whole { self.new.is_whole ≡ self.old.is_whole }
+    {
+        if self.wilds.len() >= FEWEST_IN_SET {
+            let patterns = self.patterns(alloc)?;
+            self.set = Some(PatternSet::new(alloc, patterns, options)?);
+        }
+        Ok(())
+    }
+
+    /// Its components with wildcards.
+    fn patterns(&self, alloc: A) -> Result<Vec<Pattern<A>, A>, AllocError>
+        ensures { IfOk result
+            (λ patterns. patterns.items ≡ map (λ w. w.pattern) self.now.wilds.items) }
+    {
+        let mut patterns = Vec::new(alloc);
+        for wild in self.wilds.iter() {
+            patterns.push(wild.pattern.clone()?)?;
+        }
+        Ok(patterns)
     }
 
     /// Whether it can take a further name.

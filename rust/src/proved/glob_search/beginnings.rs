@@ -1,4 +1,4 @@
-//! Made by `bin/rust_crate` from `crates/glob_search/src/beginnings.rt`, where its contracts are: sha256 b44797a141d12546.
+//! Made by `bin/rust_crate` from `crates/glob_search/src/beginnings.rt`, where its contracts are: sha256 35179d10a0ce89b2.
 //!
 //! The beginnings of patterns, as a tree: what a search still has to match below a directory.
 //!
@@ -10,7 +10,7 @@ mod growing;
 mod node;
 
 use crate::proved::glob_pattern::{MatchOptions, PatternError};
-use crate::proved::glob_set::SetRefusal;
+use crate::proved::glob_set::{PatternSet, SetRefusal};
 use crate::proved::glob_tree::begins_with_dot;
 use node::Node;
 
@@ -32,6 +32,7 @@ impl Beginnings {
                 return Err(refusal_of(number, refusal));
             }
         }
+        beginnings.gather();
         Ok(beginnings)
     }
 
@@ -88,8 +89,27 @@ impl Beginnings {
 
     /// Adds what the components with wildcards lead to that match the name.
     fn step_wild(&self, node: &Node, name: &str, next: &mut Vec<usize>) {
+        match &node.set {
+            Some(set) if set.options() == self.options => self.step_set(set, node, name, next),
+            _ => self.step_each(node, name, next),
+        }
+    }
+
+    /// The same, asking one component after another.
+    fn step_each(&self, node: &Node, name: &str, next: &mut Vec<usize>) {
         for wild in node.wilds.iter() {
             if wild.pattern.matches_with(name, self.options) {
+                self.enliven(wild.node, next);
+            }
+        }
+    }
+
+    /// The same, given the components with wildcards also as a set, which is asked once.
+    fn step_set(&self, set: &PatternSet, node: &Node, name: &str, next: &mut Vec<usize>) {
+        let mut numbers = Vec::new();
+        set.matches_into(name, &mut numbers);
+        for number in numbers.iter() {
+            if let Some(wild) = node.wilds.get(*number) {
                 self.enliven(wild.node, next);
             }
         }

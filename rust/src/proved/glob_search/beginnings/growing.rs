@@ -1,4 +1,4 @@
-//! Made by `bin/rust_crate` from `crates/glob_search/src/beginnings/growing.rt`, where its contracts are: sha256 2b7d0fa196feecae.
+//! Made by `bin/rust_crate` from `crates/glob_search/src/beginnings/growing.rt`, where its contracts are: sha256 f0d1324c3ccea1c4.
 //!
 //! Adds patterns to the tree of beginnings.
 
@@ -48,6 +48,18 @@ impl Beginnings {
             return Ok(node);
         }
         Ok(self.lead(at, component))
+    }
+
+    /// Makes sets for the beginnings from which many components with wildcards lead on.
+    pub(super) fn gather(&mut self) {
+        for number in 0..self.nodes.len() {
+            self.gather_at(number);
+        }
+    }
+
+    /// Makes a set of the components with wildcards that lead on from this beginning, if there are many.
+    fn gather_at(&mut self, at: usize) {
+        self.nodes[at].gather(self.options)
     }
 
     /// Reads a component. The error is its fault.

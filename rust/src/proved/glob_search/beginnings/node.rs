@@ -1,8 +1,9 @@
-//! Made by `bin/rust_crate` from `crates/glob_search/src/beginnings/node.rt`, where its contracts are: sha256 29de27efdf5eaf09.
+//! Made by `bin/rust_crate` from `crates/glob_search/src/beginnings/node.rt`, where its contracts are: sha256 c4c6a35672656cc9.
 //!
 //! A node of the tree of beginnings.
 
-use crate::proved::glob_pattern::Pattern;
+use crate::proved::glob_pattern::{MatchOptions, Pattern};
+use crate::proved::glob_set::PatternSet;
 
 /// A component of a pattern.
 pub enum Component {
@@ -47,12 +48,17 @@ pub struct Node {
     pub is_deep: bool,
     /// Whether it is a whole pattern.
     pub is_whole: bool,
+    /// The components with wildcards as a set, where there are many.
+    pub set: Option<PatternSet>,
 }
+
+/// The fewest components with wildcards that are kept as a set. Fewer are faster to ask one after another.
+const FEWEST_IN_SET: usize = 9;
 
 impl Node {
     /// A beginning that leads to no other yet.
     pub fn new(is_deep: bool) -> Self {
-        Node { literals: Vec::new(), wilds: Vec::new(), deep: None, is_deep, is_whole: false }
+        Node { literals: Vec::new(), wilds: Vec::new(), deep: None, is_deep, is_whole: false, set: None }
     }
 
     /// The beginning that a component leads to, if there is one.
@@ -114,12 +120,30 @@ impl Node {
 
     /// Makes a component with wildcards lead to a beginning.
     fn lead_wild(&mut self, pattern: Pattern, node: usize) {
+        self.set = None;
         self.wilds.push(Wild { pattern, node });
     }
 
     /// Marks it as a whole pattern.
     pub fn mark_whole(&mut self) {
         self.is_whole = true;
+    }
+
+    /// Makes a set of its components with wildcards, if there are many. The set matches by these options.
+    pub fn gather(&mut self, options: MatchOptions) {
+        if self.wilds.len() >= FEWEST_IN_SET {
+            let patterns = self.patterns();
+            self.set = Some(PatternSet::new(patterns, options));
+        }
+    }
+
+    /// Its components with wildcards.
+    fn patterns(&self) -> Vec<Pattern> {
+        let mut patterns = Vec::new();
+        for wild in self.wilds.iter() {
+            patterns.push(wild.pattern.clone());
+        }
+        patterns
     }
 
     /// Whether it can take a further name.

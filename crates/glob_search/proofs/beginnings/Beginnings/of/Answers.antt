@@ -50,9 +50,10 @@ loop-number-preserved g c =
 pub returns-clause-beginnings : goal.returns-clause-beginnings
 returns-clause-beginnings g c =
     let patterns = c.args.patterns.now in
-    subst (λ ps. AreBeginnings c.args.options (map (λ p. p.now) ps) c.loop-number.beginnings)
+    c.gather.ensures.begins c.args.options (map (λ p. p.now) patterns)
+    (subst (λ ps. AreBeginnings c.args.options (map (λ p. p.now) ps) c.loop-number.beginnings)
     (take_all c.loop-number.number patterns
-    (omega (arith, c.loop-number-test.false, c.loop-number.auto.number-end))) c.loop-number.invariant.begins
+    (omega (arith, c.loop-number-test.false, c.loop-number.auto.number-end))) c.loop-number.invariant.begins)
 
 pub returns-clause-accepted : goal.returns-clause-accepted
 returns-clause-accepted g c = λ k below. c.loop-number.invariant.accepted k

@@ -1,6 +1,6 @@
 use Rattle.std.proofs.Common.{take}
 use Rattle.glob_search.specs.Private.Nodes.{Adds, WildStep}
-use Rattle.glob_search.proofs.beginnings.Beginnings.step_wild.Given as goal
+use Rattle.glob_search.proofs.beginnings.Beginnings.step_each.Given as goal
 
 abbrev pub invariant-loop-wild : goal.invariant-loop-wild
 invariant-loop-wild g l =

@@ -6,8 +6,8 @@ use Rattle.glob_pattern.proofs.CallerLemmas.{match_decided}
 use Rattle.glob_search.specs.Private.Nodes.{Adds, WildStep, WildTakes}
 use Rattle.glob_search.specs.declared.beginnings.node.Wild.{Wild}
 use Rattle.glob_search.proofs.BeginningLemmas.Adding.{Adds-more, Adds-same, Adds-skip}
-use Rattle.glob_search.proofs.beginnings.Beginnings.step_wild.Goals.{then-branch+in_ok-enliven, else-branch}
-use Rattle.glob_search.proofs.beginnings.Beginnings.step_wild.Goals as goal
+use Rattle.glob_search.proofs.beginnings.Beginnings.step_each.Goals.{then-branch+in_ok-enliven, else-branch}
+use Rattle.glob_search.proofs.beginnings.Beginnings.step_each.Goals as goal
 
 pub loop-wild-preserved : goal.loop-wild-preserved
 loop-wild-preserved g c =
