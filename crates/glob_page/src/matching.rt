@@ -1,4 +1,3 @@
-//! Matches a text, with the pieces of the match or how far the pattern gets.
 ghost use Rattle.std.specs.Prelude.{◌≡◌, ◌↔◌, ◌∷◌, ◌*◌, ◌<◌, ◌≤◌, ◌⊎◌, IsTrue, IfOk, Err, true, false, chars, length, take};
 ghost use Rattle.glob_pattern.specs.Computing.Tokens.{tokens_of};
 ghost use Rattle.glob_pattern.specs.Matching.Options.{options_of_bits};

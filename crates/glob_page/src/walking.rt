@@ -1,4 +1,3 @@
-//! Walks over a tree that the page describes, and reports each step.
 ghost use Rattle.std.specs.Prelude.{◌≡◌, ◌<◌, ◌≤◌, IsUtf8, None, Some, length, take};
 ghost use Rattle.glob_walk.specs.Components.{walk_fault};
 ghost use Rattle.glob_page.specs.Answers.{fault, no, no_path, not_utf8, too_large, yes};

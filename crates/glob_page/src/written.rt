@@ -1,4 +1,3 @@
-//! Lists the tokens of a pattern.
 ghost use Rattle.std.specs.Prelude.{◌≡◌, ◌*◌, ◌<◌, ◌≤◌, IfOk, IsUtf8, length, chars, take};
 ghost use Rattle.glob_pattern.specs.Computing.Tokens.{tokens_of};
 ghost use Rattle.glob_pattern.specs.Grammar.Units.{IsAccepted};
