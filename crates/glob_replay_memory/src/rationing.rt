@@ -6,7 +6,7 @@ use glob_replay::ration::{Memory, Ration};
 use std::alloc::{AllocError, Allocator, Global};
 
 /// The allocator `inner`, with each request first counted by `ration`, which may refuse it. Growing or shrinking a
-/// block is one request, and giving a block back is none. A reference to it is an allocator, too.
+/// block is one request, and freeing a block does not count. A reference to it is an allocator, too.
 #[derive(Debug, Drop)]
 pub struct Rationed<A> {
     pub ration: Ration,

@@ -60,7 +60,7 @@ refuses-at all n t lt is accepted (Syntax e) fault = (
     inside k below = omega (arith, below, length-take-le n all (omega (arith, lt)))
 refuses-at all n t lt is accepted Memory fault = tt
 
--- what is accepted is refused for want of memory alone
+-- an accepted text is refused only if memory runs out
 pub memory-alone : (t : Text) (r : PatternRefusal) → IsAccepted (chars t) → Refuses (chars t) r → r ≡ Memory
 memory-alone t (Syntax e) accepted fault = absurd (no_fault (chars t) _ accepted fault)
 memory-alone t Memory accepted fault = refl

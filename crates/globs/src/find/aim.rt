@@ -178,7 +178,7 @@ fn git_lists<A: Allocator + Copy>(
     Ok(lists)
 }
 
-/// The rules that give way to those of ignore files. If they cannot be read, there are none. Lines of `errors` say so,
+/// The rules that those of ignore files override; no rules if they cannot be read. Lines of `errors` say so,
 /// and which of their lines are refused.
 pub fn last_rules<A: Allocator + Copy, X: RuleTexts<Alloc = A>, E: Write>(
     alloc: A,
