@@ -1,4 +1,4 @@
--- Classes of characters, and where their masks are in rows.
+-- Classes of characters, and the places of their masks in rows.
 pub mod Counting
 pub mod Folding
 pub mod Intervals

@@ -17,17 +17,17 @@ unfolding str.chars
 length-chars [] = omega arith
 length-chars (b ∷ bs) = omega (arith, length-chars_after (continuation_len b) (lead_bits b) bs)
 
--- the product of two counts of 64 bits has 128
+-- the product of two 64-bit counts fits in 128 bits
 pub product_fits : (m n : ℕ) → m < 2 ^ 64 → n < 2 ^ 64 → m * n < 2 ^ 128
 product_fits m n below_m below_n = mul-lt m n (2 ^ 64) (2 ^ 64) below_m below_n
 
--- what a character's asks take off the room for those of the characters left
+-- the room for questions shrinks by one character's questions
 pub mul-left : (n characters place : ℕ) → place + 1 ≤ characters → n * (characters - place) ≡ n * (characters - (place + 1)) + n
 mul-left n characters place le =
     let next : characters - place ≡ suc (characters - (place + 1)) = omega arith in
     rw next (mul-suc n (characters - (place + 1)))
 
--- the asks about the character before a place leave the room for those of the characters left
+-- after the questions about a character there is room for those about the characters left
 pub room-after : (n characters place asked before after : ℕ) → 0 < place → place ≤ characters → asked ≤ n → after ≡ before + asked
     → after + n * (characters - place) ≤ before + n * (characters - (place - 1))
 room-after n characters place asked before after later within few count =

@@ -3,7 +3,7 @@ use Rattle.std.proofs.Common.{◌≡◌, ℕ, suc, ◌+◌, ◌-◌, ◌<◌, �
 use Rattle.std.proofs.Common.{get_or, drop, refl, sym, ap, ◌∙◌, arith}
 use Rattle.std.proofs.lemmas.List.{get_or-drop, drop-drop, drop_at, length-drop, length-append, get_or_append_left}
 
--- an element of the list is one of what is dropped to
+-- an element from place n on, found in the rest of the list
 pub get_or-from_drop : {X : Type 0} (xs ys : List X) (n i : ℕ) (d : X) → drop n xs ≡ ys → get_or xs (n + i) d ≡ get_or ys i d
 get_or-from_drop xs ys n i d e = sym (get_or-drop n xs i d) ∙ ap (λ zs. get_or zs i d) e
 
@@ -23,7 +23,7 @@ length-at_drop {X} xs ys n x e =
     let l : length xs - n ≡ suc (length ys) = sym (length-drop n xs) ∙ ap length e in
     omega arith
 
--- where nothing is left from a place within the list on, that place is its end
+-- if nothing is left from a place within the list on, that place is its end
 pub length-at_end : {X : Type 0} (xs : List X) (n : ℕ) → drop n xs ≡ [] → n ≤ length xs → n ≡ length xs
 length-at_end xs n e h =
     let l : length xs - n ≡ 0 = sym (length-drop n xs) ∙ ap length e in

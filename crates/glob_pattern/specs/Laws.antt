@@ -15,7 +15,7 @@ use Rattle.glob_pattern.specs.Computing.Deciding.{tokens_match, is_match}
 use Rattle.glob_pattern.specs.declared.options.MatchOptions.{MatchOptions}
 use Rattle.glob_pattern.specs.declared.token.Token.TheVariants.{Literal}
 
--- the loose options have the same case-sensitivity as the strict ones, and only rules that these have too
+-- the loose options have the same case-sensitivity as the strict ones, and no rule that the strict ones lack
 abbrev pub IsLooser : MatchOptions → MatchOptions → Type 0
 IsLooser strict loose =
     (loose.case_sensitive ≡ strict.case_sensitive)

@@ -1,3 +1,4 @@
+-- Definitions that only private contracts cite.
 pub mod Automata
 pub mod Brackets
 pub mod CharMasks

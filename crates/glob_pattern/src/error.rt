@@ -55,8 +55,8 @@ pub struct PatternError {
 }
 
 impl PatternError {
-    /// The kind of the error: `Recursive` for `a**`. An error made by hand has the kind with its message, or else
-    /// `Range`.
+    /// The kind of the error: `Recursive` for `a**`. An error made by hand has the kind that its message belongs to, or
+    /// else `Range`.
     #[tactic(auto, using(crate::proofs::GrammarLemmas::FaultKinds::message_of_kind))]
     pub fn kind(&self) -> PatternErrorKind
         ensures kind { result ≡ kind_of self.now.msg.now }

@@ -1,4 +1,5 @@
-//! Judges, and whether their answers let the characters split into pieces.
+//! Matching over any alphabet: a judge says which tokens take each character, and a run says whether the characters
+//! split into pieces that the tokens allow.
 ghost use Rattle.std.specs.Prelude.{◌≡◌, ℕ, ◌+◌, ◌-◌, ◌*◌, ◌^◌, ◌<◌, ◌≤◌, ◌↔◌, false, length, map, IsTrue, IsOk, IfOk, count_ones};
 ghost use Rattle.glob_pattern.specs.Matching.Splits.{Table, Splits};
 ghost use Rattle.std.specs.Int.{IsBitSet};

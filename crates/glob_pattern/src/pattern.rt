@@ -166,10 +166,10 @@ impl<A: Allocator + Copy> Pattern<A> {
         self.compiled.matches(self.text.as_str(), str, options)
     }
 
-    /// The answer of [`matches_with`](Self::matches_with), and how many times a token is asked whether it takes a
-    /// character if the ends are not compared first. That is at most the pattern's characters times the text's, and for
-    /// a match at least the text's characters: `a` against the text `a` gives `(true, 1)`. The error is that of
-    /// [`matches_with`](Self::matches_with).
+    /// The answer of [`matches_with`](Self::matches_with), and a count of questions: how often it would ask a token
+    /// whether it takes a character, without comparing the ends first. The count is at most the pattern's characters
+    /// times the text's, and for a match at least the text's characters: `a` against the text `a` gives `(true, 1)`.
+    /// Fails only as [`matches_with`](Self::matches_with) does.
     #[inline(always)]
     pub fn matches_counted(
         &self,
@@ -211,8 +211,9 @@ impl<A: Allocator + Copy> Pattern<A> {
     }
 }
 
-/// Whether the pattern may match a text of these bytes, by its literals at both ends and a needle. `false` means that
-/// it does not match; `true` promises nothing. `*.rs` rejects `main.c`, but not `main.rs`. The bytes need not be UTF-8.
+/// A quick test of a text's bytes: `false` means that the pattern does not match the text; `true` promises nothing. It
+/// looks only for the pattern's literals at both ends and for a needle. `*.rs` rejects `main.c`, but not `main.rs`. The
+/// bytes need not be UTF-8.
 #[inline(always)]
 pub fn may_match<A: Allocator>(pattern: &Pattern<A>, bytes: &[u8], options: MatchOptions) -> bool
     ensures { IsTrue (is_utf8 bytes.now)

@@ -15,18 +15,18 @@ use Rattle.glob_pattern.proofs.PositionLemmas.Spreading.{spread, spread-low, spr
 abbrev pub IsOne : (word j : ℕ) → Type 0
 IsOne word j = bit_at word j ≡ 1
 
--- one of two bits is the greater
+-- `or` of two bits is the greater one
 max_set : (x y : ℕ) → x < 2 → y < 2 → (max x y ≡ 1) ↔ ((x ≡ 1) ⊎ (y ≡ 1))
 max_set x y p q = (
   λ h. ⊎_elim inl (λ ne. inr (omega arith)) (cases_eq x 1),
   λ h. ⊎_elim (λ e. omega arith) (λ e. omega arith) h,
 )
 
--- both of two bits are the lesser
+-- `and` of two bits is the lesser one
 min_set : (x y : ℕ) → x < 2 → y < 2 → (min x y ≡ 1) ↔ ((x ≡ 1) × (y ≡ 1))
 min_set x y p q = (λ h. (omega arith, omega arith), λ (e, f). omega arith)
 
--- exactly one of two bits
+-- `xor` of two bits
 one_set : (x y : ℕ) → x < 2 → y < 2 → ((x + y) % 2 ≡ 1) ↔ (((x ≡ 1) × ¬ (y ≡ 1)) ⊎ (¬ (x ≡ 1) × (y ≡ 1)))
 one_set x y p q = (
   λ h. ⊎_elim (λ e. inl (e, λ f. omega arith)) (λ ne. inr (ne, omega arith)) (cases_eq x 1),
@@ -80,7 +80,7 @@ IsOne-spread_next word mask j =
     (suc j)) (let a = bit_at-lt mask j in omega arith) in
     rw next (λ h. ⊎_elim inl (λ s. inr (both.0 s)) (one.0 h), λ h. one.1 (⊎_elim inl (λ s. inr (both.1 s)) h))
 
--- a word that is moved up by one
+-- a word shifted up by one
 bit_at-moved_low : (a : ℕ) → bit_at (a * 2 ^ 1 % 2 ^ 64) 0 ≡ 0
 bit_at-moved_low a = bit_at_lowest (a * 2 ^ 1 % 2 ^ 64) ∙ omega arith
 
@@ -92,7 +92,7 @@ bit_at-moved_next a j lt =
 pub IsOne-moved : (a j : ℕ) → suc j < 64 → IsOne (a * 2 ^ 1 % 2 ^ 64) (suc j) ↔ IsOne a j
 IsOne-moved a j lt = let up = bit_at-moved_next a j lt in (λ h. sym up ∙ h, λ h. up ∙ h)
 
--- its low bit, where one is added
+-- its lowest bit, if one is added
 pub IsOne-moved_low : (a : ℕ) (low : Bool) → IsOne (bit_or (a * 2 ^ 1 % 2 ^ 64) (bool_byte low)) 0 ↔ IsTrue low
 IsOne-moved_low a low =
     let or = IsOne-or (a * 2 ^ 1 % 2 ^ 64) (bool_byte low) 0 in
@@ -107,7 +107,7 @@ IsOne-moved_low a low =
     set_low true t = refl
     set_low false t = absurd (false≢true t)
 
--- and its other bits
+-- its other bits
 pub IsOne-moved_next : (a : ℕ) (low : Bool) (j : ℕ) → suc j < 64 → IsOne (bit_or (a * 2 ^ 1 % 2 ^ 64) (bool_byte low)) (suc j) ↔ IsOne a j
 IsOne-moved_next a low j lt =
     let or = IsOne-or (a * 2 ^ 1 % 2 ^ 64) (bool_byte low) (suc j) in
@@ -118,7 +118,7 @@ IsOne-moved_next a low j lt =
     only_low true s = IsOne-zero j (sym (bit_at-suc 1 j) ∙ s)
     only_low false s = IsOne-zero (suc j) s
 
--- Where no two ones of a mask are neighbours, bits spread over one of them at most: as if they were moved up by one.
+-- If no two ones of a mask are neighbours, each bit spreads over at most one of them, as if shifted up by one.
 module _ (word mask : ℕ) (apart : (j : ℕ) → IsOne mask j → IsOne mask (suc j) → ⊥) where
   spread_from : (j : ℕ) → IsOne mask j → IsOne (spread word mask 0) j → IsOne word j
   spread_from zero m s = (IsOne-spread_low word mask).0 s
@@ -151,7 +151,7 @@ IsOne-closed word mask j lt =
     (bit_at_xor _ mask j)) ∙ sym (bit_at_or word _ j) in
     (λ h. sym same ∙ h, λ h. same ∙ h)
 
--- what is left of a word moved down by 63 is its highest bit
+-- a word shifted down by 63 is its highest bit
 pub highest_set : (a : ℕ) → a < 2 ^ 64 → (a / 2 ^ 63 ≢ 0) ↔ IsOne a 63
 highest_set a fits = (λ ne. omega arith, λ s e. omega arith)
 

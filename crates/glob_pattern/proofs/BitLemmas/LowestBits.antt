@@ -22,11 +22,11 @@ zero_from_none : (n : ℕ) → ((j : ℕ) → IsOne n j → ⊥) → n ≡ 0
 zero_from_none n none = same_from_bits n 0 (λ i. let z = bit_at-zero i in let lt = bit_at-lt n i in let not_one :
     bit_at n i ≢ 1 = none i in omega arith)
 
--- the rest of an odd number without its lowest bit is its half
+-- an odd number without its lowest bit, halved, is its half
 half_of_odd : (n : ℕ) → n % 2 ≡ 1 → bit_and n (n - 1) / 2 ≡ n / 2
 half_of_odd n odd = let half : (n - 1) / 2 ≡ n / 2 = omega arith in half_and n (n - 1) ∙ ap (bit_and (n / 2)) half ∙ and_self (n / 2)
 
--- the rest of an even one is that of its half
+-- clearing the lowest bit of an even number clears the lowest bit of its half
 half_of_even : (n : ℕ) → 0 < n → n % 2 ≡ 0 → bit_and n (n - 1) / 2 ≡ bit_and (n / 2) (n / 2 - 1)
 half_of_even n positive even = let half : (n - 1) / 2 ≡ n / 2 - 1 = omega arith in half_and n (n - 1) ∙ ap (bit_and (n / 2)) half
 
@@ -34,7 +34,7 @@ half_of_even n positive even = let half : (n - 1) / 2 ≡ n / 2 - 1 = omega arit
 even_cleared : (n : ℕ) → 0 < n → bit_and n (n - 1) % 2 ≡ 0
 even_cleared n positive = let low = low_and n (n - 1) in omega arith
 
--- where bit t is the lowest, the others stay
+-- if bit t is the lowest, the others stay
 IsOne-cleared : (t n : ℕ) → IsOne n t → ((i : ℕ) → i < t → bit_at n i ≡ 0) → (j : ℕ) → IsOne (bit_and n (n - 1)) j ↔ (IsOne n j × (j ≢ t))
 IsOne-cleared zero n set none zero =
     let even = even_cleared n (positive_from_set n 0 set) in
@@ -107,7 +107,7 @@ lowest_set n positive fits =
           zeros i below in omega (arith, is, z),
     )
 
--- where bit t is the lowest, the others stay
+-- if bit t is the lowest, the others stay
 pub IsBitSet-cleared : (t n : ℕ) → IsBitSet n t → ((i : ℕ) → i < t → ¬ (IsBitSet n i)) → (j : ℕ) → IsBitSet
     (bit_and n (n - 1)) j ↔ (IsBitSet n j × (j ≢ t))
 IsBitSet-cleared t n set none j =
@@ -124,7 +124,8 @@ ones-cleared t n set none = ones-cleared_one t n ((IsBitSet-iff_one n t).0 set) 
 pub ones_within : (m n : ℕ) → ((j : ℕ) → IsBitSet n j → j < m) → ones n ≤ m
 ones_within m n below = ones_within_one m n (λ j one. below j ((IsBitSet-iff_one n j).1 one))
 
--- The bits of `took` are the asked ones that are no longer left and meet P. One more is asked: the lowest one left.
+-- The bits of `took` are the asked ones that satisfy P and are no longer left. The next to be asked is the lowest one
+-- left.
 pub took-more : (P : ℕ → Type 0) (asked left took next t : ℕ) → IsBitSet left t → ((i : ℕ) → i < t → ¬
     (IsBitSet left i)) → ((j : ℕ) → IsBitSet left j → IsBitSet asked j)
     → ((j : ℕ) → j < 64 → IsBitSet took j ↔ (IsBitSet asked j × (IsBitSet left j → ⊥) × P j)) → ((j : ℕ) → j < 64
@@ -141,7 +142,7 @@ took-more P asked left took next t set none within before step j lt =
       λ (a, n, p). new.1 (⊎_elim (λ e. inr (e, subst P e p)) (λ ne. inl (old.1 (a, λ l. n (cleared.1 (l, ne)), p))) (cases_eq j t)),
     )
 
--- the next word where the lowest was taken, and where it was not
+-- the next word if the lowest was taken, and if it was not
 pub next-taken : (P : ℕ → Type 0) (took t : ℕ) → t < 64 → P t → (j : ℕ) → j < 64 → IsBitSet
     (bit_or took (1 * 2 ^ t % 2 ^ 64)) j ↔ (IsBitSet took j ⊎ ((j ≡ t) × P t))
 next-taken P took t lt p j _ =

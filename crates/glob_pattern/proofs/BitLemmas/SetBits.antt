@@ -23,11 +23,11 @@ IsBitSet-cases n k =
     let iff = IsBitSet-iff_one n k in
     ⊎_elim (λ e. inl (iff.1 e)) (λ ne. inr (λ s. ne (iff.0 s))) (cases_eq (bit_at n k) 1)
 
--- a fact on one bit, from one on the digit
+-- a fact about one bit, from the same fact about its digit
 one_from : (P : Type 0) (n k : ℕ) → IsOne n k ↔ P → IsBitSet n k ↔ P
 one_from P n k h = let iff = IsBitSet-iff_one n k in (λ s. h.0 (iff.0 s), λ p. iff.1 (h.1 p))
 
--- a fact on two bits, from one on the digits
+-- a fact about two bits, from the same fact about their digits
 two_from : (m n i j : ℕ) → IsOne m i ↔ IsOne n j → IsBitSet m i ↔ IsBitSet n j
 two_from m n i j h =
     let first = IsBitSet-iff_one m i in
@@ -75,7 +75,7 @@ IsBitSet-not a j fits lt =
 pub IsBitSet-one : (k j : ℕ) → k < 64 → IsBitSet (1 * 2 ^ k % 2 ^ 64) j ↔ (j ≡ k)
 IsBitSet-one k j lt = one_from _ (1 * 2 ^ k % 2 ^ 64) j (digits.IsOne-one k j lt)
 
--- one bit more
+-- one more bit
 pub IsBitSet-with : (word k : ℕ) → k < 64 → (j : ℕ) → IsBitSet (bit_or word (1 * 2 ^ k % 2 ^ 64)) j ↔ (IsBitSet word j ⊎ (j ≡ k))
 IsBitSet-with word k lt j =
     let or = IsBitSet-or word (1 * 2 ^ k % 2 ^ 64) j in
@@ -98,16 +98,16 @@ IsBitSet-spread_next word mask j =
       λ h. next.1 (⊎_elim (λ s. inl (up.0 s)) (λ (s, t). inr (masked.0 s, here.0 t)) h),
     )
 
--- the low bit of a word that is moved up by one
+-- the lowest bit of a word shifted up by one
 pub IsBitSet-moved_low : (a : ℕ) (low : Bool) → IsBitSet (bit_or (a * 2 ^ 1 % 2 ^ 64) (bool_byte low)) 0 ↔ IsTrue low
 IsBitSet-moved_low a low = one_from _ (bit_or (a * 2 ^ 1 % 2 ^ 64) (bool_byte low)) 0 (digits.IsOne-moved_low a low)
 
--- and its other bits
+-- its other bits
 pub IsBitSet-moved_next : (a : ℕ) (low : Bool) (j : ℕ) → suc j < 64 → IsBitSet (bit_or (a * 2 ^ 1 % 2 ^ 64)
     (bool_byte low)) (suc j) ↔ IsBitSet a j
 IsBitSet-moved_next a low j lt = two_from (bit_or (a * 2 ^ 1 % 2 ^ 64) (bool_byte low)) a (suc j) j (digits.IsOne-moved_next a low j lt)
 
--- where no two ones of the mask are neighbours
+-- if no two ones of the mask are neighbours
 pub IsBitSet-flat : (word mask : ℕ) → ((j : ℕ) → IsBitSet mask j → ¬ (IsBitSet mask (suc j))) → (j : ℕ) → j < 64
     → IsBitSet (bit_or word (bit_and word mask * 2 ^ 1 % 2 ^ 64)) j ↔ IsBitSet (spread word mask 0) j
 IsBitSet-flat word mask apart j lt =
@@ -120,7 +120,7 @@ pub IsBitSet-closed : (word mask j : ℕ) → j < 64 → IsBitSet (bit_or word (
 IsBitSet-closed word mask j lt = two_from (bit_or word (bit_xor ((bit_and word mask + mask) % 2 ^ 64) mask))
     (spread word mask 0) j j (digits.IsOne-closed word mask j lt)
 
--- what is left of a word moved down by 63 is its highest bit
+-- a word shifted down by 63 is its highest bit
 pub highest_set : (a : ℕ) → a < 2 ^ 64 → (a / 2 ^ 63 ≢ 0) ↔ IsBitSet a 63
 highest_set a fits =
     let high = digits.highest_set a fits in
@@ -141,13 +141,13 @@ IsBitSet-without a b j fits lt =
     let none = IsBitSet-not b j fits lt in
     (λ s. ((both.0 s).0, none.0 (both.0 s).1), λ (s, n). both.1 (s, none.1 n))
 
--- a bit of a word is one of 64
+-- a bit that is set has a number below 64
 pub bit_below : (word j : ℕ) → word < 2 ^ 64 → IsBitSet word j → j < 64
 bit_below word j fits set =
     let one = (IsBitSet-iff_one word j).0 set in
     ⊎_elim (λ lt. lt) (λ le. let none = bit_at_above word 64 j fits le in absurd (omega (arith, one, none))) (cases_lt j 64)
 
--- no two bits of a mask are neighbours if it has none in common with itself moved up by one
+-- no two bits of a mask are neighbours if it shares no bit with itself shifted up by one
 pub IsBitSet-apart : (mask : ℕ) → mask < 2 ^ 64 → bit_and mask (mask * 2 ^ 1 % 2 ^ 64) ≡ 0 → (j : ℕ) → IsBitSet mask j
     → ¬ (IsBitSet mask (suc j))
 IsBitSet-apart mask fits none j set next =

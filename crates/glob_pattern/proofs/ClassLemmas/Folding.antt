@@ -1,4 +1,4 @@
--- The characters that a range holds case-insensitively are those of three ranges.
+-- Case-insensitively, a range holds the characters of three ranges.
 use Rattle.std.proofs.Common.{◌≡◌, ℕ, ◌+◌, ◌<◌, ◌≤◌, ◌⊎◌, Bool, true, false, not, ◌&&◌, ◌||◌, ◌==◌, refl, sym, ap, ◌∙◌, ⊎_elim, arith}
 use Rattle.std.proofs.Math.Bool.{or-false}
 use Rattle.std.proofs.lemmas.Bool.{cases_Bool, lt-ltb, le-ltb, cases_lt, false≢true}
@@ -25,13 +25,14 @@ letter-forms : (x y : ℕ) → are_letters x y ≡ true
     (to_ascii_uppercase y + 32 ≡ to_ascii_lowercase y)
 letter-forms x y t = grind (arith, nat_tests)
 
--- the lower-case form of a character is between two letters where the character is, or is between those in upper case
+-- the lower-case form of a character is between two lower-case letters exactly if the character is between them in
+-- either case
 forms : (c small first last upper_first upper_last : ℕ) → 97 ≤ first → last ≤ 122 → upper_first + 32 ≡ first → upper_last + 32 ≡ last
     → ((65 ≤ c) × (c ≤ 90) × (small ≡ c + 32)) ⊎ (((c < 65) ⊎ (90 < c)) × (small ≡ c))
     → (in_range first last c || in_range upper_first upper_last c) ≡ in_range first last small
 forms c small first last upper_first upper_last low high uf ul cases = grind (arith, nat_tests)
 
--- nor is a character beyond ASCII
+-- the lower-case form of a character beyond ASCII is never between them
 beyond : (c small first last : ℕ) → 128 ≤ c → last ≤ 122 → ((65 ≤ c) × (c ≤ 90) × (small ≡ c + 32)) ⊎
     (((c < 65) ⊎ (90 < c)) × (small ≡ c)) → in_range first last small ≡ false
 beyond c small first last high end cases = grind (arith, nat_tests)
@@ -56,12 +57,12 @@ held-letters x y c letters =
 held-others : (x y c : ℕ) → are_letters x y ≡ false → in_folded_range x y c ≡ false
 held-others x y c none = not_both (is_ascii x) _ (is_ascii y) _ (is_ascii c) _ (rw (← is_letter x, ← is_letter y) none)
 
--- case-sensitively, or where an end is no letter, a range holds what is between its ends
+-- case-sensitively, or if an end is not a letter, a range holds what is between its ends
 pub held-plain : (case : Bool) (x y c : ℕ) → (not case && are_letters x y) ≡ false → entry_holds case c (Range x y) ≡ in_range x y c
 held-plain true x y c none = or-false (in_range x y c)
 held-plain false x y c none = rw (held-others x y c none) (or-false (in_range x y c))
 
--- else it holds what is between them in either case
+-- otherwise it holds what is between them in either case
 pub held-cases : (case : Bool) (x y c : ℕ) → (not case && are_letters x y) ≡ true
     → ((in_range x y c || in_range (to_ascii_lowercase x) (to_ascii_lowercase y) c) || in_range (to_ascii_uppercase x)
     (to_ascii_uppercase y) c) ≡ entry_holds case c (Range x y)
@@ -81,11 +82,11 @@ single-held : (case : Bool) (c x : ℕ) → entry_holds case c (Range x x) ≡ i
 single-held true c x = grind (arith, nat_tests)
 single-held false c x = grind (arith, nat_tests)
 
--- what is no letter is its own lower-case and upper-case form
+-- a character that is not a letter is its own lower-case and upper-case form
 other-case : (x : ℕ) → are_letters x x ≡ false → (to_ascii_lowercase x ≡ x) × (to_ascii_uppercase x ≡ x)
 other-case x none = grind (arith, nat_tests)
 
--- so what holds of a literal in each case holds of both forms
+-- so what holds for a literal in each case holds for both forms
 pub EachCase-forms : (P : ℕ → ℕ → Type 0) (x : ℕ) → EachCase P x x
     → P (to_ascii_lowercase x) (to_ascii_lowercase x) × P (to_ascii_uppercase x) (to_ascii_uppercase x)
 EachCase-forms P x each = ⊎_elim

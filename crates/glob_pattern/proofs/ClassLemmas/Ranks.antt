@@ -30,7 +30,7 @@ module _ (xs : List ℕ) where
       (cases_lt (rank xs d) (rank xs c))
 
   module _ (up : IsNonDecreasing xs) where
-    -- one from a boundary on has more than one before it
+    -- a character from a boundary on has more boundaries up to it than one before it
     pub rank-strict : (c m d : ℕ) → c < m → m ≤ d → Contains xs m → rank xs c < rank xs d
     rank-strict c m d lt le (i, within, is) =
         let here : get_or xs i 0 ≡ m = sym (get_or_default xs i m 0 within) ∙ is in

@@ -11,7 +11,7 @@ pub row-within : (n rows columns : ℕ) → n < rows → n * columns + columns �
 row-within n rows columns lt = let up : (n + 1) * columns ≤ rows * columns = mul-le-mul_right columns
     (omega (arith, lt)) in omega (arith, up)
 
--- a part of what is zero from a place on
+-- a part of a list that is zero from some place on is zero
 pub part-zero : (a k : ℕ) (xs : List ℕ) → ((r : ℕ) → a ≤ r → get_or xs r 0 ≡ 0) → (r : ℕ) → get_or (take k (drop a xs)) r 0 ≡ 0
 part-zero a k xs zero r =
     ⊎_elim
@@ -19,7 +19,7 @@ part-zero a k xs zero r =
     (λ le. get_or_past (take k (drop a xs)) r 0 (omega (arith, le, length-take k (drop a xs))))
     (cases_lt r k)
 
--- what is written over a whole list
+-- a list written over a whole list replaces it
 pub written : (n : ℕ) (xs ys : List ℕ) → length ys ≤ length xs → length xs ≤ n → take n (xs ++ drop (length xs) ys) ≡ xs
 written n xs ys covers all = ap (λ rest. take n (xs ++ rest)) (drop_all (length xs) ys covers) ∙ ap (take n)
     (append-nil xs) ∙ take_all n xs all
@@ -34,7 +34,7 @@ pub half-few : (case : Bool) → half_of case < 2
 half-few true = omega arith
 half-few false = omega arith
 
--- what is behind the end is nothing
+-- dropping more than there is leaves nothing
 pub drop-min : (n : ℕ) (xs : List ℕ) → drop (min n (length xs)) xs ≡ drop n xs
 drop-min n xs =
     ⊎_elim

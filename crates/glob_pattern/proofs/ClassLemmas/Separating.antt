@@ -24,7 +24,7 @@ one-class =
     }
 
 module _ (p : Partition) where
-  -- the class of a character that has a class in the table, and of another
+  -- the class of an ASCII character, and of any other
   pub class-ascii : (c : ℕ) → c < length p.ascii → class_in p c ≡ get_or p.ascii c 0
   class-ascii c lt = rw (lt-ltb c (length p.ascii) lt) refl
 
@@ -66,7 +66,7 @@ module _ {A : Type 0} (b : Boundaries A) (ascii : List ℕ) (are : AreAsciiClass
   high : (c : ℕ) → 128 ≤ c → class c ≡ get_or ascii 127 0 + rank p.beyond c
   high c le = class-beyond p c (omega (arith, le, are.long))
 
-  -- classes fall nowhere
+  -- classes never fall
   class-order : (c d : ℕ) → c ≤ d → class c ≤ class d
   class-order c d le =
       ⊎_elim
@@ -77,7 +77,7 @@ module _ {A : Type 0} (b : Boundaries A) (ascii : List ℕ) (are : AreAsciiClass
       (cases_lt c 128))
       (cases_lt d 128)
 
-  -- and rise at each boundary
+  -- classes rise at each boundary
   class-apart : (c m d : ℕ) → c < m → m ≤ d → (m < 128 → HasCut b.ascii m) → (128 ≤ m → Contains b.beyond.items m) → class c < class d
   class-apart c m d lt le cut begins =
       ⊎_elim

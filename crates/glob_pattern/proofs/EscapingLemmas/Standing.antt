@@ -43,11 +43,11 @@ Stands written token c =
     ((written ≡ c ∷ []) × (token ≡ Literal c) × ((c ≢ question_mark) × (c ≢ star) × (c ≢ open_bracket)))
     ⊎ ((written ≡ open_bracket ∷ c ∷ close_bracket ∷ []) × (token ≡ bracketed c) × IsApart c)
 
--- a character whose lower-case letter is no letter is that
+-- a character whose lower-case form is not a letter is that form
 lowercase-apart : (c d : ℕ) → (d < 97) ⊎ (122 < d) → to_ascii_lowercase c ≡ d → c ≡ d
 lowercase-apart c d apart e = grind (arith, ltb-true, ltb-false)
 
--- a character that is no letter, and none of those with a rule
+-- a character that is not a letter and that no rule is about
 pub IsApart-from_number : (c d : ℕ) → c ≡ d → (d < 97) ⊎ (122 < d) → to_ascii_lowercase d ≡ d → d ≢ exclamation_mark
     → d ≢ slash → d ≢ dot → IsApart c
 IsApart-from_number c d is apart own no_mark no_slash no_dot =
@@ -76,7 +76,7 @@ UnitAt-bracketed whole rest f c apart e =
       ap entries_of (sym inside),
     )
 
--- the same as such a character is that character
+-- only such a character itself is the same as it
 same-apart : (case : Bool) (c x : ℕ) → IsApart x → IsTrue (is_same case c x) → c ≡ x
 same-apart case c x apart h =
     ⊎_elim (λ e. eqb-true c x e) (λ small. apart.no_letter c (eqb-true _ _ (and_parts _ _ small).1)) (or_cases _ _ h)
@@ -89,7 +89,7 @@ apart-is_free o opening c apart =
     (not_from_false (is_excluded_dot o opening c) (and_right (o.require_literal_leading_dot && opening) (c == dot)
     (ne_eqb c dot apart.no_dot)))
 
--- a test that says yes where another does changes nothing before that one
+-- a test that is implied by another changes nothing beside it
 and-implied : (a b : Bool) → (IsTrue b → IsTrue a) → (a && (b || false)) ≡ b
 and-implied true true h = refl
 and-implied true false h = refl
@@ -104,7 +104,7 @@ bracketed-literal o x apart = (
       (λ h. subst (λ y. IsTrue (is_free o opening y)) (sym (same-apart o.case_sensitive c x apart h)) (apart-is_free o opening x apart)),
 )
 
--- what stands for a character takes the same as it
+-- a token that stands for a character takes the characters that are the same
 pub stands-literal : (o : MatchOptions) (written : Text) (token : Token) (x : ℕ) → Stands written token x → IsLiteral o token x
 stands-literal o written token x (inl plain) = subst (λ t. IsLiteral o t x) (sym plain.1) (refl, λ opening c. refl)
 stands-literal o written token x (inr own) = subst (λ t. IsLiteral o t x) (sym own.1) (bracketed-literal o x own.2)
@@ -125,7 +125,7 @@ module _ (written : ℕ → Text) (token : ℕ → Token) (each : (c : ℕ) → 
           (subst (λ z. UnitAt whole f (bracketed c) (f + length z)) (sym own.0)
           (UnitAt-bracketed whole rest f c own.2 (at ∙ ap (λ z. z ++ rest) own.0)))
 
-  -- it is no `**`
+  -- it is not `**`
   stands-shallow : (c : ℕ) → IsFalse (is_recursive (token c))
   stands-shallow c = by (written c) (token c) (each c)
     where
@@ -150,7 +150,7 @@ module _ (written : ℕ → Text) (token : ℕ → Token) (each : (c : ℕ) → 
             literal text other s)),
       )
 
-  -- case-sensitively, only the text
+  -- case-sensitively, it matches only the text
   pub stands_matches_itself : (o : MatchOptions) (text other : Text) → IsTrue o.case_sensitive →
       (Matches o (flat_map written text) other ↔ (text ≡ other))
   stands_matches_itself o text other with_case =
@@ -192,7 +192,7 @@ escaped_stands c = by (is_special c) refl
     by true special = inr (refl, refl, special-apart c special)
     by false other = inl (refl, refl, not_special c other)
 
--- the units of an escaped text are those of its characters
+-- the units of an escaped text are the units of its escaped characters
 pub escaped_accepted : EscapedAccepted
 escaped_accepted text =
     accepted_by_tokens (escaped_text text) (map escaped_token text) (HasTokens-stands escaped_character escaped_token escaped_stands text)
@@ -201,6 +201,6 @@ escaped_accepted text =
 pub escaped_matches_same : EscapedMatchesSame
 escaped_matches_same = stands_matches_same escaped_character escaped_token escaped_stands
 
--- case-sensitively, only the text
+-- case-sensitively, an escaped text matches only the text
 pub escaped_matches_itself : EscapedMatchesItself
 escaped_matches_itself = stands_matches_itself escaped_character escaped_token escaped_stands

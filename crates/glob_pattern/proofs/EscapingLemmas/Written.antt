@@ -12,7 +12,7 @@ use Rattle.glob_text.specs.Text.{Text}
 use Rattle.glob_pattern.specs.Grammar.Characters.{star, question_mark, open_bracket, close_bracket}
 use Rattle.glob_pattern.specs.Escaping.{is_special, escaped_character, escaped_text}
 
--- Another character stays as it is.
+-- Any other character stays as it is.
 escaped_character-plain : (c : ℕ) → is_special c ≡ false → escaped_character c ≡ c ∷ []
 escaped_character-plain c e = rw e refl
 
@@ -21,7 +21,7 @@ uncounted : (b : Bool) → ◌≡◌ {A = ℕ} (cond b 1 0) 0 → b ≡ false
 uncounted true e = absurd (omega arith)
 uncounted false e = refl
 
--- What is not counted in the bytes of a character is no special one.
+-- A character is not special if no special byte is counted in it.
 plain_by_bytes : (c : ℕ) → count_by is_special (encode_utf8 c) ≡ 0 → is_special c ≡ false
 plain_by_bytes c none = ⊎_elim
     (λ low. uncounted (is_special c) (omega (arith, sum_by-cons (λ x. cond (is_special x) 1 0) c [], rw (encode_ascii c low) at none)))
@@ -40,7 +40,7 @@ escaped_text-uncounted (c ∷ cs) e =
     let both = sum_by-append (λ x. cond (is_special x) 1 0) (encode_utf8 c) (encode_utf8_all cs) in
     rw (escaped_character-plain c (plain_by_bytes c (omega (arith, both, e))), escaped_text-uncounted cs (omega (arith, both, e))) refl
 
--- What was written for each character of a text are the characters of what was written.
+-- The characters of the output are what was written for each character of the text.
 pub written_chars : (f : ℕ → Text) (written cs : Text) → IsUtf8 written → written ≡ encode_utf8_all (flat_map f cs)
     → chars written ≡ flat_map f cs
 written_chars f written cs utf8 is = sym (chars_from_encodes (flat_map f cs) written utf8 (sym is))

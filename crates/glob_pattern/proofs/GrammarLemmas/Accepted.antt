@@ -11,11 +11,11 @@ use Rattle.glob_pattern.proofs.GrammarLemmas.Folding.{length-tokens_of_units}
 use Rattle.glob_pattern.proofs.GrammarLemmas.Reading.{UnitsBetween-within, units_from-Ok, tokens_by_reading}
 use Rattle.glob_pattern.proofs.GrammarLemmas.Reading.{reading_of-HasTokens, fault_by_reading, reading_of-IsFault}
 
--- The computation answers tokens where they are those of the text.
+-- The computation returns tokens exactly if they are the text's.
 pub reading_of-Ok : (text : Text) (tokens : List Token) → (reading_of text ≡ Ok tokens) ↔ HasTokens text tokens
 reading_of-Ok text tokens = (tokens_by_reading text tokens, reading_of-HasTokens text tokens)
 
--- The computation answers a fault where it is that of the text.
+-- The computation returns a fault exactly if it is the text's.
 pub reading_of-Err : (text : Text) (fault : Fault) → (reading_of text ≡ Err fault) ↔ IsFault text fault
 reading_of-Err text fault = (fault_by_reading text fault, reading_of-IsFault text fault)
 
@@ -30,7 +30,7 @@ same_read read tokens others first second = cc
 same_told : (read : Result (List Token) Fault) (fault other : Fault) → read ≡ Err fault → read ≡ Err other → fault ≡ other
 same_told read fault other first second = cc
 
--- One unit is at a place.
+-- There is at most one unit at a place.
 pub one_unit : (text : Text) (f : ℕ) (t u : Token) (e m : ℕ) → UnitAt text f t e → UnitAt text f u m → (t ≡ u) × (e ≡ m)
 one_unit text f t u e m first second =
     same_found (unit_at text f) t u e m (unit_at-UnitAt text f t e first) (unit_at-UnitAt text f u m second)
@@ -52,7 +52,7 @@ pub one_fault : (text : Text) (fault other : Fault) → IsFault text fault → I
 one_fault text fault other first second =
     same_told (reading_of text) fault other (reading_of-IsFault text fault first) (reading_of-IsFault text other second)
 
--- An accepted text has none.
+-- An accepted text has no fault.
 pub no_fault : (text : Text) (fault : Fault) → IsAccepted text → ¬ (IsFault text fault)
 no_fault text fault accepted is =
     let has = units_of_accepted text accepted in
@@ -64,7 +64,7 @@ read_or_told : (text : Text) (read : Result (List Token) Fault) → reading_of t
 read_or_told text (Ok tokens) e refused = absurd (refused (accepted_by_tokens text tokens (tokens_by_reading text tokens e)))
 read_or_told text (Err fault) e refused = (fault, fault_by_reading text fault e)
 
--- Another text has one.
+-- Any other text has a fault.
 pub some_fault : (text : Text) → ¬ (IsAccepted text) → (fault : Fault) × IsFault text fault × ((other : Fault)
     → IsFault text other → other ≡ fault)
 some_fault text refused =

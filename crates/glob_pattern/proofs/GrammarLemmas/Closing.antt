@@ -21,7 +21,7 @@ abbrev pub IsFirstClose : Text → ℕ → Option ℕ → Type 0
 IsFirstClose text i None = (k : ℕ) → i ≤ k → ¬ (Has text k close_bracket)
 IsFirstClose text i (Some k) = (i ≤ k) × Has text k close_bracket × NoCloseBetween text i k
 
--- what holds of no place after i, nor of i, holds of no place from i on
+-- what is false at place i and at each later place is false at each place from i on
 none_from : (P : ℕ → Type 0) (i : ℕ) → ¬ (P i) → ((k : ℕ) → i + 1 ≤ k → ¬ (P k)) → (k : ℕ) → i ≤ k → ¬ (P k)
 none_from P i here later k above at =
     elim (cases_lt i k) [
@@ -29,7 +29,7 @@ none_from P i here later k above at =
       | inr not_above ↦ let e : k ≡ i = omega arith in here (subst P e at)
     ]
 
--- A place without `]` may be passed over.
+-- A place without `]` may be skipped.
 IsFirstClose-before : (text : Text) (i : ℕ) (found : Option ℕ) → ¬ (Has text i close_bracket) → IsFirstClose text
     (i + 1) found → IsFirstClose text i found
 IsFirstClose-before text i None here later = none_from (λ k. Has text k close_bracket) i here later
@@ -64,7 +64,7 @@ IsFirstClose-position_from text i (c ∷ rest) is_rest =
 pub IsFirstClose-close_from : (text : Text) (i : ℕ) → IsFirstClose text i (close_from text i)
 IsFirstClose-close_from text i = IsFirstClose-position_from text i (drop i text) refl
 
--- Two first ones are one.
+-- There is only one first `]`.
 IsFirstClose-same : (text : Text) (i k : ℕ) (found : Option ℕ) → IsFirstClose text i found → IsFirstClose text i (Some k) → found ≡ Some k
 IsFirstClose-same text i k None none first = absurd (none k first.0 first.1)
 IsFirstClose-same text i k (Some j) found first =
@@ -77,7 +77,7 @@ IsFirstClose-same text i k (Some j) found first =
           ]
     ]
 
--- The place before the end of a bracket is the one that the search finds.
+-- The search finds the place before the end of a bracket.
 pub close_from-ClosesBefore : (text : Text) (i e : ℕ) → ClosesBefore text i e → close_from text i ≡ Some (e - 1)
 close_from-ClosesBefore text i e closes =
     IsFirstClose-same text i (e - 1) (close_from text i) (IsFirstClose-close_from text i) (omega (arith, closes.0), closes.1, closes.2)

@@ -1,4 +1,4 @@
--- The message of a fault is that of its kind.
+-- The message of a fault belongs to its kind.
 use Rattle.std.proofs.Common.{◌≡◌, ℕ, ◌+◌, ◌-◌, Bool, true, false, refl, sym, ap, ◌∙◌}
 use Rattle.std.specs.Prelude.{not, if◌then◌else◌}
 use Rattle.glob_text.specs.Text.{Text, opens, has}

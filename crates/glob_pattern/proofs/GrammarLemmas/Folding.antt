@@ -17,7 +17,7 @@ pub folded_one : (t : Token) → tokens_of_units (t ∷ []) ≡ t ∷ []
 folded_one t = cond_both (is_recursive t && false) [] (t ∷ []) (λ xs. xs ≡ t ∷ [])
     (λ e. absurd (false≢true (sym (and_right (is_recursive t) false refl) ∙ e))) (λ e. refl)
 
--- Some token stays.
+-- At least one token stays.
 pub folded_some : (t : Token) (ts : List Token) → 0 < length (tokens_of_units (t ∷ ts))
 folded_some t [] = omega (arith, ap length (folded_one t))
 folded_some t (u ∷ us) =
@@ -57,7 +57,7 @@ folded_before true u t before after some e = e
 folded_before false u t before after some e =
     rw (ends_deep_after u before some, e) (behind (is_recursive t && ends_recursive before) u before (before ++ t ∷ []))
 
--- What is folded of one more unit: a `**` after a `**` adds nothing.
+-- Folding with one more unit: a `**` after a `**` adds nothing.
 pub tokens_of_units-push : (units : List Token) (t : Token) → tokens_of_units (units ++ t ∷ []) ≡ cond
     (is_recursive t && ends_recursive (tokens_of_units units)) (tokens_of_units units) (tokens_of_units units ++ t ∷ [])
 tokens_of_units-push [] t = refl
@@ -75,7 +75,7 @@ tokens_of_units-push_deep tokens units t deep ends e =
     e ∙ sym (tokens_of_units-push units t ∙ cond-true _ _ _ (and_from (is_recursive t) (ends_recursive
     (tokens_of_units units)) deep (ap ends_recursive (sym e) ∙ ends)))
 
--- Another is added.
+-- Any other token is added.
 pub tokens_of_units-push_other : (tokens units : List Token) (t : Token) → (is_recursive t && ends_recursive tokens) ≡
     false → tokens ≡ tokens_of_units units → tokens ++ t ∷ [] ≡ tokens_of_units (units ++ t ∷ [])
 tokens_of_units-push_other tokens units t other e =

@@ -16,7 +16,7 @@ use Rattle.glob_pattern.proofs.GrammarLemmas.Folding.{tokens_of_units-push_other
 use Rattle.glob_pattern.proofs.GrammarLemmas.Units.{IsClear, UnitAt-within, IsClear-after, Stands, Stands-unit_at}
 use Rattle.glob_pattern.proofs.GrammarLemmas.Units.{unit_at-UnitAt, NoUnitAt-None}
 
--- Units reach on, and not past the end.
+-- Units end at or after their start, and within the text.
 pub UnitsBetween-within : (text : Text) (f : ℕ) (units : List Token) (e : ℕ) → UnitsBetween text f units e
     → f ≤ length text → (f + length units ≤ e) × (e ≤ length text)
 UnitsBetween-within text f [] e between within = (omega arith, omega arith)
@@ -57,7 +57,7 @@ Answers-reading_after_unit text f read None within found stands later =
 Answers-reading_after_unit text f read (Some (t, e)) within found stands later =
     Answers-reading_with_first text f t e (read e) stands (later t e stands)
 
--- What the computation answers is so.
+-- What the computation answers is true.
 pub Answers-units_from : (n : ℕ) (text : Text) (f : ℕ) → length text < f + n → f ≤ length text → IsClear text f
     → Answers text f (units_from n text f)
 unfolding units_from
@@ -91,7 +91,7 @@ units_from-Ok (suc n) text f (t ∷ ts) enough within between =
     units_from-unit n text f t between.0 between.1
     ∙ ap (reading_with_first t) (units_from-Ok n text between.0 ts (omega arith) reach.1 between.2)
 
--- Where there is no unit, none is found.
+-- If there is no unit, no unit is found.
 unit_at-None : (text : Text) (f : ℕ) (found : Option (Token × ℕ)) → Stands text f found → NoUnitAt text f → found ≡ None
 unit_at-None text f None stands none = refl
 unit_at-None text f (Some (t, e)) stands none = absurd (none t e stands)
@@ -201,7 +201,7 @@ UnitAt-bracket text f (NoneOf entries) e unit at = refl
 pub HasTokens-HasRead : (text : Text) (tokens : List Token) → HasRead text tokens (length text) → HasTokens text tokens
 HasTokens-HasRead text tokens has = (has.2, has.3, has.4)
 
--- A refusal where no unit is found, after those that were read, is one of the text.
+-- A refusal at a place without a unit, after the units that were read, is a refusal of the text.
 pub Refuses-HasRead : (text : Text) (tokens : List Token) (f : ℕ) (refusal : PatternRefusal) → HasRead text tokens f
     → f < length text → RefusesAt text f refusal → Refuses text refusal
 unfolding IsFault

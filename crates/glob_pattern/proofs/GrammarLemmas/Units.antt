@@ -1,4 +1,4 @@
--- The unit computed at a place is the one that the grammar has there.
+-- The computation finds at each place the unit that the grammar has there.
 use Rattle.std.proofs.Common.{◌≡◌, ◌≢◌, ℕ, ◌+◌, ◌-◌, ◌<◌, ◌≤◌, Bool, true, false, not, ◌||◌, cond, eqb, List, length}
 use Rattle.std.proofs.Common.{get_or, Option, Some, None, refl, ap, sym, ◌∙◌, subst, inl, inr, arith}
 use Rattle.std.specs.Option.{option_map}
@@ -189,7 +189,7 @@ bracket_from-ClosesBefore kind text i j e next closes =
     ap (option_map (λ k. (kind (entries_of (between text i k)), k + 1))) found ∙ ap
     (λ n. Some (kind (entries_of (between text i (e - 1))), n)) end
 
--- The unit that is at a place is found there.
+-- A unit at a place is found there.
 pub unit_at-UnitAt : (text : Text) (f : ℕ) (t : Token) (e : ℕ) → UnitAt text f t e → unit_at text f ≡ Some (t, e)
 unit_at-UnitAt text f (Literal c) e unit =
     skip _ _ _ _ (is_not text f c question_mark unit.0 unit.1)
@@ -219,11 +219,11 @@ unit_at-UnitAt text f (NoneOf entries) e unit =
     (pick _ _ _ _ (has-true text (f + 1) exclamation_mark unit.1)
     (bracket_from-ClosesBefore NoneOf text (f + 2) (f + 3) e (omega arith) unit.2 ∙ ap (λ x. Some (NoneOf x, e)) (sym unit.3)))))
 
--- Where none is found, there is none.
+-- If no unit is found, there is no unit.
 pub NoUnitAt-None : (text : Text) (f : ℕ) → unit_at text f ≡ None → NoUnitAt text f
 NoUnitAt-None text f none = λ t e unit. let found = unit_at-UnitAt text f t e unit in cc
 
--- What is found is there.
+-- A unit that is found is there.
 pub UnitAt-Some : (text : Text) (f : ℕ) (t : Token) (e : ℕ) → f < length text → IsClear text f → unit_at text f ≡ Some
     (t, e) → UnitAt text f t e
 UnitAt-Some text f t e within clear found = subst (Stands text f) found (Stands-unit_at text f within clear)

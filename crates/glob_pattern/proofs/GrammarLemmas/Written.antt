@@ -15,12 +15,12 @@ folded-begins (t ∷ ts) deep =
     cond_both (is_recursive t && begins_recursive ts) (tokens_of_units ts) (t ∷ tokens_of_units ts) (λ xs. begins_recursive xs ≡ true)
     (λ both. folded-begins ts (and_parts (is_recursive t) (begins_recursive ts) both).1) (λ _. deep)
 
--- no tokens are of no units
+-- no tokens come only from no units
 units-none : (units : List Token) → tokens_of_units units ≡ [] → units ≡ []
 units-none [] none = refl
 units-none (t ∷ ts) none = absurd (omega (arith, folded_some t ts, ap length none))
 
--- first literals are first units, and the only ones where they are all tokens
+-- first literals are first units, and the only units if there are no other tokens
 units-first : (plain : Text) (units more : List Token) → tokens_of_units units ≡ map Literal plain ++ more
     → (others : List Token) × (units ≡ map Literal plain ++ others) × (more ≡ [] → others ≡ [])
 units-first [] units more e = (units, refl, λ none. units-none units (e ∙ none))

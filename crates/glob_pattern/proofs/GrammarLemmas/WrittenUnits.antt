@@ -11,12 +11,12 @@ use Rattle.glob_pattern.specs.declared.options.MatchOptions.{MatchOptions}
 use Rattle.glob_pattern.specs.declared.token.Token.TheVariants.{Literal}
 use Rattle.glob_pattern.proofs.Places.{get_or-at_drop, length-at_drop, length-at_end, drop-after_piece, length-after_piece}
 
--- wherever a character is written, there is the unit of its token
+-- where a character is written, there is the unit of its token
 abbrev pub WritesUnit : (written : ℕ → Text) (token : ℕ → Token) → ℕ → Type 0
 WritesUnit written token c =
     (whole rest : Text) (f : ℕ) → drop f whole ≡ written c ++ rest → UnitAt whole f (token c) (f + length (written c))
 
--- units are from the place on from which the characters are written
+-- from the place where the characters are written, there are their units
 pub UnitsBetween-written : (written : ℕ → Text) (token : ℕ → Token) (cs : Text) → ((k : ℕ) → k < length cs
     → WritesUnit written token (slice_index cs k)) → (whole : Text) (f : ℕ) → drop f whole ≡ flat_map written cs
     → f ≤ length whole → UnitsBetween whole f (map token cs) (length whole)
@@ -44,7 +44,7 @@ tokens_of_units-map token shallow (c ∷ cs) =
     (and_left (is_recursive (token c)) (begins_recursive ts) (shallow c))
     ∙ ap (λ us. token c ∷ us) (tokens_of_units-map token shallow cs)
 
--- and their tokens, where none is `**`
+-- and their tokens, if no token is `**`
 pub HasTokens-written : (written : ℕ → Text) (token : ℕ → Token) (cs : Text) → ((c : ℕ) → IsFalse
     (is_recursive (token c))) → ((k : ℕ) → k < length cs → WritesUnit written token (slice_index cs k)) → HasTokens
     (flat_map written cs) (map token cs)
@@ -55,7 +55,7 @@ HasTokens-written written token cs shallow each = (
       (tokens_of_units-map token shallow cs),
 )
 
--- a character that is no wildcard stands for itself
+-- a character that is not a wildcard stands for itself
 pub UnitAt-plain : (whole rest : Text) (f c : ℕ) → (c ≢ question_mark) × (c ≢ star) × (c ≢ open_bracket) → drop f whole
     ≡ c ∷ rest → UnitAt whole f (Literal c) (f + 1)
 UnitAt-plain whole rest f c plain e =
@@ -66,7 +66,7 @@ UnitAt-plain whole rest f c plain e =
 abbrev pub HasOnly : Text → List Token → Type 0
 HasOnly pattern tokens = (others : List Token) → HasTokens pattern others → others ≡ tokens
 
--- a pattern matches what its only tokens match
+-- a pattern matches what its tokens match
 pub tokens-from_Matches : (o : MatchOptions) (pattern text : Text) (tokens : List Token) → HasOnly pattern tokens
     → Matches o pattern text → TokensMatch o tokens text
 unfolding Matches

@@ -30,7 +30,7 @@ takes-listed case c Recursive = refl
 takes-listed case c (OneOf e) = refl
 takes-listed case c (NoneOf e) = refl
 
--- where the separator rule excludes `/`, a literal takes what it lists, and `**` takes it
+-- if the separator rule excludes `/`, a literal takes what it lists, and `**` takes it
 pub separator-listed : (case : Bool) (t : Token) → ((lists case slash t && not (is_bracket t)) || is_recursive t) ≡ takes_separator t
 separator-listed case (Literal x) = rw (same-caseless case slash x (omega arith), same-caseless true slash x (omega arith)) (grind arith)
 separator-listed case AnyChar = refl
@@ -39,7 +39,7 @@ separator-listed case Recursive = refl
 separator-listed case (OneOf e) = grind (arith, nat_tests)
 separator-listed case (NoneOf e) = grind (arith, nat_tests)
 
--- where the dot rule excludes `.`, only a literal takes it
+-- if the dot rule excludes `.`, only a literal takes it
 pub dot-listed : (case : Bool) (t : Token) → (lists case dot t && not (is_bracket t)) ≡ takes_dot t
 dot-listed case (Literal x) = rw (same-caseless case dot x (omega arith), same-caseless true dot x (omega arith)) (and-true _)
 dot-listed case AnyChar = refl
@@ -48,7 +48,7 @@ dot-listed case Recursive = refl
 dot-listed case (OneOf e) = and-false _
 dot-listed case (NoneOf e) = and-false _
 
--- where a token lists no character, the case does not count
+-- if a token lists no character, the case does not count
 pub takes-caseless : (o : MatchOptions) (opening case : Bool) (c : ℕ) (t : Token) → is_plain t ≡ true → takes o opening
     c t ≡ takes (record o { case_sensitive = case }) opening c t
 takes-caseless o opening case c (Literal x) none = absurd (false≢true none)
@@ -59,7 +59,7 @@ takes-caseless o opening case c (OneOf e) none = absurd (false≢true none)
 takes-caseless o opening case c (NoneOf e) none = absurd (false≢true none)
 
 module _ (o : MatchOptions) (opening : Bool) where
-  -- where no rule excludes a character, the rules do not count
+  -- if no rule excludes a character, the rules do not count
   pub takes-free : (c : ℕ) → is_excluded_separator o c ≡ false → is_excluded_dot o opening c ≡ false → (t : Token)
       → takes o opening c t ≡ takes (case_options o.case_sensitive) false c t
   takes-free c s d (Literal x) = refl
@@ -69,7 +69,7 @@ module _ (o : MatchOptions) (opening : Bool) where
   takes-free c s d (OneOf e) = rw (s, d) refl
   takes-free c s d (NoneOf e) = rw (s, d) refl
 
-  -- where the separator rule excludes `/`, nothing else counts
+  -- if the separator rule excludes `/`, nothing else counts
   pub takes-slash : o.require_literal_separator ≡ true → (t : Token) → takes o opening slash t ≡ takes_separator t
   takes-slash s (Literal x) = same-caseless o.case_sensitive slash x (omega arith) ∙ sym (same-caseless true slash x (omega arith))
   takes-slash s AnyChar = rw s refl
@@ -78,7 +78,7 @@ module _ (o : MatchOptions) (opening : Bool) where
   takes-slash s (OneOf e) = rw s refl
   takes-slash s (NoneOf e) = rw s refl
 
-  -- nor where the dot rule excludes `.`
+  -- if the dot rule excludes `.`, nothing else counts
   pub takes-dot : o.require_literal_leading_dot ≡ true → opening ≡ true → (t : Token) → takes o opening dot t ≡ takes_dot t
   takes-dot d s (Literal x) = same-caseless o.case_sensitive dot x (omega arith) ∙ sym (same-caseless true dot x (omega arith))
   takes-dot d s AnyChar = rw (d, s) (and-false _)
@@ -101,7 +101,7 @@ module _ (o : MatchOptions) (opening : Bool) where
         cases false true = omega (arith, is.least 127 (omega arith))
         cases false false = (class-bounds p is c).1
 
-    -- a token takes a character as it takes those of its class
+    -- a token takes a character exactly if it takes the others of its class
     pub class-cases : (c : ℕ) (t : Token)
         → ((class_of p o opening c ≡ 0) × (takes o opening c t ≡ takes_separator t))
         ⊎ ((class_of p o opening c ≡ 1) × (takes o opening c t ≡ takes_dot t))

@@ -8,7 +8,7 @@ use Rattle.glob_pattern.specs.Private.CharMasks.{IsWith}
 pub with_none : (mask bit : ℕ) → IsWith mask mask bit false
 with_none mask bit = record { bits = λ j. (inl, λ h. ⊎_elim (λ s. s) (λ (_, f). absurd (false≢true f)) h) }
 
--- and one that is on is set besides
+-- a bit that is on is set, too
 pub with_one : {old new bit : ℕ} → ((j : ℕ) → IsBitSet new j ↔ (IsBitSet old j ⊎ (j ≡ bit))) → IsWith old new bit true
 with_one with = record {
   bits = λ j. (
@@ -18,7 +18,7 @@ with_one with = record {
   );
 }
 
--- what is listed after other characters is listed beside them
+-- listing more characters keeps those listed before
 pub IsWith-after : (old between new bit : ℕ) (p q : Bool) → IsWith old between bit p → IsWith between new bit q
     → IsWith old new bit (p || q)
 IsWith-after old between new bit true q first second = record {

@@ -15,7 +15,7 @@ use Rattle.glob_pattern.specs.declared.token.Token.TheVariants.{AnyChar}
 use Rattle.glob_pattern.proofs.BitLemmas.SetBits.{IsBitSet-zero, IsBitSet-or, IsBitSet-xor, IsBitSet-without}
 use Rattle.glob_pattern.proofs.MaskLemmas.Classes.{class-cases, class-below}
 
--- what is inverted where another test is met
+-- a test, inverted where another test passes
 inverted : (within here other both : Type 0) (p q : Bool) → here ↔ (within × IsTrue p) → other ↔ (within × IsTrue q)
     → both ↔ ((here × ¬ other) ⊎ (¬ here × other)) → both ↔ (within × IsTrue (if q then not p else p))
 inverted within here other both true true h o b = (
@@ -36,11 +36,11 @@ inverted within here other both false false h o b = (
 )
 
 module _ (tokens : List Token) (start : ℕ) where
-  -- of no tokens no bit is set
+  -- for no tokens, no bit is set
   pub IsMask-zero : (test : Token → Bool) → IsMask tokens start start test 0
   IsMask-zero test = record { bits = λ j lt. (λ s. absurd (IsBitSet-zero j s), λ (below, _). absurd (omega arith)) }
 
-  -- one token more
+  -- one more token
   pub IsMask-more : (n : ℕ) (test : Token → Bool) (token : Token) (old new : ℕ) → start ≤ n → token ≡ get_or tokens n AnyChar
       → IsMask tokens start n test old → IsWith old new (n - start) (test token) → IsMask tokens start (n + 1) test new
   IsMask-more n test token old new from is mask put = record {
@@ -60,7 +60,7 @@ module _ (tokens : List Token) (start : ℕ) where
         );
   }
 
-  -- a test that says the same
+  -- the mask of a test with the same answers
   pub IsMask-same : (end : ℕ) (p q : Token → Bool) (mask : ℕ) → ((t : Token) → p t ≡ q t) → IsMask tokens start end p
       mask → IsMask tokens start end q mask
   IsMask-same end p q mask same is = record {
@@ -70,7 +70,7 @@ module _ (tokens : List Token) (start : ℕ) where
         (λ s. let (below, h) = was.0 s in (below, sym (same t) ∙ h), λ (below, h). was.1 (below, same t ∙ h));
   }
 
-  -- tokens that meet one of two tests
+  -- the mask of the tokens that pass one of two tests
   pub IsMask-or : (end : ℕ) (p q : Token → Bool) (a b : ℕ) → IsMask tokens start end p a → IsMask tokens start end q b
       → IsMask tokens start end (λ t. p t || q t) (bit_or a b)
   IsMask-or end p q a b first second = record {
@@ -86,7 +86,7 @@ module _ (tokens : List Token) (start : ℕ) where
         );
   }
 
-  -- tokens that meet the first test and not the second
+  -- the mask of the tokens that pass the first test and not the second
   pub IsMask-without : (end : ℕ) (p q : Token → Bool) (a b : ℕ) → b < 2 ^ 64 → IsMask tokens start end p a → IsMask tokens start end q b
       → IsMask tokens start end (λ t. p t && not (q t)) (bit_and a (bit_not w64 b))
   IsMask-without end p q a b fits first second = record {
@@ -102,7 +102,7 @@ module _ (tokens : List Token) (start : ℕ) where
         );
   }
 
-  -- tokens that meet the first test, inverted where they meet the second
+  -- the mask of the first test, inverted for the tokens that pass the second
   pub IsMask-inverted : (end : ℕ) (p q : Token → Bool) (a b : ℕ) → IsMask tokens start end p a → IsMask tokens start end q b
       → IsMask tokens start end (λ t. if q t then not (p t) else p t) (bit_xor a b)
   IsMask-inverted end p q a b first second = record {
@@ -117,7 +117,7 @@ at_class masks j class r a b within e f h = rw (e, f) h
 wider : (bit within below is : Type 0) → within ↔ below → bit ↔ (within × is) → bit ↔ (below × is)
 wider bit within below is same h = (λ s. (same.0 (h.0 s).0, (h.0 s).1), λ t. h.1 (same.1 t.0, t.1))
 
--- where each column is the mask of its class, the row says which tokens take a character
+-- if each column is the mask of its class, the row says which tokens take a character
 pub IsRow-from : (tokens : List Token) (start end : ℕ) (p : Partition) (case : Bool) (row : List ℕ)
     → IsMask tokens start end takes_separator (mask_at row 0) → IsMask tokens start end takes_dot (mask_at row 1)
     → ((c : ℕ) → IsMask tokens start end (takes (case_options case) false c) (mask_at row (class_in p c)))
@@ -148,7 +148,7 @@ stored_rules masks separator dot long =
       λ r low. get_or-set_other first 1 r dot 0 (λ e. omega arith) ∙ get_or-set_other masks 0 r separator 0 (λ e. omega arith),
     )
 
--- a part of a list that is written, and what is before it
+-- what is before a part of a list that is written stays
 module _ (a k : ℕ) (xs ys : List ℕ) (within : a + k ≤ length xs) (long : length ys ≡ k) where
   pub placed : (r : ℕ) → r < k → mask_at (put_mid a k xs ys) (a + r) ≡ mask_at ys r
   placed r lt =
@@ -173,7 +173,7 @@ module _ (tokens : List Token) (start : ℕ) (p : Partition) (is : IsPartition p
         (row.takes o opening c j same lt);
   }
 
-  -- and those before it stay
+  -- the rows before it stay
   pub IsRow-before : (a at : ℕ) (xs ys : List ℕ) → a + columns_of p ≤ length xs → length ys ≡ columns_of p
       → at + columns_of p ≤ a → IsRow tokens start p case xs at → IsRow tokens start p case
       (put_mid a (columns_of p) xs ys) at
@@ -194,7 +194,7 @@ past a k xs ys within long r le =
     ∙ get_or-append_right ys (post_of a k xs) k (r - a) 0 long (omega arith)
     ∙ get_or-drop k (drop a xs) (r - a - k) 0 ∙ get_or-drop a xs (k + (r - a - k)) 0 ∙ ap (λ i. get_or xs i 0) whole
 
--- and the list keeps its length
+-- the list keeps its length
 pub length-written : (a k : ℕ) (xs ys : List ℕ) → a + k ≤ length xs → length ys ≡ k → length (put_mid a k xs ys) ≡ length xs
 length-written a k xs ys within long =
     let front : length (take a xs) ≡ a = length-take-le a xs (omega arith) in

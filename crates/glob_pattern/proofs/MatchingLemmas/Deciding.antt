@@ -31,14 +31,14 @@ use Rattle.glob_pattern.proofs.MatchingLemmas.Rests.{tokens_match_rest, first_an
 use Rattle.glob_pattern.proofs.MatchingLemmas.Rests.{first_answer-one_character_answers, first_answer-run_answers}
 use Rattle.glob_pattern.proofs.MatchingLemmas.Rests.{first_answer-component_answers}
 
--- the place after a character opens where that is `/`
+-- a component begins after a character exactly if that is `/`
 pub opens-next : (text : Text) (k c : ℕ) (cs : Text) → drop k text ≡ c ∷ cs → (c == slash) ≡ opens text (k + 1)
 opens-next text k c cs e =
     let back : k + 1 - 1 ≡ k = omega arith in
     let at : slice_index text (k + 1 - 1) ≡ c = ap (slice_index text) back ∙ get_or-at_drop text cs k c 0 e in
     sym (ap₂ (λ b x. b || x == slash) (ne_eqb (k + 1) 0 (λ z. omega arith)) at)
 
--- a token is asked of a character as the table says
+-- a token takes a character as the table says
 pub Decides-takes : (o : MatchOptions) (all : List Token) (text : Text) (n k c : ℕ) (b : Bool) (t : Token)
     (ts : List Token) (cs : Text) → drop n all ≡ t ∷ ts → b ≡ opens text k → drop k text ≡ c ∷ cs → Decides
     (takes o b c t) (IsTrue ((table_of o all text).takes n k))
@@ -47,7 +47,7 @@ Decides-takes o all text n k c b t ts cs e p q =
     takes-at o all text n k t ts e ∙ ap₂ (λ y x. takes o y x t) (sym p) (get_or-at_drop text cs k c 0 q) in
     ((λ h. same ∙ h), (λ h. sym same ∙ h))
 
--- a test that answers no, of what cannot be
+-- the answer no decides what is impossible
 decides_no : {P : Type 0} → ¬ P → Decides false P
 decides_no h = ((λ e. absurd (false≢true e)), (λ p. absurd (h p)))
 
@@ -112,7 +112,7 @@ Decides-many o all text n t ts e next (c ∷ cs) k b p q h =
     (Decides-and (takes o b c t) _ (Decides-takes o all text n k c b t ts cs e p q)
     (Decides-many o all text n t ts e next cs (k + 1) (c == slash) (opens-next text k c cs q) (drop-at_drop text cs k c q) (omega arith)))))
 
--- a first token that takes some characters, up to a place that opens
+-- a first token that takes one or more characters, up to where a component begins
 Decides-closed : (o : MatchOptions) (all : List Token) (text : Text) (n : ℕ) (t : Token) (ts : List Token)
     → drop n all ≡ t ∷ ts → RestsDecided o all text (n + 1) ts
     → (cs : Text) (k : ℕ) (b : Bool) → b ≡ opens text k → drop k text ≡ cs → k ≤ length text
@@ -188,13 +188,13 @@ pub decider-from_TokensMatch : (o : MatchOptions) (tokens : List Token) (text : 
     → tokens_match o tokens text ≡ true
 decider-from_TokensMatch o tokens text = (Decides-TokensMatch o tokens text).1
 
--- a yes to what was read is a yes to tokens that were read
+-- if the answer for a reading is yes, tokens were read, and the answer for them is yes
 match_of_reading-tells : (o : MatchOptions) (read : Result (List Token) Fault) (text : Text) → match_of_reading o read
     text ≡ true → (tokens : List Token) × (read ≡ Ok tokens) × (tokens_match o tokens text ≡ true)
 match_of_reading-tells o (Ok tokens) text h = (tokens, refl, h)
 match_of_reading-tells o (Err fault) text h = absurd (false≢true h)
 
--- what is read of a pattern is what the grammar says of it
+-- a pattern is read as the grammar says
 abbrev pub IsReadAs : (pattern : Text) → Type 0
 IsReadAs pattern =
     (tokens : List Token) → (HasTokens pattern tokens → reading_of pattern ≡ Ok tokens) ×

@@ -27,7 +27,7 @@ use Rattle.glob_pattern.proofs.MatchingLemmas.Needles.{small-SameTexts}
 kept : (b : ℕ) → 128 ≤ b → to_ascii_lowercase b ≡ b
 kept b high = ⊎_elim (λ (from, to, e). absurd (omega arith)) (λ (apart, e). e) (lower_cases b)
 
--- and those of ASCII there
+-- and makes ASCII bytes ASCII
 low : (b : ℕ) → b < 128 → to_ascii_lowercase b < 128
 low b lt = ⊎_elim (λ (from, to, e). omega (arith, e)) (λ (apart, e). omega (arith, e)) (lower_cases b)
 
@@ -58,12 +58,12 @@ high-bytes c i single high lt =
     (λ more. more)
     (cases_lt (get_or (encode c) i 0) 128)
 
--- which lower case keeps
+-- lower case keeps such bytes
 kept-all : (bytes : List ℕ) → ((i : ℕ) → i < length bytes → 128 ≤ get_or bytes i 0) → map to_ascii_lowercase bytes ≡ bytes
 kept-all [] high = refl
 kept-all (b ∷ bytes) high = ap₂ (λ x xs. x ∷ xs) (kept b (high 0 (omega arith))) (kept-all bytes (λ i lt. high (suc i) (omega arith)))
 
--- so bytes in lower case are those of characters in lower case
+-- so the bytes of a character in lower case are its bytes in lower case
 lower-encode : (c : ℕ) → scalar c ≡ true → (scalar (to_ascii_lowercase c) ≡ true) × (map to_ascii_lowercase
     (encode c) ≡ encode (to_ascii_lowercase c))
 lower-encode c single =
@@ -194,7 +194,7 @@ module _ (case : Bool) (bytes literals : List ℕ) (u : IsUtf8 bytes) (v : IsUtf
       (IsCharBoundary-from_drop (map to_ascii_lowercase bytes) (length bytes - length literals)
       (omega (arith, within, length-map bytes to_ascii_lowercase)) (subst IsUtf8 (sym lower) (lowered literals v)))
 
--- where a text may be cut, its characters are those of both parts
+-- if a text may be cut at a place, its characters are those of both parts
 pub chars-cut : (bytes : List ℕ) (i : ℕ) → IsUtf8 bytes → IsCharBoundary bytes i → chars bytes ≡ chars (take i bytes)
     ++ chars (drop i bytes)
 chars-cut bytes i u at = ap chars (sym (take-append-drop i bytes)) ∙ chars-append (take i bytes) (drop i bytes) (IsUtf8-take bytes i u at)
@@ -232,13 +232,13 @@ chars_past_last bytes rest c u v split =
     (encodes-chars bytes u ∙ split ∙ ap₂ (λ xs ys. xs ++ ys) (sym (encodes-chars rest v)) (sym (append-nil (encode c)))
     ∙ sym (encodes-append (chars rest) (c ∷ [])))
 
--- after a last character a component begins where it is `/`
+-- a component begins after the last character if that is `/`
 opens-at_last : (opening : Bool) (cs : Text) (c : ℕ) → opens_within opening (cs ++ c ∷ []) (length (cs ++ c ∷ [])) ≡ (c == slash)
 opens-at_last opening cs c =
     let long : suc (length cs) ≡ length (cs ++ c ∷ []) = omega (arith, length-append cs (c ∷ [])) in
     subst (λ n. opens_within opening (cs ++ c ∷ []) n ≡ (c == slash)) long (ap (λ d. d == slash) (get_or_at cs c [] 0 (length cs) refl))
 
--- and so by the last byte
+-- the same, by the last byte
 pub opens-at_last_byte : (opening : Bool) (front : List ℕ) (last : ℕ) → IsUtf8 (front ++ last ∷ []) → opens_within
     opening (chars (front ++ last ∷ [])) (length (chars (front ++ last ∷ []))) ≡ (last == slash)
 opens-at_last_byte opening front last u =

@@ -25,7 +25,7 @@ use Rattle.glob_pattern.proofs.MatchingLemmas.PlainTokens.{SameTexts-more}
 pub length-literals : (plain : Text) (tokens : List Token) → tokens ≡ map Literal plain → length tokens ≡ length plain
 length-literals plain tokens e = ap length e ∙ length-map {B = Token} plain Literal
 
--- no tokens take nothing
+-- an empty list of tokens takes nothing
 pub TakesFirst-none : (o : MatchOptions) (opening : Bool) (part : Text) → TakesFirst o [] opening part opening part
 TakesFirst-none o opening part = λ more n m e.
     let at : n ≡ m = omega (arith, e) in
@@ -72,7 +72,7 @@ module _ (o : MatchOptions) (tokens : List Token) (text : List ℕ) (k end : ℕ
         match = (λ m. (step.0 (all.0 m)).1, λ splits. all.1 (step.1 (took, splits)));
       }
 
-  -- it does not take it
+  -- it does not take the first character
   pub refuses-next : (c : ℕ) (rest : List ℕ) → chars part ≡ c ∷ chars rest → takes o opening c
       (get_or tokens k AnyChar) ≡ false → TokensMatch o tokens (chars text) → ⊥
   refuses-next c rest e none m =
@@ -81,7 +81,7 @@ module _ (o : MatchOptions) (tokens : List Token) (text : List ℕ) (k end : ℕ
       false≢true (sym none ∙ ((SplitsPart-first o opening (get_or tokens k AnyChar) (drop (k + 1) tokens) c
       (chars rest) one (end - (k + 1))).0 splits).0)
 
-  -- there is none
+  -- there is no first character
   pub lacks-next : chars part ≡ [] → TokensMatch o tokens (chars text) → ⊥
   lacks-next none m =
       SplitsPart-first_none o opening (get_or tokens k AnyChar) (drop (k + 1) tokens) (end - (k + 1)) one
@@ -119,7 +119,7 @@ module _ (o : MatchOptions) (tokens : List Token) (text : List ℕ) (from k end 
         match = (λ m. (step.0 (all.0 m)).1, λ splits. all.1 (step.1 (taken, splits)));
       }
 
-  -- it does not take it
+  -- it does not take the last character
   pub refuses-before : (rest : List ℕ) (c : ℕ) → chars part ≡ chars rest ++ c ∷ [] → takes o (opens_within opening
       (chars rest) (length (chars rest))) c (get_or tokens k AnyChar) ≡ false → TokensMatch o tokens (chars text) → ⊥
   refuses-before rest c e none m =
@@ -128,7 +128,7 @@ module _ (o : MatchOptions) (tokens : List Token) (text : List ℕ) (from k end 
       (chars rest) c).0 splits).0 in
       false≢true (sym none ∙ subst (λ t. takes o (opens_within opening (chars rest) (length (chars rest))) c t ≡ true) token-last took)
 
-  -- there is none
+  -- there is no last character
   pub lacks-before : chars part ≡ [] → TokensMatch o tokens (chars text) → ⊥
   lacks-before none m =
       SplitsPart-last_none o opening (drop from tokens) (k - from) inside (ap shape_of token-last ∙ one)
@@ -152,7 +152,7 @@ TakesFirst-literals o (p ∷ ps) (d ∷ ds) opening rest (lengths, each) = λ mo
     ) more n q (ap (λ k. k + n) (sym (length-literals ps (map Literal ps) refl))) in
     rw (many, opens-shift opening d ds (length ds)) (λ s. next.0 (step.0 s).1, λ s. step.1 (each 0 (omega arith), next.1 s))
 
--- and no other
+-- literals take only a start that is the same
 pub first-from_SplitsPart : (o : MatchOptions) (plain : Text) (opening : Bool) (more : List Token) (n m : ℕ)
     (text : Text) → m ≡ length plain + n → SplitsPart o opening (map Literal plain ++ more) m text
     → (here : Text) × (rest : Text) × (text ≡ here ++ rest) × SameTexts o.case_sensitive here plain
@@ -180,7 +180,7 @@ TakesLast-literals o (p ∷ ps) (d ∷ ds) opening rest (lengths, each) =
     TakesLast-more o (map Literal ps) opening (rest ++ d ∷ ds) (Literal p) rest d refl
     (subst (λ part. TakesLast o (map Literal ps) opening part (rest ++ d ∷ [])) (append_assoc rest (d ∷ []) ds) next) (each 0 (omega arith))
 
--- and no other
+-- literals take only an end that is the same
 pub last-from_SplitsPart : (o : MatchOptions) (plain : Text) (opening : Bool) (front more : List Token) (n m : ℕ)
     (text : Text) → n ≡ length front → m ≡ n + length plain
     → SplitsPart o opening (front ++ (map Literal plain ++ more)) m text → (rest : Text) × (here : Text) ×

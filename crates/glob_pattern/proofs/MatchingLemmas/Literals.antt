@@ -16,7 +16,7 @@ use Rattle.glob_pattern.specs.declared.token.Token.TheVariants.{AnyChar}
 use Rattle.glob_pattern.proofs.MatchingLemmas.Splits.{SplitsFrom-ones, ones-from_SplitsFrom}
 use Rattle.glob_pattern.proofs.MatchingLemmas.PiecesAndSplits.{Splits-from_TokensMatch, TokensMatch-from_Splits}
 
--- the token takes one character, where it is the same as x
+-- the token takes exactly the characters that are the same as x
 abbrev pub IsLiteral : MatchOptions → Token → ℕ → Type 0
 IsLiteral o t x = (shape_of t ≡ shape.One) × ((opening : Bool) (c : ℕ) → takes o opening c t ≡ is_same o.case_sensitive c x)
 
@@ -35,7 +35,7 @@ literal-takes o token each xs text k l =
     ap (takes o (opens text k) (slice_index text k)) (get_or-map token xs k 0 AnyChar l) ∙ (each (slice_index xs k)).1
     (opens text k) (slice_index text k)
 
--- where such tokens match a text, it is the same as theirs
+-- a text that such tokens match is the same as theirs
 pub SameTexts-from_TokensMatch : (o : MatchOptions) (token : ℕ → Token) → ((x : ℕ) → IsLiteral o (token x) x) →
     (xs text : Text) → TokensMatch o (map token xs) text → SameTexts o.case_sensitive text xs
 unfolding table_of

@@ -23,7 +23,7 @@ use Rattle.glob_pattern.proofs.MatchingLemmas.Ends.{length-literals, last-from_S
 use Rattle.glob_pattern.proofs.MatchingLemmas.Parts.{SplitsPart-fewer}
 use Rattle.glob_pattern.proofs.MatchingLemmas.PlainTokens.{plain_tokens_stand}
 
--- a needle of some of the tokens is one of all
+-- a needle of some of the tokens is a needle of all tokens
 pub IsNeedle-within : (tokens : List Token) (needle : Needle) (start n : ℕ) → IsNeedle (take n (drop start tokens))
     needle → IsNeedle tokens needle
 IsNeedle-within tokens needle start n part = record {
@@ -98,7 +98,7 @@ small-same case c x same =
     ∙ sym (ap (map to_ascii_lowercase) (encode_ascii x (ltb-true x 128 second))))
     (or_cases (c == x) (not case && is_ascii c && is_ascii x && to_ascii_lowercase c == to_ascii_lowercase x) same)
 
--- and so for whole texts
+-- the same for whole texts
 pub small-SameTexts : (case : Bool) (xs ys : Text) → SameTexts case xs ys → map to_ascii_lowercase (encode_utf8_all xs)
     ≡ map to_ascii_lowercase (encode_utf8_all ys)
 small-SameTexts case [] [] same = refl
@@ -110,7 +110,7 @@ small-SameTexts case (x ∷ xs) (y ∷ ys) (lengths, each) =
     (omega arith, λ k l. each (suc k) (omega arith)))
     ∙ sym (map-append to_ascii_lowercase (encode y) (encode_utf8_all ys))
 
--- where bytes split around the needle, the needle is among them
+-- bytes made of a front, the needle and a back contain the needle
 IsAt-from_split : (before here after bytes needle : List ℕ) → bytes ≡ before ++ (here ++ after)
     → map to_ascii_lowercase here ≡ map to_ascii_lowercase needle
     → IsAt bytes needle (length before)

@@ -22,7 +22,7 @@ use Rattle.glob_pattern.proofs.MatchingLemmas.Stepping.{opens-suc}
 use Rattle.glob_pattern.proofs.PositionLemmas.LastOnes.{SameBefore, PrefixSplits-same, some-first, one-from_PrefixSplits, PrefixSplits-one}
 use Rattle.glob_pattern.proofs.PositionLemmas.Prefixes.{Splits-iff_prefix}
 
--- what opens after a first character, opens without it
+-- whether a component begins at a place is the same without the first character, one place earlier
 pub opens-shift : (opening : Bool) (c : ℕ) (cs : Text) (k : ℕ) → opens_within opening (c ∷ cs) (suc k) ≡ opens_within (c == slash) cs k
 opens-shift opening c cs zero = refl
 opens-shift opening c cs (suc k) = refl
@@ -32,7 +32,7 @@ before_some : (k : ℕ) → 0 < k → (m : ℕ) × (k ≡ suc m)
 before_some zero lt = absurd (omega arith)
 before_some (suc m) lt = (m, refl)
 
--- the tables with a first token and a first character, and without
+-- the tables with and without the first token and the first character
 module _ (o : MatchOptions) (opening : Bool) (t : Token) (ts : List Token) (c : ℕ) (cs : Text) where
   takes-shift : (n k : ℕ) → (table_within opening o (t ∷ ts) (c ∷ cs)).takes (suc n) (suc k) ≡ (table_within (c == slash) o ts cs).takes n k
   unfolding table_within
@@ -111,7 +111,7 @@ module _ (o : MatchOptions) (opening : Bool) (t : Token) (ts : List Token) (c : 
       all-from_rest n i j all,
     )
 
-    -- a first token of one character takes the first, and leaves the rest to the others
+    -- a first one-character token takes the first character, and leaves the rest to the other tokens
     pub SplitsPart-first : (n : ℕ) → SplitsPart o opening (t ∷ ts) (suc n) (c ∷ cs) ↔ (IsTrue (takes o opening c t)
         × SplitsPart o (c == slash) ts n cs)
     unfolding SplitsPart table_within
@@ -125,7 +125,7 @@ module _ (o : MatchOptions) (opening : Bool) (t : Token) (ts : List Token) (c : 
       λ (took, rest). PrefixSplits-from_rest n (length cs) took rest,
     )
 
--- but there has to be one
+-- a first one-character token splits no empty text
 pub SplitsPart-first_none : (o : MatchOptions) (opening : Bool) (t : Token) (ts : List Token) (n : ℕ) → shape_of t ≡
     One → SplitsPart o opening (t ∷ ts) (suc n) [] → ⊥
 unfolding SplitsPart
@@ -156,7 +156,7 @@ module _ (o : MatchOptions) (opening : Bool) (tokens : List Token) (n : ℕ) (wi
     takes-last = ap₂ (λ b d. takes o b d (get_or tokens n AnyChar)) (opens-front (length cs) (omega arith))
         (get_or_at cs c [] 0 (length cs) refl)
 
-    -- a last token of one character takes the last, and leaves the rest to those before it
+    -- a last one-character token takes the last character, and leaves the rest to the tokens before it
     pub SplitsPart-last : SplitsPart o opening tokens (suc n) (cs ++ c ∷ []) ↔
         (IsTrue (takes o (opens_within opening cs (length cs)) c (get_or tokens n AnyChar)) × SplitsPart o opening
         tokens n cs)
@@ -175,7 +175,7 @@ module _ (o : MatchOptions) (opening : Bool) (tokens : List Token) (n : ℕ) (wi
               (fewer.1 rest),
         )
 
-  -- but there has to be one
+  -- a last one-character token splits no empty text
   pub SplitsPart-last_none : SplitsPart o opening tokens (suc n) [] → ⊥
   unfolding SplitsPart PrefixSplits
   SplitsPart-last_none (i, prefix, reach, all) = let next : 0 ≡ i + 1 = rw one-at at reach in omega arith
@@ -193,7 +193,7 @@ same-whole_text o tokens text m k = record {
   opens = λ j le. opens-whole text j;
 }
 
--- tokens match a text where all of them split it
+-- tokens match a text exactly if all of them split it
 pub TokensMatch-iff_part : (o : MatchOptions) (tokens : List Token) (text : Text) → TokensMatch o tokens text ↔
     SplitsPart o true tokens (length tokens) text
 unfolding SplitsPart table_of
@@ -209,7 +209,7 @@ TokensMatch-iff_part o tokens text =
       λ splits. TokensMatch-from_Splits o tokens text (whole.1 (within.1 splits)),
     )
 
--- the tokens from number n on need not be asked
+-- only the first n tokens need to be asked
 pub SplitsPart-asked : (o : MatchOptions) (opening : Bool) (tokens : List Token) (n : ℕ) (part : Text)
     → PrefixSplits (table_within opening o (take n tokens) part) (map shape_of tokens) n (length part) ↔ SplitsPart o opening tokens n part
 unfolding SplitsPart table_within

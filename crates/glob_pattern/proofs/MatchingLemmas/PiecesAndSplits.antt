@@ -43,7 +43,7 @@ TakesPiece-from_all o all text piece rest n i t ts e p h m below =
     subst (λ c. IsTrue (takes o (opens text (i + m)) c t)) (get_or-in_piece text piece rest i m 0 p below)
     (sym (takes-at o all text n (i + m) t ts e) ∙ h (i + m) (omega arith) (omega arith))
 
--- a piece at place i that ends in `/` ends where the place opens
+-- a piece at place i that ends in `/` ends where a component begins
 pub opens-after_slash : (text piece rest front : Text) (i : ℕ) → drop i text ≡ piece ++ rest → piece ≡ front ++ slash ∷
     [] → IsTrue (opens text (i + length piece))
 opens-after_slash text piece rest front i p e =
@@ -59,7 +59,7 @@ list_at_last : (xs : Text) (n c : ℕ) → length xs ≡ n + 1 → slice_index x
 list_at_last xs n c l e =
     sym (take_all (n + 1) xs (omega arith)) ∙ take_more xs n 0 (omega arith) ∙ ap (λ x. take n xs ++ x ∷ []) e
 
--- a piece at place i that ends where the place opens is empty or ends in `/`
+-- a piece at place i that ends where a component begins is empty or ends in `/`
 pub EndsInSlash-from_opens : (text piece rest : Text) (i : ℕ) → drop i text ≡ piece ++ rest → IsTrue
     (opens text (i + length piece)) → (piece ≡ []) ⊎ EndsInSlash piece
 EndsInSlash-from_opens text [] rest i p h = inl refl
@@ -92,7 +92,7 @@ MayReach-from_form o all text piece rest i Recursive ts p h = (
 MayReach-from_form o all text piece rest i (OneOf entries) ts p h = omega arith
 MayReach-from_form o all text piece rest i (NoneOf entries) ts p h = omega arith
 
--- where no shape follows, no token does
+-- if no shape follows, no token does
 no_tokens : (ts : List Token) → map shape_of ts ≡ [] → ts ≡ []
 no_tokens [] e = refl
 no_tokens (t ∷ ts) e = cc
@@ -181,7 +181,7 @@ unfolding TokensMatch
 Splits-from_TokensMatch o tokens text (pieces, e, allowed) = SplitsFrom-from_pieces o tokens tokens text 0 0 pieces
     refl (sym e) (omega arith) allowed
 
--- tokens over whose table a text splits match it
+-- if a text splits over the table of the tokens, they match it
 pub TokensMatch-from_Splits : (o : MatchOptions) (tokens : List Token) (text : Text) → Splits (table_of o tokens text)
     (map shape_of tokens) → TokensMatch o tokens text
 unfolding TokensMatch

@@ -28,7 +28,7 @@ TokensAreUnique = (text : Text) (a b : List Token) → HasTokens text a → HasT
 pub same-with_case : (c x : ℕ) → IsTrue (is_same true c x) → c ≡ x
 same-with_case c x h = ⊎_elim (λ e. eqb-true c x e) (λ no. absurd (false≢true no)) (or_cases (c == x) false h)
 
--- and so for whole texts
+-- the same for whole texts
 pub SameTexts-with_case : (xs ys : Text) → SameTexts true xs ys → xs ≡ ys
 SameTexts-with_case xs ys (lengths, same_at) =
     same_number_lists xs ys lengths (λ k l. same-with_case (slice_index xs k) (slice_index ys k) (same_at k (omega arith)))

@@ -1,4 +1,4 @@
--- What literals and one-character tokens of a pattern say of every text that it matches.
+-- What literals and one-character tokens of a pattern say about every text that it matches.
 use Rattle.std.proofs.Common.{◌≡◌, ℕ, zero, suc, ◌+◌, ◌<◌, ◌≤◌, Bool, cond, List, [], ◌∷◌, ◌++◌, length, map}
 use Rattle.std.proofs.Common.{slice_index, IsTrue, refl, sym, ap, ap₂, subst, ◌∙◌, arith}
 use Rattle.std.proofs.lemmas.List.{length-append, nil_from_length}
@@ -40,7 +40,7 @@ SameTexts-more case d c xs ys first (lengths, rest) = (omega arith, each)
     each zero l = first
     each (suc k) l = rest k (omega arith)
 
--- The pieces of plain tokens are the same as they, and nothing follows where no token does.
+-- The pieces of plain tokens are the same as their characters, and if no token follows, nothing follows.
 PlainFirst : Bool → Text → List Token → List Text → Type 0
 PlainFirst case plain back pieces =
     (here : Text) × (after : List Text) × (concat pieces ≡ here ++ concat after)

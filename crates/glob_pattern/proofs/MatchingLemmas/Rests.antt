@@ -8,7 +8,7 @@ use Rattle.glob_pattern.specs.Computing.Deciding.{run_answers, component_answers
 use Rattle.glob_pattern.specs.declared.options.MatchOptions.{MatchOptions}
 use Rattle.glob_pattern.specs.declared.token.Token.TheVariants.{Literal, AnyChar, AnySequence, Recursive, OneOf, NoneOf}
 
--- the tokens match the placed characters
+-- the tokens match these characters, each with whether a component begins there
 abbrev pub tokens_match_rest : MatchOptions → List Token → List (Bool × ℕ) → Bool
 tokens_match_rest o ts xs = first_answer (tokens_answers o ts xs)
 
@@ -23,7 +23,7 @@ pub first_answer-joined_answers : (bs cs : List Bool) → first_answer (joined_a
 first_answer-joined_answers [] cs = refl
 first_answer-joined_answers (b ∷ bs) cs = refl
 
--- the rests after the first are those of the characters after the first
+-- the answers after the first are the answers for the characters after the first
 pub later_answers-tokens_answers : (o : MatchOptions) (ts : List Token) (x : Bool × ℕ) (xs : List (Bool × ℕ))
     → later_answers (tokens_answers o ts (x ∷ xs)) ≡ tokens_answers o ts xs
 later_answers-tokens_answers o [] x xs = refl

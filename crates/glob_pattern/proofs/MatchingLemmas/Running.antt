@@ -16,7 +16,7 @@ use Rattle.glob_pattern.proofs.MatchingLemmas.Parts.{SplitsPart-asked}
 use Rattle.glob_pattern.proofs.MatchingLemmas.Splits.{TakesAll-none}
 use Rattle.glob_pattern.proofs.PositionLemmas.Running.{whole-by_rest}
 
--- over the first of some tokens, and a part of a text
+-- a run over the first tokens and a part of a text
 pub CanRun-part : (opening : Bool) (o : MatchOptions) (tokens : List Token) (bytes : List ℕ) (words : List ShapeWord)
     (span : Span) (k count : ℕ)
     → AreShapeWords (map shape_of tokens) span.end words
@@ -36,7 +36,7 @@ CanRun-part opening o tokens bytes words span k count shaped accepting place non
       room = omega (arith, none, fits);
     }
 
--- where the only token takes all that there may be, nothing needs to be asked
+-- if the only token takes everything, no question is needed
 pub SplitsPart-at_once : (opening : Bool) (o : MatchOptions) (tokens : List Token) (end n : ℕ) (part : Text) → end ≡ 1
     → TakesRest (table_within opening o (take end tokens) part) (map shape_of tokens) end n → SplitsPart o opening tokens end part
 unfolding PrefixSplits IsAlive table_within

@@ -31,17 +31,17 @@ TakesAll-more table n i j took rest k low high =
 abbrev pub SplitsMany : Table → ℕ → List Shape → ℕ → Type 0
 SplitsMany table n shapes i = (j : ℕ) × (i ≤ j) × TakesAll table n i j × SplitsFrom table (n + 1) shapes j
 
--- a first token that takes some characters from place i on, up to a place that opens
+-- a first token that takes one or more characters from place i on, up to where a component begins
 abbrev pub SplitsClosed : Table → ℕ → List Shape → ℕ → Type 0
 SplitsClosed table n shapes i =
     (j : ℕ) × (i < j) × IsTrue (table.opens j) × TakesAll table n i j × SplitsFrom table (n + 1) shapes j
 
--- a token that takes one character splits off one
+-- a one-character token splits off one character
 pub SplitsFrom-one : (table : Table) (n : ℕ) (shapes : List Shape) (i : ℕ) → IsTrue (table.takes n i)
     × SplitsFrom table (n + 1) shapes (i + 1) → SplitsFrom table n (One ∷ shapes) i
 SplitsFrom-one table n shapes i (took, rest) = (i + 1, refl, TakesAll-more table n i (i + 1) took (TakesAll-none table n (i + 1)), rest)
 
--- and nothing else
+-- a one-character token splits off nothing else
 pub one-from_SplitsFrom : (table : Table) (n : ℕ) (shapes : List Shape) (i : ℕ) → SplitsFrom table n (One ∷ shapes) i
     → IsTrue (table.takes n i) × SplitsFrom table (n + 1) shapes (i + 1)
 one-from_SplitsFrom table n shapes i (j, e, took, rest) = (
@@ -50,15 +50,15 @@ one-from_SplitsFrom table n shapes i (j, e, took, rest) = (
       (n + 1) shapes) e rest,
 )
 
--- any number of characters is among all
+-- such a split begins within the text
 pub SplitsMany-within : (table : Table) (n : ℕ) (shapes : List Shape) (i : ℕ) → SplitsMany table n shapes i → i ≤ table.characters
 SplitsMany-within table n shapes i (j, low, took, rest) = le_trans low (SplitsFrom-within table (n + 1) shapes j rest)
 
--- some characters are among all
+-- such a split begins before the end of the text
 pub SplitsClosed-within : (table : Table) (n : ℕ) (shapes : List Shape) (i : ℕ) → SplitsClosed table n shapes i → i < table.characters
 SplitsClosed-within table n shapes i (j, low, opens, took, rest) = le_trans low (SplitsFrom-within table (n + 1) shapes j rest)
 
--- none is taken, or one and then any number
+-- no character is taken, or one and then any number
 pub SplitsMany-cases : (table : Table) (n : ℕ) (shapes : List Shape) (i : ℕ) → SplitsMany table n shapes i
     → SplitsFrom table (n + 1) shapes i ⊎ (IsTrue (table.takes n i) × SplitsMany table n shapes (i + 1))
 SplitsMany-cases table n shapes i (j, low, took, rest) =
@@ -66,14 +66,14 @@ SplitsMany-cases table n shapes i (j, low, took, rest) =
     (λ other. inr (took i (omega arith) (omega arith), (j, omega arith, (λ k l h. took k (omega arith) h), rest)))
     (cases_eq i j)
 
--- and the other way round
+-- the converse
 pub SplitsMany-from : (table : Table) (n : ℕ) (shapes : List Shape) (i : ℕ) → SplitsFrom table (n + 1) shapes i ⊎
     (IsTrue (table.takes n i) × SplitsMany table n shapes (i + 1)) → SplitsMany table n shapes i
 SplitsMany-from table n shapes i =
     ⊎_elim (λ rest. (i, omega arith, TakesAll-none table n i, rest))
     (λ more. (more.1.0, omega (arith, more.1.1), TakesAll-more table n i more.1.0 more.0 more.1.2, more.1.3))
 
--- one is taken, and the piece ends there or goes on
+-- one character is taken, and the piece ends there or goes on
 pub SplitsClosed-cases : (table : Table) (n : ℕ) (shapes : List Shape) (i : ℕ) → SplitsClosed table n shapes i → IsTrue
     (table.takes n i) × ((IsTrue (table.opens (i + 1)) × SplitsFrom table (n + 1) shapes (i + 1)) ⊎ SplitsClosed table
     n shapes (i + 1))
@@ -84,7 +84,7 @@ SplitsClosed-cases table n shapes i (j, low, opens, took, rest) = (
       (cases_eq (i + 1) j),
 )
 
--- and the other way round
+-- the converse
 pub SplitsClosed-from : (table : Table) (n : ℕ) (shapes : List Shape) (i : ℕ) → IsTrue (table.takes n i) ×
     ((IsTrue (table.opens (i + 1)) × SplitsFrom table (n + 1) shapes (i + 1)) ⊎ SplitsClosed table n shapes (i + 1))
     → SplitsClosed table n shapes i
@@ -96,18 +96,18 @@ SplitsClosed-from table n shapes i (took, more) =
 pub SplitsFrom-last_deep : (table : Table) (n i : ℕ) → SplitsMany table n [] i → SplitsFrom table n (Deep ∷ []) i
 SplitsFrom-last_deep table n i (j, low, took, rest) = (j, (low, inl refl), took, rest)
 
--- and nothing else
+-- a last `**` does nothing else
 pub many-from_last_deep : (table : Table) (n i : ℕ) → SplitsFrom table n (Deep ∷ []) i → SplitsMany table n [] i
 many-from_last_deep table n i (j, reach, took, rest) = (j, reach.0, took, rest)
 
--- a `**` that others follow is empty or ends where a place opens
+-- the piece of a `**` before other tokens is empty or ends where a component begins
 pub SplitsFrom-deep : (table : Table) (n : ℕ) (shape : Shape) (shapes : List Shape) (i : ℕ) → SplitsFrom table (n + 1)
     (shape ∷ shapes) i ⊎ SplitsClosed table n (shape ∷ shapes) i → SplitsFrom table n (Deep ∷ shape ∷ shapes) i
 SplitsFrom-deep table n shape shapes i =
     ⊎_elim (λ rest. (i, (omega arith, inr (inl refl)), TakesAll-none table n i, rest))
     (λ closed. (closed.0, (omega (arith, closed.1), inr (inr closed.2)), closed.3, closed.4))
 
--- and nothing else
+-- it does nothing else
 pub deep-from_SplitsFrom : (table : Table) (n : ℕ) (shape : Shape) (shapes : List Shape) (i : ℕ) → SplitsFrom table n
     (Deep ∷ shape ∷ shapes) i → SplitsFrom table (n + 1) (shape ∷ shapes) i ⊎ SplitsClosed table n (shape ∷ shapes) i
 deep-from_SplitsFrom table n shape shapes i (j, reach, took, rest) =
@@ -140,7 +140,7 @@ SplitsFrom-ones table (suc m) n i e took =
     next : (a k : ℕ) → a + suc k ≡ a + 1 + k
     next a k = omega arith
 
--- and nothing else
+-- they do nothing else
 pub ones-from_SplitsFrom : (table : Table) (m n i : ℕ) → SplitsFrom table n (replicate m One) i →
     (i + m ≡ table.characters) × ((k : ℕ) → k < m → IsTrue (table.takes (n + k) (i + k)))
 ones-from_SplitsFrom table zero n i h = (omega arith, λ k l. absurd (omega arith))

@@ -22,7 +22,7 @@ drop-split text rest c p left below =
     let e : drop p text ≡ get_or text p 0 ∷ drop (suc p) text = drop-cons text p 0 below in
     (cc, cc)
 
--- a place after the start opens where `/` is before it
+-- a component begins at a place after the start if `/` is before it
 pub opens-suc : (text : Text) (p : ℕ) → opens text (suc p) ≡ (slice_index text p == slash)
 opens-suc text p =
     let back : suc p - 1 ≡ p = omega arith in

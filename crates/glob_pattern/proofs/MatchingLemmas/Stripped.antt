@@ -45,7 +45,7 @@ SameBytes-take : (case : Bool) (n : ℕ) (bytes other : List ℕ) → SameBytes 
 SameBytes-take true n bytes other same = ap (take n) same
 SameBytes-take false n bytes other same = sym (take-map to_ascii_lowercase n bytes) ∙ ap (take n) same ∙ take-map to_ascii_lowercase n other
 
--- each of two parts of characters is of characters
+-- both parts of a list of characters are characters
 scalars-parts : (xs ys : Text) → scalars (xs ++ ys) ≡ true → (scalars xs ≡ true) × (scalars ys ≡ true)
 scalars-parts [] ys all = (refl, all)
 scalars-parts (x ∷ xs) ys all =
@@ -142,7 +142,7 @@ module _ (tokens : List Token) (ends : Ends) (is : IsEnds tokens ends) where
       HasEnds-from_texts o.case_sensitive is.first.plain is.last.plain bytes here between there u
       (first ∙ ap (λ xs. here ++ xs) last) begins stops
 
-  -- and one that has them matches where what is between them is split
+  -- and a text with these ends matches if the tokens between them split what is between
   module _ (o : MatchOptions) (bytes : List ℕ) (u : IsUtf8 bytes) (start end : ℕ) (s : start ≡ length
       (encode_utf8_all is.first.plain)) (e : end ≡ length bytes - length (encode_utf8_all is.last.plain))
       (a : scalars is.first.plain ≡ true) (z : scalars is.last.plain ≡ true) (has : HasEnds o.case_sensitive
@@ -245,7 +245,7 @@ module _ (tokens : List Token) (ends : Ends) (is : IsEnds tokens ends) where
         subst (λ n. TokensMatch o tokens (chars bytes) ↔ SplitsPart o opening behind n (chars (slice_range bytes start end))) count-inside
         (λ match. last.0 (first.0 (whole.0 match)), λ splits. whole.1 (first.1 (last.1 splits)))
 
-  -- by the pattern's text
+  -- the same, for literals taken from the pattern's text
   module _ (pattern : List ℕ) (v : IsUtf8 pattern) (read : HasTokens (chars pattern) tokens) (o : MatchOptions)
       (bytes : List ℕ) (u : IsUtf8 bytes) where
     pub match-needs_ends : (HasEnds o.case_sensitive (take ends.prefix.bytes pattern)
@@ -320,7 +320,7 @@ module _ (tokens : List Token) (ends : Ends) (is : IsEnds tokens ends) where
       let place : length (map shape_of tokens) - 1 - (length tokens - 1 - k) ≡ k = omega (arith, lt, length-map tokens shape_of) in
       one-token k lt (rw place at (is.ones.last (length tokens - 1 - k) (omega (arith, low, lt, fits))))
 
--- one more literal at the end of some, or at the start
+-- one more literal at the end, or at the start
 pub HasLiterals-next : (tokens : List Token) (n c bytes : ℕ) (t : Token) → n < length tokens → t ≡ get_or tokens n t
     → t ≡ Literal c → HasLiterals (take n tokens) bytes → HasLiterals (take (n + 1) tokens) (bytes + len_utf8 c)
 HasLiterals-next tokens n c bytes t lt at is before = record {
@@ -348,7 +348,7 @@ HasLiterals-before tokens n c bytes t lt at is after = record {
   count_is = omega (arith, after.count_is, length-append (encode c) (encode_utf8_all after.plain), length-encode c);
 }
 
--- no tokens split only no characters
+-- no tokens split only the empty text
 pub SplitsPart-none : (o : MatchOptions) (opening : Bool) (tokens : List Token) (bytes : List ℕ) → IsUtf8 bytes
     → SplitsPart o opening tokens 0 (chars bytes) ↔ (length bytes ≡ 0)
 unfolding SplitsPart PrefixSplits

@@ -8,17 +8,17 @@ use Rattle.glob_pattern.specs.Private.Prefixes.{PrefixSplits, IsAlive, HasTaken,
 use Rattle.glob_pattern.specs.declared.matcher.Shape.{Shape}
 use Rattle.glob_pattern.specs.declared.matcher.Shape.TheVariants.{One, Run, Deep}
 
--- a piece of shape n, of a `**`, that is not empty ends after the last shape, or where the place opens
+-- a nonempty piece of a `**` may end if it is the last shape or a component begins there
 abbrev pub MayEnd : Table → List Shape → (n k : ℕ) → Type 0
 MayEnd table shapes n k = (suc n ≡ length shapes) ⊎ IsTrue (table.opens k)
 
--- The two ways to be alive with n shapes, where the next is `shape`: those split the characters before place k, or the
--- next piece, which may be longer than a character, has taken the last of them.
+-- The two ways for position n to be alive, before the shape `shape`: the first n shapes split the characters before
+-- place k, or the piece of `shape`, which may be longer than a character, has taken the last of them.
 abbrev pub ComesAlive : Table → List Shape → (shape : Shape) → (n k : ℕ) → Type 0
 ComesAlive table shapes shape n k = PrefixSplits table shapes n k ⊎ (HasTaken table shapes n k × (shape ≢ One))
 
--- The two ways to split with one shape more: its piece is empty, where it may be, or it has taken the last character
--- and ends, where it may.
+-- The two ways to split with one more shape: its piece may be empty and is, or it has taken the last character and may
+-- end there.
 abbrev pub ComesWhole : Table → List Shape → (shape : Shape) → (n k : ℕ) → Type 0
 ComesWhole table shapes shape n k =
     (PrefixSplits table shapes n k × (shape ≢ One))
@@ -29,7 +29,7 @@ module _ (table : Table) (shapes : List Shape) (n : ℕ) where
   TakesAll-none : (k : ℕ) → TakesAll table n k k
   TakesAll-none k j from below = absurd (omega arith)
 
-  -- one character more is taken
+  -- one more character is taken
   TakesAll-more : (i k : ℕ) → TakesAll table n i k → IsTrue (table.takes n k) → TakesAll table n i (suc k)
   TakesAll-more i k all here j from below =
       ⊎_elim (λ e. subst (λ x. IsTrue (table.takes n x)) (sym e) here) (λ ne. all j from (omega arith)) (cases_eq j k)
@@ -52,7 +52,7 @@ module _ (table : Table) (shapes : List Shape) (n : ℕ) where
   unfolding HasTaken IsAlive
   HasTaken-first i prefix takes = ((i, omega arith, prefix, TakesAll-none i, inl refl), takes)
 
-  -- where the piece began that has taken a character
+  -- a piece that has taken a character began at some place
   piece-from_taken : (k : ℕ) → HasTaken table shapes n k → (i : ℕ) × (i ≤ k) × PrefixSplits table shapes n i × TakesAll table n i k
   unfolding HasTaken IsAlive
   piece-from_taken zero none = absurd none
@@ -151,7 +151,7 @@ module _ (table : Table) (shapes : List Shape) where
       (λ (taken, ends). (n, omega arith, taken.0))
       ((PrefixSplits-step table shapes n (omega arith) (suc k)).0 prefix)
 
-  -- where something is alive, something was at the place before
+  -- if something is alive, something was at the place before
   pub IsAnyAlive-before : (end k : ℕ) → end ≤ length shapes → IsAnyAlive table shapes end (suc k) → IsAnyAlive table shapes end k
   unfolding HasTaken
   IsAnyAlive-before end k within (inl (n, lt, alive)) = inl (⊎_elim
@@ -167,12 +167,12 @@ module _ (table : Table) (shapes : List Shape) where
   asked_more end first k next old new within at more before any =
       omega (arith, more any, before (IsAnyAlive-before end k within (rw (at, add-one) at any)))
 
-  -- no shapes split no characters, and no others
+  -- no shapes split only the empty prefix
   pub PrefixSplits-none : (k : ℕ) → 0 < k → ¬ (PrefixSplits table shapes 0 k)
   unfolding PrefixSplits
   PrefixSplits-none k later h = omega (arith, later, h)
 
-  -- where the first m shapes are not whole, and no token from there on has taken the last character, no more are whole
+  -- if the first m shapes are not whole, and no token from there on has taken the last character, no more are whole
   pub none_whole : (k m n : ℕ) → m ≤ n → n ≤ length shapes → ¬ (PrefixSplits table shapes m k) → ((t : ℕ) → m ≤ t
       → t < n → ¬ (HasTaken table shapes t k)) → ¬ (PrefixSplits table shapes n k)
   none_whole k m zero le within none taken h = none (let e : zero ≡ m = omega (arith, le) in subst (λ x. PrefixSplits table shapes x k) e h)

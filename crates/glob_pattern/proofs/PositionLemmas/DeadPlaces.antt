@@ -6,7 +6,7 @@ use Rattle.glob_pattern.proofs.PositionLemmas.Alive.{IsAlive-step, IsAnyAlive-be
 use Rattle.glob_pattern.specs.declared.matcher.Shape.{Shape}
 
 module _ (table : Table) (shapes : List Shape) (end : ℕ) (within : end ≤ length shapes) where
-  -- where no token has taken a character, nothing is alive after it
+  -- if no token has taken a character, nothing is alive after it
   pub dead-from_none : (k : ℕ) → ((n : ℕ) → n < end → ¬ (HasTaken table shapes n (suc k))) → ¬ (IsAnyAlive table shapes end (suc k))
   dead-from_none k none (inl (n, lt, alive)) =
       ⊎_elim
@@ -18,7 +18,7 @@ module _ (table : Table) (shapes : List Shape) (end : ℕ) (within : end ≤ len
       none_whole table shapes (suc k) 0 end (omega arith) within (PrefixSplits-none table shapes (suc k) (omega arith))
       (λ t from below. none t below) whole
 
-  -- where nothing is alive, nothing is later
+  -- if nothing is alive, nothing is later
   pub dead-later : (m k : ℕ) → ¬ (IsAnyAlive table shapes end k) → ¬ (IsAnyAlive table shapes end (m + k))
   dead-later zero k none any = none (let e : zero + k ≡ k = omega arith in subst (IsAnyAlive table shapes end) e any)
   dead-later (suc m) k none any =

@@ -1,12 +1,13 @@
 -- Words with nothing alive: they take nothing, and stay so unless the shapes before them split the characters so far.
 use Rattle.std.proofs.Common.{◌≡◌, ℕ, zero, suc, ◌+◌, ◌-◌, ◌*◌, ◌/◌, ◌<◌, ◌≤◌, ◌↔◌, List, length, get_or, set, ⊎_elim}
-use Rattle.std.proofs.Common.{arith, length-set, get_or-set_other}
-use Rattle.std.proofs.lemmas.Bool.{cases_lt}
+use Rattle.std.proofs.Common.{◌^◌, sym, arith, length-set, get_or-set_other, get_or-set_same}
+use Rattle.std.proofs.lemmas.Bool.{cases_lt, false≢true}
 use Rattle.glob_pattern.specs.Matching.Splits.{Table}
 use Rattle.glob_pattern.specs.Private.Prefixes.{PrefixSplits, IsAlive, HasTaken}
 use Rattle.glob_pattern.specs.Private.Positions.{word_end, IsAliveWord, AreAlive, IsLive, WereAsked}
 use Rattle.glob_pattern.proofs.BitLemmas.SetBits.{IsBitSet-zero}
 use Rattle.glob_pattern.proofs.PositionLemmas.Alive.{ComesAlive, IsAlive-step, none_whole}
+use Rattle.glob_pattern.proofs.PositionLemmas.Words.{AreAlive-set, carry-whole}
 use Rattle.glob_pattern.specs.declared.matcher.Shape.{Shape}
 use Rattle.glob_pattern.specs.declared.matcher.Shape.TheVariants.{One}
 
@@ -22,7 +23,7 @@ module _ (table : Table) (shapes : List Shape) (end : ℕ) where
       let before = rw back at says in
       IsBitSet-zero (t - start) ((before.alive (t - start) (omega (arith, at, below))).1 (rw at alive))
 
-  -- nor have those of several
+  -- the tokens of several such words have taken nothing
   pub none-taken_in_words : (alive : List ℕ) (low high k : ℕ) → AreAlive table shapes end (k - 1) low high alive
       → ((i : ℕ) → low ≤ i → i < high → get_or alive i 0 ≡ 0)
       → (t : ℕ) → 63 * low ≤ t → t < 63 * high → t < end → ¬ (HasTaken table shapes t k)
@@ -31,7 +32,7 @@ module _ (table : Table) (shapes : List Shape) (end : ℕ) where
       let lt : t / 63 < high = omega (arith, below) in
       none-taken (63 * (t / 63)) k (rw (zeros (t / 63) le lt) at (says.word (t / 63) le lt)) t (omega arith) (omega (arith, within))
 
-  -- a word whose tokens have taken nothing, and before which nothing is whole
+  -- a word is 0 if its tokens have taken nothing and the shapes before it do not split the characters so far
   pub IsAliveWord-zero : (start k : ℕ) → start ≤ end → end ≤ length shapes → ¬ (PrefixSplits table shapes start k)
       → ((t : ℕ) → start ≤ t → t < word_end end start → ¬ (HasTaken table shapes t k))
       → IsAliveWord table shapes end start k 0
@@ -72,6 +73,20 @@ module _ (table : Table) (shapes : List Shape) (end : ℕ) where
         (cases_lt i n);
   }
 
+  -- the first word, where nothing is alive in the others
+  pub AreAlive-first : (alive : List ℕ) (first k : ℕ) → 0 < length alive → end ≤ length shapes → 63 * (length alive - 1) ≤ end
+      → ((i : ℕ) → i < length alive → get_or alive i 0 ≡ 0) → first < 2 ^ 64 → first / 2 ^ 63 ≡ 0 → IsAliveWord table shapes end 0 k first
+      → ((t : ℕ) → 63 ≤ t → t < end → ¬ (HasTaken table shapes t k))
+      → AreAlive table shapes end k 0 (length alive) (set alive 0 first)
+  AreAlive-first alive first k some fits few zeros short low says none =
+      let part : AreAlive table shapes end k 0 1 (set alive 0 first) = AreAlive-set table shapes end k 0 alive first
+      (record { word = λ i from lt. absurd (omega (arith, lt)) }) some says in
+      AreAlive-zeros (set alive 0 first) 1 (length alive) k part fits few
+      (λ lt whole. false≢true (rw low at ((carry-whole table shapes end k 1 (set alive 0 first) part (omega arith) (omega (arith, few, lt))
+      first short (sym (get_or-set_same alive 0 first 0 some))).1 whole)))
+      (λ t from below within. none t (omega (arith, from)) within)
+      (λ i from lt. rw (get_or-set_other alive 0 i first 0 (omega (arith, from))) (zeros i lt))
+
 module _ (table : Table) (shapes : List Shape) where
   -- questions to neighbouring tokens
   pub WereAsked-joined : (start mid end k a b c : ℕ) → start ≤ mid → mid ≤ end → WereAsked table shapes start mid k a b
@@ -85,7 +100,7 @@ module _ (table : Table) (shapes : List Shape) where
         (cases_lt t mid);
   }
 
-  -- none, where they have taken nothing
+  -- tokens that have taken nothing need no questions
   pub WereAsked-none : (start end k count : ℕ) → ((t : ℕ) → start ≤ t → t < end → ¬ (HasTaken table shapes t k))
       → WereAsked table shapes start end k count count
   WereAsked-none start end k count none = record {
@@ -94,7 +109,7 @@ module _ (table : Table) (shapes : List Shape) where
     least = λ t from lt taken. absurd (none t from lt taken);
   }
 
--- a word that is set beside those that are looked at
+-- setting a word past the end leaves the live words
 pub IsLive-set : (words : List ℕ) (end low high word : ℕ) → IsLive words end low high → IsLive (set words end word) end low high
 IsLive-set words end low high word live = record {
   within = rw (length-set words end word) live.within;

@@ -6,7 +6,7 @@ use Rattle.glob_pattern.specs.declared.matcher.Shape.{Shape}
 use Rattle.glob_pattern.specs.declared.matcher.Shape.TheVariants.{One, Run, Deep}
 use Rattle.glob_pattern.proofs.MatchingLemmas.Splits.{MayReach-le}
 
--- of the first m tokens the tables answer the same about the characters before place k
+-- the two tables agree on the first m tokens and the characters before place k
 pub record SameBefore (table other : Table) (m k : ℕ) : Type 0 where
   pub takes : (n j : ℕ) → n < m → j < k → table.takes n j ≡ other.takes n j
   pub opens : (j : ℕ) → j ≤ k → table.opens j ≡ other.opens j
@@ -21,7 +21,7 @@ MayReach-same table other Run others i j same reach = reach
 MayReach-same table other Deep others i j same (le, ends) =
     (le, ⊎_elim inl (λ more. inr (⊎_elim inl (λ opens. inr (sym same ∙ opens)) more)) ends)
 
--- so these split the same of the characters
+-- so the same tokens split the same characters
 PrefixSplits-other : (table other : Table) (shapes : List Shape) (m until n k : ℕ) → SameBefore table other m until → n ≤ m → k ≤ until
     → PrefixSplits table shapes n k → PrefixSplits other shapes n k
 unfolding PrefixSplits
@@ -41,7 +41,7 @@ PrefixSplits-same table other shapes n k same = (
   PrefixSplits-other other table shapes n k n k (SameBefore-back table other n k same) (omega arith) (omega arith),
 )
 
--- a first shape of one character has one
+-- a first one-character shape has a character to take
 pub some-first : (table : Table) (shapes : List Shape) (n k : ℕ) → get_or shapes 0 One ≡ One → PrefixSplits table shapes (suc n) k → 0 < k
 unfolding PrefixSplits
 some-first table shapes zero k one (i, start, reach, all) = let next : k ≡ i + 1 = rw one at reach in omega arith
@@ -50,7 +50,7 @@ some-first table shapes (suc n) k one (i, prefix, reach, all) =
     let le = MayReach-le table (get_or shapes (suc n) One) _ i k reach in omega arith
 
 module _ (table : Table) (shapes : List Shape) where
-  -- a last shape of one character has taken the last character
+  -- a last one-character shape has taken the last character
   pub one-from_PrefixSplits : (n k : ℕ) → get_or shapes n One ≡ One → PrefixSplits table shapes (suc n) (suc k)
       → IsTrue (table.takes n k) × PrefixSplits table shapes n k
   unfolding PrefixSplits
@@ -59,7 +59,7 @@ module _ (table : Table) (shapes : List Shape) where
       let at : i ≡ k = omega arith in
       (all k (omega arith) (omega arith), subst (PrefixSplits table shapes n) at prefix)
 
-  -- and one that takes it may be added
+  -- and a one-character shape that takes the next character may be added
   pub PrefixSplits-one : (n k : ℕ) → get_or shapes n One ≡ One → IsTrue (table.takes n k) → PrefixSplits table shapes n
       k → PrefixSplits table shapes (suc n) (suc k)
   unfolding PrefixSplits

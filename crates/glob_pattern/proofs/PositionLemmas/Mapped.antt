@@ -10,7 +10,7 @@ use Rattle.glob_pattern.specs.declared.matcher.Shape.{Shape}
 use Rattle.glob_pattern.specs.declared.matcher.Shape.TheVariants.{One, Deep}
 use Rattle.glob_pattern.specs.declared.matcher.shape_word.ShapeWord.{ShapeWord}
 
--- a mapped list has at a place what is mapped from there
+-- the element of a mapped list at a place
 pub mapped_at : {A B : Type 0} (f : A → B) (xs : List A) (n : ℕ) (x : A) (d : B) → n < length xs → x ≡ get_or xs n x
     → get_or (map f xs) n d ≡ f x
 mapped_at f xs n x d lt at = get_or-map f xs n x d lt ∙ ap f (sym at)

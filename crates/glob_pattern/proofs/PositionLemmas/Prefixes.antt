@@ -7,7 +7,7 @@ use Rattle.glob_pattern.specs.Private.Prefixes.{PrefixSplits}
 use Rattle.glob_pattern.specs.declared.matcher.Shape.{Shape}
 use Rattle.glob_pattern.specs.declared.matcher.Shape.TheVariants.{One}
 
--- a split by the first n shapes and one of the rest make up a whole one
+-- a split by the first n shapes and a split by the others make a whole split
 Splits-from_prefix : (table : Table) (shapes : List Shape) (n k : ℕ) → n ≤ length shapes → PrefixSplits table shapes n
     k → SplitsFrom table n (drop n shapes) k → Splits table shapes
 unfolding PrefixSplits

@@ -21,7 +21,7 @@ use Rattle.glob_pattern.specs.declared.matcher.shape_word.ShapeWord.{ShapeWord}
 use Rattle.glob_pattern.specs.declared.matcher.Shape.{Shape}
 use Rattle.glob_pattern.specs.declared.matcher.Shape.TheVariants.{One, Run, Deep}
 
--- where something is alive after a character, a token was asked about it
+-- if something is alive after a character, a token was asked about it
 asked-for_alive : (table : Table) (shapes : List Shape) (end p asked : ℕ) → end ≤ length shapes → 0 < p
     → (asked ≡ 0 → (n : ℕ) → n < end → ¬ (HasTaken table shapes n p))
     → IsAnyAlive table shapes end p → 0 < asked
@@ -55,7 +55,7 @@ module _ (table : Table) (shapes : List Shape) (end : ℕ) where
         let left = mul-left end table.characters k (omega (arith, more)) in
         omega (arith, left, run.most, room)
 
-  -- where the last shape before the end is a wildcard that takes all characters, and is alive, the shapes split them
+  -- if the last shape before the end is a wildcard that takes all characters, and is alive, the shapes split them
   pub whole-by_rest : (n k : ℕ) → TakesRest table shapes end n → k ≤ table.characters → IsAlive table shapes n k
       → PrefixSplits table shapes end table.characters
   unfolding PrefixSplits IsAlive
@@ -90,7 +90,7 @@ module _ (table : Table) (shapes : List Shape) (span : Span) (first k count : �
     monotone = run.monotone;
   }
 
-  -- one in which nothing is alive
+  -- a run in which nothing is alive
   pub HasDecided-dead : span.end ≤ 63 * length alive → 0 < length alive → ((i : ℕ) → i < length alive → get_or alive i 0 ≡ 0)
       → HasDecided table shapes span first count false
   HasDecided-dead long some none = record {
@@ -104,7 +104,7 @@ module _ (table : Table) (shapes : List Shape) (span : Span) (first k count : �
     monotone = run.monotone;
   }
 
-  -- one in which a position is alive that takes all that is left
+  -- a run in which a position is alive that takes all that is left
   pub HasDecided-accepting : word_before span.end < length alive → get_or alive (word_before span.end) 0 < 2 ^ 64
       → 0 < bit_and (get_or alive (word_before span.end) 0) span.accepting
       → ((j : ℕ) → IsBitSet span.accepting j → TakesRest table shapes span.end (63 * word_before span.end + j))

@@ -3,7 +3,7 @@ use Rattle.std.proofs.Common.{◌≡◌, ℕ, zero, suc, ◌+◌, ◌/◌, ◌%�
 use Rattle.std.specs.Int.{bit_at}
 use Rattle.std.proofs.lemmas.Nat.Bits.{bit_at_lowest, bit_at-suc, bit_at_and, bit_at_or, bit_at_xor, same_from_bits}
 
--- the bits of a word, with a carry from below it, and above them those that the ones of the mask pass on
+-- the bits of a word and a carry, each passed on to the next place while the mask has a one
 abbrev pub spread : (word mask carry : ℕ) → ℕ
 spread word mask carry = bit_or word (bit_xor (bit_and word mask + mask + carry) mask)
 
@@ -51,7 +51,7 @@ spread-low word mask carry le =
     let xor = bit_at_xor (bit_and word mask + mask + carry) mask 0 in
     omega arith
 
--- each bit is that of the word, or passed on by the one of the mask below it
+-- each bit is set in the word, or passed on from the place below by a one of the mask
 pub spread-next : (i word mask carry : ℕ) → carry ≤ 1 → bit_at (spread word mask carry) (suc i) ≡ max
     (bit_at word (suc i)) (min (bit_at mask i) (bit_at (spread word mask carry) i))
 spread-next zero word mask carry le =

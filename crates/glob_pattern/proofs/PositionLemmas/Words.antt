@@ -48,7 +48,7 @@ module _ (table : Table) (shapes : List Shape) (end start : ℕ) (word : ShapeWo
 
   module _ (p alive took : ℕ) (answers : (j : ℕ) → j < 64 → IsBitSet took j ↔ (IsBitSet (bit_and alive word.tokens) j
       × IsTrue (table.takes (start + j) (p - 1)))) where
-    -- what the tokens answer that are alive
+    -- the answers of the tokens that are alive
     pub IsTakenWord-asked : 0 < p → IsAliveWord table shapes end start (p - 1) alive → IsTakenWord table shapes end start p took
     unfolding HasTaken
     IsTakenWord-asked later says =
@@ -65,7 +65,7 @@ module _ (table : Table) (shapes : List Shape) (end start : ℕ) (word : ShapeWo
         } in
         subst (λ q. IsTakenWord table shapes end start q took) back taken
 
-    -- where none was asked none has taken the character
+    -- tokens that were not asked have not taken the character
     pub none-taken_unasked : IsTakenWord table shapes end start p took → ones (bit_and alive word.tokens) ≡ 0
         → (n : ℕ) → start ≤ n → n < word_end end start → HasTaken table shapes n p → ⊥
     none-taken_unasked taken none n le lt t =
@@ -130,7 +130,7 @@ module _ (table : Table) (shapes : List Shape) (end start : ℕ) (word : ShapeWo
         let prefix = spread-whole j within in
         (λ h. prefix.0 (same.0 h), λ h. same.1 (prefix.1 h))
 
-    -- what the word says after the character, where `closed` has the positions to which those spread that have begun
+    -- what the word says after the character; `closed` has the positions that have begun and those they spread to
     pub IsAliveWord-stepped : (closed : ℕ) → ((j : ℕ) → j < 64 → IsBitSet closed j ↔ IsBitSet
         (spread (begun_of ending whole) word.wildcards 0) j)
         → IsAliveWord table shapes end start k (bit_or (bit_and took word.wildcards) closed)
@@ -157,7 +157,7 @@ module _ (table : Table) (shapes : List Shape) (end start : ℕ) (word : ShapeWo
     }
 
 module _ (table : Table) (shapes : List Shape) (end k n : ℕ) (alive : List ℕ) where
-  -- a word more
+  -- one more word
   pub AreAlive-set : (w : ℕ) → AreAlive table shapes end k 0 n alive → n < length alive → IsAliveWord table shapes end (63 * n) k w
       → AreAlive table shapes end k 0 (n + 1) (set alive n w)
   AreAlive-set w part lt here = record {
@@ -169,7 +169,7 @@ module _ (table : Table) (shapes : List Shape) (end k n : ℕ) (alive : List ℕ
         (cases_eq i n);
   }
 
-  -- and one fewer is left
+  -- one word fewer is left
   pub AreAlive-left : (w high : ℕ) → AreAlive table shapes end k n high alive → AreAlive table shapes end k (n + 1) high (set alive n w)
   AreAlive-left w high rest = record {
     word = λ i le below.
@@ -206,7 +206,7 @@ module _ (table : Table) (shapes : List Shape) (end k : ℕ) (alive : List ℕ)
       let border : word_end end (63 * i) ≡ end = omega (arith, at, few) in
       rw border at ((says.word i (omega arith) lt).whole j (omega (arith, at, border)))
 
-  -- where all words are 0, nothing is alive
+  -- if all words are 0, nothing is alive
   none-in_words : end ≤ 63 * length alive → 0 < length alive → ((i : ℕ) → i < length alive → get_or alive i 0 ≡ 0)
       → ¬ (IsAnyAlive table shapes end k)
   none-in_words all some none (inl (n, lt, here)) =
@@ -219,7 +219,7 @@ module _ (table : Table) (shapes : List Shape) (end k : ℕ) (alive : List ℕ)
       let bit = (end-in_word i (end - 63 * i) (omega (arith, all, some)) (omega arith) (omega arith)).1 whole in
       IsBitSet-zero (end - 63 * i) (rw (none i (omega (arith, all, some))) at bit)
 
-  -- so nothing is at the end
+  -- so the position at the end is not alive
   pub none-at_end : end ≤ length shapes → end ≤ 63 * length alive → 0 < length alive → ((i : ℕ) → i < length alive → get_or alive i 0 ≡ 0)
       → k ≤ table.characters
       → ¬ (PrefixSplits table shapes end table.characters)

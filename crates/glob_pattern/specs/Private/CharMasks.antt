@@ -1,5 +1,6 @@
 -- Masks: which of 63 neighbouring tokens take the characters of a class.
-use Rattle.std.specs.Prelude.{◌≡◌, ℕ, ◌+◌, ◌*◌, ◌<◌, ◌≤◌, ◌↔◌, ◌⊎◌, Bool, true, false, if◌then◌else◌, List, [], length, replicate, slice_index_or, IsTrue}
+use Rattle.std.specs.Prelude.{◌≡◌, ℕ, ◌+◌, ◌*◌, ◌<◌, ◌≤◌, ◌↔◌, ◌⊎◌, Bool, true, false, if◌then◌else◌, List, [], length}
+use Rattle.std.specs.Prelude.{replicate, slice_index_or, IsTrue}
 use Rattle.std.specs.Int.{IsBitSet}
 use Rattle.glob_text.specs.Characters.{slash, dot}
 use Rattle.glob_pattern.specs.Grammar.Brackets.{is_same, holds}
@@ -97,7 +98,7 @@ pub record IsRow (tokens : List Token) (start : ℕ) (p : Partition) (case : Boo
       → IsBitSet (mask_at masks (at + class_of p o opening c)) j
       ↔ ((start + j < length tokens) × IsTrue (takes o opening c (slice_index_or tokens (start + j) AnyChar)))
 
--- each word has a row of masks, two rows after that of the word before; `half` is 0 for the first of its two rows
+-- each word has two neighbouring rows of masks, and one of them is described here: the first if `half` is 0
 pub record AreRows (tokens : List Token) (words : ℕ) (case : Bool) (p : Partition) (masks : List ℕ) (half : ℕ) : Type 0 where
   pub partition : IsPartition p
   pub within : (word : ℕ) → word < words

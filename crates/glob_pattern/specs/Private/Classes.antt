@@ -1,5 +1,6 @@
 -- Classes of characters: what is between two neighbouring boundaries of the intervals that tokens list.
-use Rattle.std.specs.Prelude.{◌≡◌, ℕ, ◌+◌, ◌<◌, ◌≤◌, Bool, true, false, ◌&&◌, nat_lt, nat_le, if◌then◌else◌, List, length, slice_index, slice_index_or}
+use Rattle.std.specs.Prelude.{◌≡◌, ℕ, ◌+◌, ◌<◌, ◌≤◌, Bool, true, false, ◌&&◌, nat_lt, nat_le, if◌then◌else◌, List}
+use Rattle.std.specs.Prelude.{length, slice_index, slice_index_or}
 use Rattle.std.specs.Char.{is_ascii_alphabetic, to_ascii_lowercase, to_ascii_uppercase}
 use Rattle.std.specs.List.{All, Contains, prefix_len}
 use Rattle.std.specs.List.Sorted.{IsNonDecreasing}
@@ -11,8 +12,8 @@ use Rattle.glob_pattern.specs.declared.pattern.classes.Classes.{Classes}
 use Rattle.glob_pattern.specs.declared.token.Token.TheVariants.{Literal, AnyChar, AnySequence, Recursive, OneOf, NoneOf}
 use Rattle.glob_pattern.specs.declared.token.bracket.Entry.{Entry}
 
--- The class of each ASCII character, and where further classes begin, which are numbered on. For some characters it is
--- stored how many of these have begun.
+-- The class of each ASCII character, and where further classes begin, which are numbered on. A table says for some
+-- characters how many of these have begun.
 pub record Partition : Type 0 where
   pub ascii : List ℕ
   pub beyond : List ℕ

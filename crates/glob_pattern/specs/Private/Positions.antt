@@ -1,6 +1,7 @@
 -- Position sets as words of bits, over the shapes before an end. Other shapes may follow the end. Each word has 63
 -- shapes, and its last bit is the position after them, which is the first one of the next word.
-use Rattle.std.specs.Prelude.{◌≡◌, ℕ, suc, ◌+◌, ◌-◌, ◌*◌, ◌/◌, ◌^◌, ◌<◌, ◌≤◌, ◌≢◌, ◌⊎◌, ◌↔◌, Bool, List, length, min, slice_index, slice_index_or, IsTrue}
+use Rattle.std.specs.Prelude.{◌≡◌, ℕ, suc, ◌+◌, ◌-◌, ◌*◌, ◌/◌, ◌^◌, ◌<◌, ◌≤◌, ◌≢◌, ◌⊎◌, ◌↔◌, Bool, List, length, min}
+use Rattle.std.specs.Prelude.{slice_index, slice_index_or, IsTrue}
 use Rattle.std.specs.Int.{IsBitSet}
 use Rattle.glob_pattern.specs.Matching.Splits.{Table, TakesAll}
 use Rattle.glob_pattern.specs.Private.Prefixes.{PrefixSplits, IsAlive, HasTaken, IsAnyAlive}
@@ -60,9 +61,8 @@ pub record IsFlat (word : ShapeWord) : Type 0 where
   pub free : (j : ℕ) → ¬ (IsBitSet word.recursive j)
   pub apart : (j : ℕ) → IsBitSet word.wildcards j → ¬ (IsBitSet word.wildcards (suc j))
 
--- A step gives the word `next` at any place k: `took` has the tokens that took the character before place k, `opens`
--- says whether a component begins at place k, and `whole` whether the shapes before `start` split the characters up to
--- it.
+-- A step gives the word `next` at any place k. `took` has the tokens that took the character before it, `opens` says
+-- whether a component begins there, and `whole` whether the shapes before `start` split the characters up to there.
 abbrev pub LeadsTo : ShapeWord → (took : ℕ) → (opens whole : Bool) → (next : ℕ) → Type 0
 LeadsTo word took opens whole next =
     (table : Table) (shapes : List Shape) (end start k : ℕ)
@@ -140,6 +140,14 @@ pub record HasStepped (table : Table) (shapes : List Shape) (end : ℕ) (before 
   pub many : length after ≡ length before
   pub alive : AreAlive table shapes end k 0 (length after) after
   pub asked : WereAsked table shapes 0 end k old new
+
+-- The words from number `from` on can be set at place k: those before say what is alive there, their shapes split the
+-- characters so far, and no later token has taken the last one. `opens` says whether a component begins at place k.
+pub record CanSet (table : Table) (shapes : List Shape) (end from k : ℕ) (opens : Bool) (alive : List ℕ) : Type 0 where
+  pub begins : opens ≡ table.opens k
+  pub before : AreAlive table shapes end k 0 from alive
+  pub whole : PrefixSplits table shapes (63 * from) k
+  pub none : (t : ℕ) → 63 * from ≤ t → t < end → ¬ (HasTaken table shapes t k)
 
 -- A run over a span, begun after `first` questions, has its answer after `count`: whether the shapes before the span's
 -- end split all characters.

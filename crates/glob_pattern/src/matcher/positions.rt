@@ -1,10 +1,10 @@
 //! A bit-parallel automaton (NFA). Its states are positions: position n is alive if the first n tokens split the
 //! characters so far, or if token n has begun a piece that may go on. Each position is a bit, and a character moves all
 //! of them at once.
-ghost use Rattle.std.specs.Prelude.{◌≡◌, ℕ, ◌+◌, ◌*◌, ◌^◌, ◌<◌, ◌≤◌, ◌↔◌, List, [], ◌∷◌, length, slice_index, slice_index_or, IsTrue, IsOk, IfOk, map};
+ghost use Rattle.std.specs.Prelude.{IfNone, IfSome, false, ◌≡◌, ℕ, ◌+◌, ◌*◌, ◌^◌, ◌<◌, ◌≤◌, ◌↔◌, List, [], ◌∷◌, length, slice_index, slice_index_or, IsTrue, IsOk, IfOk, map};
 ghost use Rattle.glob_pattern.specs.Matching.Splits.{Table};
 ghost use Rattle.glob_pattern.specs.Private.Prefixes.{PrefixSplits};
-ghost use Rattle.glob_pattern.specs.Private.Positions.{word_end, word_before, AreShapeWords, IsAliveWord, IsTakenWord, AreAlive, IsFlat, IsLive, CanRun, HasDecided, CanAsk, WereAsked, CanStep, HasStepped};
+ghost use Rattle.glob_pattern.specs.Private.Positions.{word_end, word_before, AreShapeWords, IsAliveWord, IsTakenWord, AreAlive, IsFlat, IsLive, CanRun, HasRun, HasDecided, CanAsk, WereAsked, CanStep, HasStepped, CanSet};
 
 use super::shape_word::ShapeWord;
 use super::{Judge, Shape, Shaped, WORD};
@@ -102,14 +102,17 @@ fn run_words<T: Shaped, J: Judge>(
 ) -> bool
     requires ready { CanRun (J.table judge.old) (map T.shape tokens.now) words.now span
         (J.place judge.old) (J.count judge.old) }
+    requires many { 1 < length words.now }
     requires length { length alive.old ≡ length words.now }
     requires none { IsLive alive.old (length alive.old) 0 0 }
     ensures decided { HasDecided (J.table judge.old) (map T.shape tokens.now) span
         (J.count judge.old) (J.count judge.new) result }
     ensures same { J.table judge.new ≡ J.table judge.old }
 {
+    let Some(mut live) = run_first(tokens, span, words, alive, judge) else {
+        return false;
+    };
     let last = word_before(span.end);
-    let mut live = set_start(tokens, span.end, words, judge.opens(), alive);
     while live.high != 0 {
         if alive[last] & span.accepting != 0 {
             return true;
@@ -120,6 +123,49 @@ fn run_words<T: Shaped, J: Judge>(
         live = step_words(tokens, span.end, words, alive, live, judge);
     }
     false
+}
+
+/// Steps the first word, in a loop of its own, until a position in another word is alive: then it returns the live
+/// words. `None` if the characters end before, or nothing is alive: then the shapes do not split the characters.
+#[inline(always)]
+fn run_first<T: Shaped, J: Judge>(
+    tokens: &[T],
+    span: Span,
+    words: &[ShapeWord],
+    alive: &mut [u64],
+    judge: &mut J,
+) -> Option<Live>
+    requires ready { CanRun (J.table judge.old) (map T.shape tokens.now) words.now span
+        (J.place judge.old) (J.count judge.old) }
+    requires many { 1 < length words.now }
+    requires length { length alive.old ≡ length words.now }
+    requires none { IsLive alive.old (length alive.old) 0 0 }
+    ensures length { length alive.new ≡ length alive.old }
+    ensures run { IfSome result (λ live.
+        HasRun (J.table judge.old) (map T.shape tokens.now) span.end (J.count judge.old)
+        (J.place judge.new) (J.count judge.new) alive.new
+        × IsLive alive.new (length alive.new) live.low live.high) }
+    ensures decided { IfNone result (HasDecided (J.table judge.old) (map T.shape tokens.now) span
+        (J.count judge.old) (J.count judge.new) false) }
+    ensures same { J.table judge.new ≡ J.table judge.old }
+{
+    let word = words[0];
+    let mut first = word.step(0, judge.opens(), true);
+    if first >> WORD != 0 {
+        return Some(set_words(tokens, span.end, words, judge.opens(), 0, alive));
+    }
+    while first != 0 {
+        if !judge.step() {
+            return None;
+        }
+        let took = ask(tokens, span.end, word, 0, first, judge);
+        first = word.step(took, judge.opens(), false);
+        if first >> WORD != 0 {
+            alive[0] = first;
+            return Some(set_words(tokens, span.end, words, judge.opens(), 1, alive));
+        }
+    }
+    None
 }
 
 /// Asks the tokens of word `n` that are alive about the last character stepped over. Returns those that take it.
@@ -144,25 +190,28 @@ fn ask<T: Shaped, J: Judge>(
     judge.takes_each(n, alive & word.tokens)
 }
 
-/// Sets the words, which must be 0, to the positions before the first character. Returns the live words.
-#[inline(always)]
-fn set_start<T: Shaped>(
+/// Sets the words from number `from` on, which must be 0, where the shapes before them split the characters so far and
+/// no token of theirs has taken the last one. Returns the live words.
+fn set_words<T: Shaped>(
     tokens: &[T],
     end: usize,
     words: &[ShapeWord],
     opens: bool,
+    from: usize,
     alive: &mut [u64],
 ) -> Live
     requires words { AreShapeWords (map T.shape tokens.now) end words.now }
     requires length { length alive.old ≡ length words.now }
-    requires none { IsLive alive.old (length alive.old) 0 0 }
+    requires from { from ≤ length alive.old }
+    requires none { (i : ℕ) → from ≤ i → i < length alive.old → slice_index alive.old i ≡ 0 }
     ensures length { length alive.new ≡ length alive.old }
     ensures live { IsLive alive.new (length alive.new) result.low result.high }
-    ensures alive { (table : Table) → opens ≡ table.opens 0
-        → AreAlive table (map T.shape tokens.now) end 0 0 (length alive.new) alive.new }
+    ensures alive { (table : Table) (k : ℕ)
+        → CanSet table (map T.shape tokens.now) end from k opens alive.old
+        → AreAlive table (map T.shape tokens.now) end k 0 (length alive.new) alive.new }
 {
     let mut whole = true;
-    for n in 0..alive.len() {
+    for n in from..alive.len() {
         if !whole {
             return Live { low: 0, high: n };
         }

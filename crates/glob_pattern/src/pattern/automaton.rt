@@ -95,6 +95,37 @@ impl<A: Allocator + Copy> Automaton<A> {
             → length (chars text.now) ≤ counted.1) }
         ensures short { end < 64 → IsOk result }
     {
+        if has_rules(options) {
+            return self.run(tokens, end, text, opening, options);
+        }
+        // The same options, written so that the compiler sees that no rule is set and leaves the tests for rules out of
+        // this loop.
+        let free = MatchOptions {
+            require_literal_separator: false,
+            require_literal_leading_dot: false,
+            ..options
+        };
+        self.run(tokens, end, text, opening, free)
+    }
+
+    /// [`matches`](Self::matches), inlined once for options with a rule and once for those without.
+    #[inline(always)]
+    fn run(
+        &self,
+        tokens: &[Token<Bracket<A>>],
+        end: usize,
+        text: &str,
+        opening: bool,
+        options: MatchOptions,
+    ) -> Result<(bool, u128), AllocError>
+        requires { IsAutomaton tokens.now end self.now }
+        ensures answer { IfOk result (λ counted. IsTrue counted.0
+            ↔ SplitsPart options opening tokens.now end (chars text.now)) }
+        ensures most { IfOk result (λ counted. counted.1 ≤ end * length (chars text.now)) }
+        ensures least { IfOk result (λ counted. IsTrue counted.0 → IsTrue (has_rules options)
+            → length (chars text.now) ≤ counted.1) }
+        ensures short { end < 64 → IsOk result }
+    {
         let accepting = self.accepting(options);
         // The only token takes everything.
         if end == 1 && accepting != 0 {

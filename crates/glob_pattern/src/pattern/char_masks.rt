@@ -23,7 +23,7 @@ pub enum CharMasks<A: Allocator> {
     Plain([u64; 3]),
     /// More tokens that list no character: two rows of three such masks for each word.
     PlainWords(Vec<u64, A>),
-    /// All other tokens.
+    /// Tokens some of which list characters.
     Listed(Box<Listed<A>, A>),
 }
 
@@ -43,7 +43,7 @@ pub struct Listed<A: Allocator> {
 #[derive(Clone, Copy)]
 pub struct Rows<'a> {
     classes: Classes<'a>,
-    /// The masks from the first such row on. Every second row is one.
+    /// The masks, from the first row for this case-sensitivity on. Every second row is for it.
     masks: &'a [u64],
     /// The number of masks in a row.
     columns: usize,

@@ -52,8 +52,8 @@ impl<A: Allocator> Compiled<A> {
         self.tokens.as_slice()
     }
 
-    /// Whether the tokens, which are the pattern's, may match a text of these bytes, by the literals at its ends and a
-    /// needle. The bytes need not be UTF-8.
+    /// A quick test of a text's bytes: `false` means that the pattern's tokens do not match the text; `true` promises
+    /// nothing. The bytes need not be UTF-8.
     #[inline(always)]
     pub fn may_match(&self, pattern: &str, bytes: &[u8], options: MatchOptions) -> bool
         requires { HasTokens (chars pattern.now) self.now }
@@ -124,7 +124,7 @@ impl<A: Allocator + Copy> Compiled<A> {
         })
     }
 
-    /// Whether the tokens, which are the pattern's, match the text. With at most 63 tokens the call succeeds.
+    /// Whether the pattern's tokens match the text. With at most 63 tokens the call succeeds.
     #[inline(always)]
     pub fn matches(
         &self,

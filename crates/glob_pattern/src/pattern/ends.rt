@@ -128,7 +128,8 @@ impl Ends {
         self.prefix.bytes > 0 && !are_same(&bytes[..1], &literals[..1], options)
     }
 
-    /// Strips the ends off a text: those of `src/*.rs` leave `main` of `src/main.rs`. `None`: the text does not match.
+    /// Strips the ends off a text: for `src/*.rs`, what is left of `src/main.rs` is `main`. `None`: the text does not
+    /// match.
     #[inline(always)]
     pub fn strip<'a, A: Allocator>(
         &self,

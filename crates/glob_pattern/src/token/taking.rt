@@ -22,7 +22,7 @@ pub fn takes<A: Allocator>(
         Token::Literal(x) => bracket::is_same(options.case_sensitive, c, *x),
         Token::AnyChar => is_free(options, opening, c),
         _ => {
-            // The call needs the options in memory. A copy on this path leaves those of the caller in registers.
+            // The call needs the options in memory. Copying them only on this path keeps the caller's in registers.
             let copy = MatchOptions { ..options };
             takes_other(token, copy, opening, c)
         }
@@ -86,7 +86,8 @@ pub fn is_excluded_dot(options: MatchOptions, opening: bool, c: char) -> bool
     c == '.' && opening && options.require_literal_leading_dot
 }
 
-/// Whether `**` may take the name of a component: any name, but under the dot rule none with a leading dot, as `.git`.
+/// Whether `**` may take the name of a component: any name, except under the dot rule one with a leading dot, as
+/// `.git`.
 pub fn is_open(options: MatchOptions, name: &str) -> bool
     ensures { result ≡ components.is_open options name.now }
 {

@@ -88,7 +88,7 @@ fn invert(row: &mut [u64], bits: u64)
     }
 }
 
-/// Lists a token: sets its bit in the masks of the characters that it lists, and in those of its kinds. Returns the
+/// Lists a token: sets its bit in the masks of the characters that it lists, and in the masks of its kinds. Returns the
 /// kinds.
 #[inline(always)]
 fn list_token<A: Allocator>(
@@ -142,7 +142,7 @@ fn list_token<A: Allocator>(
     }
 }
 
-/// Sets the bit in the mask of the character, and case-insensitively also in that of its other case.
+/// Sets the bit in the mask of the character, and case-insensitively also in the mask of its other case.
 #[inline(always)]
 fn list_literal(row: &mut [u64], classes: Classes<'_>, bit: usize, c: char, case_sensitive: bool)
     requires partition { IsPartition (partition_of classes) }
@@ -200,8 +200,8 @@ fn list_all(
     }
 }
 
-/// Sets the bit in the masks of the characters from `first` to `last`. If both are letters, case-insensitively also in
-/// those of the other case.
+/// Sets the bit in the masks of the characters from `first` to `last`. Case-insensitively, if both are letters, also in
+/// the masks of the same letters in the other case.
 #[inline(always)]
 fn list_cases(
     row: &mut [u64],
@@ -229,7 +229,7 @@ fn list_cases(
     list_interval(row, classes, bit, upper, last_upper);
 }
 
-/// Whether a range holds either case: case-insensitively, if both ends are letters.
+/// Whether a range holds its letters in both cases: if matching is case-insensitive and both ends are letters.
 #[inline(always)]
 fn has_cases(case_sensitive: bool, first: char, last: char) -> bool
     ensures { result ≡ (not case_sensitive && are_letters first last) }

@@ -1,22 +1,12 @@
-use Rattle.std.proofs.Common.{◌≡◌, ◌-◌, ◌^◌, ◌<◌, ◌∙◌, length, get_or, bit_and, refl, sym, inr, arith, map}
-use Rattle.glob_pattern.proofs.PositionLemmas.Running.{HasRun-start, HasRun-stepped, HasRun-room, HasDecided-ended}
+use Rattle.std.proofs.Common.{◌≡◌, ◌-◌, ◌^◌, ◌<◌, ◌∙◌, length, get_or, bit_and, sym, inr, arith, map}
+use Rattle.glob_pattern.proofs.PositionLemmas.Running.{HasRun-stepped, HasRun-room, HasDecided-ended}
 use Rattle.glob_pattern.proofs.PositionLemmas.Running.{HasDecided-dead, HasDecided-accepting}
 use Rattle.glob_pattern.proofs.matcher.positions.run_words.Goals as goal
 
-pub set_start-live-requires-clause-words : goal.set_start-live-requires-clause-words
-set_start-live-requires-clause-words g c = c.requires.ready.shaped
-
 pub loop-live-init : goal.loop-live-init
 loop-live-init g c =
-    let ready = c.requires.ready in
-    let start = c.set_start-live.ensures in
-    record {
-      count = start.length;
-      run = HasRun-start (g.J.Judge.table c.args.judge.now) (map g.T.Shaped.shape c.args.tokens.now) c.args.span.end _ _ _ ready.place
-          (start.alive (g.J.Judge.table c.args.judge.now) (rw ready.place at c.opens.ensures));
-      live = start.live;
-      same = refl;
-    }
+    let (run, live) = c.in-Some.ensures.run in
+    record { count = c.run_first.ensures.length; run = run; live = live; same = c.run_first.ensures.same }
 
 pub step_words-live-requires : goal.step_words-live-requires
 step_words-live-requires g c =

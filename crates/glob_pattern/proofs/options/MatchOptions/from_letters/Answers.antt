@@ -5,7 +5,7 @@ use Rattle.glob_pattern.specs.Matching.Options.{with_letter, with_letters}
 use Rattle.glob_pattern.specs.declared.options.MatchOptions.{MatchOptions}
 use Rattle.glob_pattern.proofs.options.MatchOptions.from_letters.Goals as goal
 
--- one letter more
+-- one more letter
 next : (ls : List ℕ) (i : ℕ) (o : MatchOptions) → i < length ls
     → with_letters (drop i ls) o ≡ option_and_then (with_letters (drop (suc i) ls)) (with_letter (get_or ls i 0) o)
 next [] i o lt = absurd (omega (arith, lt))

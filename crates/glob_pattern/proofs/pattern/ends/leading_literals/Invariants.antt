@@ -1,4 +1,4 @@
--- The tokens gone past are literals.
+-- The tokens so far are literals.
 use Rattle.std.proofs.Common.{◌-◌, ◌≤◌, length, take}
 use Rattle.glob_pattern.specs.Private.Ends.{HasLiterals}
 use Rattle.glob_pattern.proofs.pattern.ends.leading_literals.Given as goal

@@ -1,4 +1,4 @@
--- The shapes gone past are of one character.
+-- The shapes so far take one character each.
 use Rattle.std.proofs.Common.{◌-◌, length, map}
 use Rattle.glob_pattern.specs.Grammar.Tokens.{shape_of}
 use Rattle.glob_pattern.specs.Private.Ends.{HasOnes}

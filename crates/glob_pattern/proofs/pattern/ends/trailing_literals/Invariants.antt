@@ -1,4 +1,4 @@
--- The tokens gone past are literals.
+-- The tokens so far are literals.
 use Rattle.std.proofs.Common.{◌-◌, ◌≤◌, length, drop}
 use Rattle.glob_pattern.specs.Private.Ends.{HasLiterals}
 use Rattle.glob_pattern.proofs.pattern.ends.trailing_literals.Given as goal

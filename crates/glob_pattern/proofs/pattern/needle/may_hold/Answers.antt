@@ -8,7 +8,7 @@ use Rattle.glob_pattern.specs.Private.Needles.{AreLanes, IsAt}
 use Rattle.glob_pattern.proofs.BitLemmas.SetBits.{IsBitSet-iff_one}
 use Rattle.glob_pattern.proofs.pattern.needle.may_hold.Goals as goal
 
--- where the needle is, each byte is the same in either case
+-- at the place of the needle, each byte is the same in either case
 same_byte : (bytes needle : List ℕ) (k i j : ℕ) → IsAt bytes needle k → i < length needle → j ≡ k + i
     → to_ascii_lowercase (get_or bytes j 0) ≡ to_ascii_lowercase (get_or needle i 0)
 same_byte bytes needle k i j stands lt at =

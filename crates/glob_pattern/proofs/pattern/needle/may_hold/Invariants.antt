@@ -1,4 +1,4 @@
--- The needle is at none of the offsets gone past.
+-- The needle is at none of the offsets so far.
 use Rattle.std.proofs.Common.{ℕ, ◌-◌, ◌<◌, length}
 use Rattle.glob_pattern.specs.Private.Needles.{IsAt}
 use Rattle.glob_pattern.proofs.pattern.needle.may_hold.Given as goal

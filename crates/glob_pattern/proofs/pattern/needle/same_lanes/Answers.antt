@@ -9,7 +9,7 @@ use Rattle.std.specs.Simd.Lanes.{mask_l, zip2}
 use Rattle.glob_pattern.proofs.MatchingLemmas.Case.{case_set_same}
 use Rattle.glob_pattern.proofs.pattern.needle.same_lanes.Goals as goal
 
--- bit k of the lanes shifted by s is of lane s + k
+-- bit k of the lanes shifted by s is lane s + k
 shifted_bit : (p : ℕ → Bool) (xs : List ℕ) (s k : ℕ) → s + k < length xs → p (get_or xs (s + k) 0) ≡ true → bit_at
     (mask_l (map p xs) / 2 ^ s) k ≡ 1
 shifted_bit p xs s k within passes =

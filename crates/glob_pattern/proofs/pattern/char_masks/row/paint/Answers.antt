@@ -4,7 +4,7 @@ use Rattle.glob_pattern.specs.Grammar.Brackets.{in_range}
 use Rattle.glob_pattern.proofs.MaskLemmas.Putting.{IsWith-after}
 use Rattle.glob_pattern.proofs.pattern.char_masks.row.paint.Goals as goal
 
--- one class more
+-- one more class
 more : (first class n : ℕ) → first ≤ class → ((nat_le first n && nat_lt n class) || n == class) ≡ (nat_le first n && nat_lt n (class + 1))
 more first class n from = grind (arith, nat_tests)
 

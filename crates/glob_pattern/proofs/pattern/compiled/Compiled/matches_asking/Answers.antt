@@ -13,7 +13,7 @@ use Rattle.glob_pattern.proofs.MatchingLemmas.Needles.{ContainsFolded-from_part}
 use Rattle.glob_pattern.proofs.MatchingLemmas.Stripped.{SplitsPart-none, range-end}
 use Rattle.glob_pattern.proofs.pattern.compiled.Compiled.matches_asking.Goals as goal
 
--- the questions of the ends, where a token is asked twice if there is one and a text
+-- the questions of the ends: a first token is asked twice if the text is not empty
 few-asked : (tokens self : List Token) (ends : Ends) (bytes : List ℕ) (again : ℕ) → tokens ≡ self → IsEnds tokens ends → IsUtf8 bytes
     → again ≤ ends.lead → again ≤ length bytes → ends.lead + ends.trail + again ≤ length self + length self * length (chars bytes)
 few-asked tokens self ends bytes again same is u first some =

@@ -36,7 +36,7 @@ module _ (o : MatchOptions) (tokens : List Token) (ends : Ends) (are : IsEnds to
       below) part opening left c rest (IsUtf8-past_char part rest c u e) (chars_past_char part rest c u e)
       (subst (λ s. takes o opening c s ≡ true) (at ∙ get_or-take ends.lead tokens k AnyChar below) took)
 
-  -- it does not take it
+  -- it does not take the first character
   refused : (t : Token) → t ≡ get_or (take ends.lead tokens) k AnyChar → (c : ℕ) (rest : List ℕ) → takes o opening c t
       ≡ false → IsUtf8 part → part ≡ encode_utf8 c ++ rest
       → (text : List ℕ) → Leaves o tokens text k (length tokens - ends.suffix.count) part opening → TokensMatch o tokens (chars text) → ⊥
@@ -45,7 +45,7 @@ module _ (o : MatchOptions) (tokens : List Token) (ends : Ends) (are : IsEnds to
       below) part opening left c rest (chars_past_char part rest c u e)
       (subst (λ s. takes o opening c s ≡ false) (at ∙ get_or-take ends.lead tokens k AnyChar below) none)
 
-  -- there is none
+  -- there is no first character
   lacked : length part ≡ 0 → (text : List ℕ) → Leaves o tokens text k (length tokens - ends.suffix.count) part opening
       → TokensMatch o tokens (chars text) → ⊥
   lacked none = λ text left.

@@ -44,7 +44,7 @@ module _ (o : MatchOptions) (tokens : List Token) (ends : Ends) (are : IsEnds to
       Leaves-before o tokens text ends.lead (end - 1) end next from below one part opening left rest c v (chars_past_last part rest c u v e)
       (subst (λ s. takes o (opens_within opening (chars rest) (length (chars rest))) c s ≡ true) at took)
 
-  -- it does not take it
+  -- it does not take the last character
   refused : (t : Token) → t ≡ get_or tokens (end - 1) AnyChar → (c : ℕ) (rest : List ℕ) → takes o (opens_within opening
       (chars rest) (length (chars rest))) c t ≡ false
       → IsUtf8 part → IsUtf8 rest → part ≡ rest ++ encode_utf8 c
@@ -53,7 +53,7 @@ module _ (o : MatchOptions) (tokens : List Token) (ends : Ends) (are : IsEnds to
       refuses-before o tokens text ends.lead (end - 1) end next from below one part opening left rest c (chars_past_last part rest c u v e)
       (subst (λ s. takes o (opens_within opening (chars rest) (length (chars rest))) c s ≡ false) at none)
 
-  -- there is none
+  -- there is no last character
   lacked : length part ≡ 0 → (text : List ℕ) → Leaves o tokens text ends.lead end part opening → TokensMatch o tokens (chars text) → ⊥
   lacked none = λ text left.
       lacks-before o tokens text ends.lead (end - 1) end next from below one part opening left

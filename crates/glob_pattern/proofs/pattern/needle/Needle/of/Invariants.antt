@@ -1,4 +1,4 @@
--- The needle is of the last tokens gone past, and the longest of some.
+-- The current needle is of the last tokens read, and the longest one is of some tokens.
 use Rattle.std.proofs.Common.{◌≤◌}
 use Rattle.glob_pattern.specs.Private.Needles.{IsNeedle}
 use Rattle.glob_pattern.proofs.MatchingLemmas.Needles.{EndsIn}
