@@ -10,12 +10,12 @@ use Rattle.glob_tree.specs.declared.tree.Look.{Look}
 use Rattle.glob_tree.specs.declared.tree.Look.TheVariants as look
 use Rattle.glob_tree.proofs.StraysLemmas.{and_then-nil}
 
--- at most one path is some paths
+-- at most one path is a list of paths
 pub received_some : (path : Text) (old new : Option (List Text)) → ReceivesAtMost path old new → Grows old new
 received_some path old new (inl same) = ([], same ∙ sym (and_then-nil old))
 received_some path old new (inr more) = (path ∷ [], more)
 
--- what is above a path above another is above that
+-- what is above a path above another path is above the other path
 pub above_trans : (a b c : Text) → IsAtOrAbove a b → IsAtOrAbove b c → IsAtOrAbove a c
 above_trans a b c (inl s) (inl t) = inl (t ∙ s)
 above_trans a b c (inl s) (inr (n, t)) = inr (n, t ∙ ap (λ x. x ++ slash ∷ n) s)

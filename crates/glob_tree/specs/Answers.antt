@@ -1,18 +1,16 @@
 -- What a tree with known content must answer.
-use Rattle.std.specs.Prelude.{◌≡◌, ◌≢◌, ℕ, Bool, true, false, List, map, vec_len, Contains, IsPermutation, Option, Some, Result, Ok, Err, Vec, ⊤}
+use Rattle.std.specs.Prelude.{◌≡◌, ◌≢◌, ℕ, Bool, true, false, List, map, vec_len, Contains, IsPermutation, Result, Ok, Err}
+use Rattle.std.specs.Prelude.{Vec, ⊤}
 use Rattle.std.specs.declared.io.Error.{Error}
 use Rattle.std.specs.declared.io.ErrorKind.{ErrorKind}
 use Rattle.std.specs.declared.io.ErrorKind.TheVariants.{OutOfMemory}
 use Rattle.std.specs.IoError.{error_kind}
 use Rattle.glob_text.specs.Text.{Text}
-use Rattle.glob_tree.specs.Content.{Content, is_content, DirEntry, ListAnswer, Entries, Fails, NoDirectory}
+pub use Rattle.glob_tree.specs.Content.{IsTold}
+use Rattle.glob_tree.specs.Content.{DirEntry, ListAnswer, Entries, Fails, NoDirectory}
 use Rattle.glob_tree.specs.declared.tree.Entry.{Entry}
 use Rattle.glob_tree.specs.declared.tree.ListError.{ListError}
 use Rattle.glob_tree.specs.declared.tree.ListError.TheVariants.{Read, Memory}
-
--- the tree's content is known to be c, and c is well formed
-abbrev pub IsTold : Option Content → Content → Type 0
-IsTold known c = (known ≡ Some c) × (is_content c ≡ true)
 
 -- the entries of a listing as pairs: a name, and whether it is reported as a directory
 abbrev pub entries_of : {A : Type 0} → List (Entry A) → List DirEntry
@@ -23,7 +21,8 @@ abbrev pub entry_count : {A E : Type 0} → Result (Vec (Entry A) A) E → ℕ
 entry_count (Ok entries) = vec_len entries
 entry_count (Err e) = 0
 
--- a listing may return these entries: those of the directory, each once and in any order; if there is none, anything
+-- a listing may return these entries: the directory's, each once and in any order; if there is no directory, any
+-- entries
 abbrev pub IsListAnswer : ListAnswer → List DirEntry → Type 0
 IsListAnswer (Entries entries) answer = IsPermutation entries answer
 IsListAnswer (Fails kind) answer = ⊥
@@ -33,30 +32,30 @@ IsListAnswer NoDirectory answer = ⊤
 abbrev pub names_of : List DirEntry → List Text
 names_of entries = map (λ e. e.0) entries
 
--- a listing may return these names: those of the directory, each once and in any order; if there is none, anything
+-- a listing may return these names: the directory's, each once and in any order; if there is no directory, any names
 abbrev pub AreListedNames : ListAnswer → List Text → Type 0
 AreListedNames (Entries entries) names = IsPermutation (names_of entries) names
 AreListedNames (Fails kind) names = ⊥
 AreListedNames NoDirectory names = ⊤
 
--- each entry reported as a directory is one
+-- each entry reported as a directory is a directory
 abbrev pub AreDirectories : (answer entries : List DirEntry) → Type 0
 AreDirectories answer entries = (e : DirEntry) → Contains answer e → e.1 ≡ true → Contains entries e
 
--- A listing of names may return these entries: each name of the directory once and in any order, with nothing but
--- directories reported as directories; if there is no directory, anything.
+-- A listing of names may return these entries: each name of the directory once and in any order, with only directories
+-- reported as directories; if there is no directory, any entries.
 abbrev pub IsNamesAnswer : ListAnswer → List DirEntry → Type 0
 IsNamesAnswer (Entries entries) answer =
     IsPermutation (names_of entries) (names_of answer) × AreDirectories answer entries
 IsNamesAnswer (Fails kind) answer = ⊥
 IsNamesAnswer NoDirectory answer = ⊤
 
--- A listing may return these entries: with their kinds, if those are asked for.
+-- A listing may return these entries, with their kinds if they are asked for.
 abbrev pub IsEntriesAnswer : (kinds : Bool) → ListAnswer → List DirEntry → Type 0
 IsEntriesAnswer true said answer = IsListAnswer said answer
 IsEntriesAnswer false said answer = IsNamesAnswer said answer
 
--- a listing may fail with this kind of error: that of the directory; if there is none, any
+-- a listing may fail with this kind of error: the directory's; if there is no directory, any kind
 abbrev pub IsListFault : ListAnswer → ErrorKind → Type 0
 IsListFault (Entries entries) kind = ⊥
 IsListFault (Fails wanted) kind = kind ≡ wanted
@@ -66,6 +65,6 @@ abbrev pub IsListError : ListAnswer → ListError → Type 0
 IsListError answer (Read e) = IsListFault answer (error_kind e)
 IsListError answer Memory = ⊤
 
--- the error of a listing, if the system returns this one
+-- the error of a listing, if the system returns this error
 abbrev pub IsListErrorOf : Error → ListError → Type 0
 IsListErrorOf e made = (error_kind e ≡ OutOfMemory → made ≡ Memory) × (error_kind e ≢ OutOfMemory → made ≡ Read e)

@@ -1,5 +1,7 @@
 -- What a tree holds, where a path leads in it, and what the tree answers.
-use Rattle.std.specs.Prelude.{◌-◌, Bool, true, false, ◌&&◌, not, if◌then◌else◌, List, [], ◌∷◌, ◌++◌, length, take, fold, find, filter_map, bytes_eq, Option, Some, None, is_some, option_map, option_and_then, unwrap_or}
+use Rattle.std.specs.Prelude.{◌≡◌, ◌-◌, Bool, true, false, ◌&&◌, not, if◌then◌else◌, List, [], ◌∷◌, ◌++◌, length, take, fold}
+use Rattle.std.specs.Prelude.{find, filter_map, bytes_eq, Option, Some, None, is_some, option_map, option_and_then}
+use Rattle.std.specs.Prelude.{unwrap_or}
 use Rattle.std.specs.List.{list_any, list_all}
 use Rattle.std.specs.Cmp.Lexicographic.{pointwise, slice_cmp}
 use Rattle.std.specs.Ordering.{nat_cmp, is_le}
@@ -40,6 +42,7 @@ pub record Content : Type 0 where
 unfoldable pub kind_at : Content → Key → Option Kind
 kind_at c k = option_map (λ e. e.1) (find (λ e. same_key k e.0) c.kinds)
 
+-- a directory, even one that cannot be listed (`Shut`)
 abbrev pub is_dir : Kind → Bool
 is_dir Dir = true
 is_dir (Shut kind) = true
@@ -61,6 +64,10 @@ are_distinct (e ∷ es) = not (list_any (λ f. same_key e.0 f.0) es) && are_dist
 -- that are UTF-8 and proper, and no key occurs twice.
 unfoldable pub is_content : Content → Bool
 is_content c = is_dir_at c [] && is_dir_at c c.current && list_all (is_placed c) c.kinds && are_distinct c.kinds
+
+-- the tree's content is known to be c, and c is well formed
+abbrev pub IsTold : Option Content → Content → Type 0
+IsTold known c = (known ≡ Some c) × (is_content c ≡ true)
 
 -- the key of a name in k, if something is there
 abbrev pub child_key : Content → Key → Text → Option Key
@@ -109,7 +116,7 @@ only_name [] = None
 only_name (n ∷ []) = Some n
 only_name (m ∷ n ∷ ns) = None
 
--- the entry of a key in a listing of k: only a key that is k and one more name has one
+-- the entry of a key in a listing of k, if the key is k and one more name
 abbrev pub child_entry : Key → Key × Kind → Option DirEntry
 child_entry k e = option_map (λ name. (name, is_dir e.1)) (option_and_then only_name (names_past k e.0))
 
@@ -136,7 +143,7 @@ list_found c (Some k) = list_of c k (kind_at c k)
 unfoldable pub list_result : Content → Text → ListAnswer
 list_result c path = list_found c (resolve c path)
 
--- the entry's name is not after the other's, in byte order
+-- the first entry's name is not after the second's, in byte order
 abbrev pub is_before : DirEntry → DirEntry → Bool
 is_before e f = is_le (slice_cmp nat_cmp e.0 f.0)
 

@@ -1,4 +1,4 @@
--- What an opened directory gives to read: bytes that hold its names, and then the end, or an error of some kind.
+-- What an opened directory gives to read: bytes with its names, and then the end, or an error of some kind.
 use Rattle.std.specs.Prelude.{◌≡◌, ◌≢◌, ℕ, Bool, ◌&&◌, not, ◌==◌, List, [], Option, Some, None, bytes_eq, ⊤}
 use Rattle.std.specs.IoError.{error_kind}
 use Rattle.std.specs.List.{filter, slice_split}

@@ -1,5 +1,6 @@
 -- A tree in memory: which changes it accepts, and what they do to its content.
-use Rattle.std.specs.Prelude.{◌≡◌, ℕ, ◌&&◌, not, if◌then◌else◌, [], ◌∷◌, ◌++◌, drop, bytes_eq, Option, Some, None, is_some, Result, Ok, Err, MatchResult, ⊤}
+use Rattle.std.specs.Prelude.{◌≡◌, ℕ, ◌&&◌, not, if◌then◌else◌, [], ◌∷◌, ◌++◌, drop, bytes_eq, Option, Some, None}
+use Rattle.std.specs.Prelude.{is_some, Result, Ok, Err, MatchResult, ⊤}
 use Rattle.std.specs.List.{list_all}
 use Rattle.std.specs.Path.{root_dir}
 use Rattle.std.specs.declared.io.ErrorKind.{ErrorKind}
@@ -35,7 +36,7 @@ key_of path =
 unfoldable pub directory_key : Text → Option Key
 directory_key path = if bytes_eq path root_dir then Some [] else key_of path
 
--- why a key is not added: the path names none, its parent is not a directory, or something is there
+-- why a key is not added: the path does not name a key, its parent is not a directory, or something is there
 abbrev pub key_refusal : Content → Option Key → Option TreeRefusal
 key_refusal c None = Some refusal.Improper
 key_refusal c (Some k) =
@@ -67,7 +68,7 @@ unfoldable pub with_current : Content → Option Key → Content
 with_current c None = c
 with_current c (Some k) = record { kinds = c.kinds; current = k }
 
--- a change is refused for the reason that applies; if none does, it fails only because an allocation failed
+-- a change is refused for the reason that applies; if no reason applies, it fails only because an allocation failed
 abbrev pub IsChangeAnswer : Option TreeRefusal → Result (Unit {0}) TreeRefusal → Type 0
 IsChangeAnswer (Some e) result = result ≡ Err e
 IsChangeAnswer None result = MatchResult result (λ _. ⊤) (λ e. e ≡ refusal.Memory)
@@ -82,7 +83,7 @@ kind_fault (Some Other) = Some error.NotADirectory
 unfoldable pub list_fault : Content → Text → Option ErrorKind
 list_fault c path = kind_fault (kind_found c path)
 
--- the error is the one with which the listing must fail; if there is none, it is an allocation failure
+-- the error with which the listing must fail; if it need not fail, an allocation failure
 abbrev pub IsFaultOf : Option ErrorKind → ListError → Type 0
 IsFaultOf fault (Read e) = fault ≡ Some (error_kind e)
 IsFaultOf fault Memory = fault ≡ None

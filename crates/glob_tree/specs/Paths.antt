@@ -14,11 +14,11 @@ nul = 0
 unfoldable pub join : (path text : Text) → Text
 join path text = with_separator path ++ text
 
--- the piece is empty or `.`, so it leads nowhere else
+-- the piece is empty or `.`, so it stays where it is
 abbrev pub stays : Text → Bool
 stays piece = is_empty piece || bytes_eq piece cur_dir
 
--- the path is `.`, or `.` and further pieces that stay there
+-- the path is `.`, or `.` and more pieces that stay there
 abbrev pub is_here : Text → Bool
 is_here path = begins_with dot path && list_all stays (pieces path)
 

@@ -1,3 +1,4 @@
+-- Definitions that only private contracts cite.
 pub mod Gathering
 pub mod Listing
 pub mod Looking

@@ -1,4 +1,4 @@
--- What lookups hand to the strays, of paths.
+-- Which paths lookups hand to the strays.
 use Rattle.std.specs.Prelude.{◌≡◌, ◌⊎◌, List, [], ◌∷◌, ◌++◌, Option}
 use Rattle.glob_text.specs.Characters.{slash}
 use Rattle.glob_text.specs.Text.{Text}
@@ -6,7 +6,7 @@ use Rattle.glob_tree.specs.Strays.{and_then}
 use Rattle.glob_tree.specs.declared.tree.Look.{Look}
 use Rattle.glob_tree.specs.declared.tree.Look.TheVariants as look
 
--- the first path is the second, or that of a directory above it
+-- the first path is the second, or the path of a directory above it
 abbrev pub IsAtOrAbove : (above path : Text) → Type 0
 IsAtOrAbove above path = (path ≡ above) ⊎ ((rest : Text) × (path ≡ above ++ slash ∷ rest))
 
@@ -14,7 +14,7 @@ IsAtOrAbove above path = (path ≡ above) ⊎ ((rest : Text) × (path ≡ above 
 abbrev pub ReceivesAtMost : (path : Text) → (old new : Option (List Text)) → Type 0
 ReceivesAtMost path old new = (new ≡ old) ⊎ (new ≡ and_then old (path ∷ []))
 
--- nothing was received, or one path: this one, or one above it
+-- nothing was received, or one path: this path, or a path above it
 abbrev pub ReceivesOnWay : (path : Text) → (old new : Option (List Text)) → Type 0
 ReceivesOnWay path old new = (new ≡ old) ⊎ ((above : Text) × IsAtOrAbove above path × (new ≡ and_then old (above ∷ [])))
 

@@ -4,8 +4,8 @@ ghost use Rattle.std.specs.Borrow.{ftrue};
 
 use std::marker::Model;
 
-/// How much was asked of a tree: a number that only contracts see. It costs nothing: it has no bytes, and its methods
-/// do nothing at run time.
+/// How much was asked of a tree, as a number that only contracts see. It costs nothing: it has no bytes, and its
+/// methods do nothing at run time.
 ///
 /// If you implement [`Tree`](crate::Tree), keep one in a field and name it in `ghost asks`. A `look` is one ask; a
 /// `list` or `list_names` is one, plus one for each entry that it returns:
@@ -44,7 +44,7 @@ impl Model for Asks {
 }
 
 impl Asks {
-    /// Nothing was asked yet: the count is 0.
+    /// The count 0: nothing was asked yet.
     pub fn new() -> Self
         ensures { result ≡ 0 }
     {

@@ -8,8 +8,8 @@ use crate::system::Directory;
 use crate::tree::ListError;
 use std::alloc::{AllocError, Allocator};
 
-/// The size in bytes of the first two reads of a directory. Some hundred names fit. Each listing zeroes the block, so
-/// for a small directory a larger block would cost more than it saves in system calls.
+/// The size in bytes of the first two reads of a directory. About a hundred names fit. Each listing zeroes the block,
+/// so for a small directory a larger one would cost more than it saves in system calls.
 const BLOCK: usize = 4096;
 
 /// The size in bytes of all further reads. Their block is allocated, since the stack may be small.
@@ -19,7 +19,7 @@ const LARGE_BLOCK: usize = 32768;
 /// `a\0..\0b\0`. Most directories take two reads: one that returns all names, and one that returns nothing.
 ///
 /// The error is `Read` with the error of the read that failed, or `Memory` if an allocation failed, here or in the
-/// system. A failed read is never taken for the end: what was read before it is dropped.
+/// system. A failed read never counts as the end: what was read before it is dropped.
 pub fn read_directory<D: Directory, A: Allocator + Copy>(
     alloc: A,
     directory: &mut D,
@@ -61,7 +61,7 @@ fn read_rest<D: Directory, A: Allocator + Copy>(
     Ok(())
 }
 
-/// A block of so many zeros.
+/// A block of this many zeros.
 fn zeros<A: Allocator>(alloc: A, len: usize) -> Result<Vec<u8, A>, AllocError>
     ensures { IfOk result (λ block. vec_len block ≡ len) }
 {

@@ -22,9 +22,9 @@ use std::marker::Model;
 ///
 /// A look makes one system call, or two at a link. A listing makes one for each entry (`list_names` makes none), and it
 /// opens, reads and closes the directory: it reads two blocks of 4 KiB and then blocks of 32 KiB, until a read returns
-/// nothing. That is four calls if the names fit in the first block, as some hundred do. A listing reads all names
-/// before it makes entries of them. No clause counts system calls. An I/O error of the kind `OutOfMemory` counts as an
-/// allocation failure.
+/// nothing. That is four calls if the names fit in the first block, which holds about a hundred. A listing reads all
+/// names before it makes entries from them. No clause counts system calls. An I/O error of the kind `OutOfMemory`
+/// counts as an allocation failure.
 ///
 /// In a directory with a file `a` and a link `b` to `a`, a look at `b` returns `Other`, and a listing of `.` returns
 /// `a` and `b`, neither of them as a directory.
@@ -70,8 +70,8 @@ impl<R: System, A: Allocator + Copy> Tree for Disk<R, A> {
     ghost asks = { λ disk. disk.asks };
 
     /// `Other` also stands for a path that is there but cannot be followed to its end, such as a link with a missing
-    /// target. A path that cannot be looked up is `Missing`, such as one below a directory that may not be searched.
-    /// The error comes only if the I/O error's kind is `OutOfMemory`.
+    /// target. A path that cannot be looked up is `Missing`, such as one below a directory that may not be searched. It
+    /// fails only if the I/O error's kind is `OutOfMemory`.
     fn look(&mut self, path: &str) -> Result<Look, AllocError>
         ensures files { self.new.files ≡ self.old.files }
         ensures asks { self.new.asks ≡ self.old.asks + 1 }
@@ -105,8 +105,8 @@ impl<R: System, A: Allocator + Copy> Tree for Disk<R, A> {
         self.listing(path, Kinds::LookedUp)
     }
 
-    /// The names of the entries. It looks none of them up, so it reports none as a directory; the clauses promise only
-    /// that what it reports as one is one. The errors are those of a listing.
+    /// The names of the entries. It looks up no entry, so it reports none as a directory; the clauses promise only that
+    /// what it reports as a directory is one. Errors are as for a listing.
     fn list_names(&mut self, path: &str) -> Result<Vec<Entry<A>, A>, ListError>
         ensures files { self.new.files ≡ self.old.files }
         ensures asks { self.new.asks ≡ self.old.asks + 1 + entry_count result }
@@ -126,7 +126,7 @@ impl<R: System, A: Allocator + Copy> Tree for Disk<R, A> {
 }
 
 impl<R: System, A: Allocator + Copy> Disk<R, A> {
-    /// Lists a directory, and counts what that asks.
+    /// Lists a directory, and counts the questions.
     fn listing(&mut self, path: &str, kinds: Kinds) -> Result<Vec<Entry<A>, A>, ListError>
         ensures files { self.new.files ≡ self.old.files }
         ensures asks { self.new.asks ≡ self.old.asks + 1 + entry_count result }
@@ -188,7 +188,7 @@ impl<R: System> FollowedLookups<R> {
     }
 }
 
-/// A non-UTF-8 name fails the listing, so no name is received, and no path either.
+/// A non-UTF-8 name fails the listing, so it receives no names and no paths.
 impl<R: System> Reader for FollowedLookups<R> {
     type Dir = R::Dir;
 
@@ -231,7 +231,8 @@ fn is_symlink(answer: &io::Result<Metadata>) -> bool
     }
 }
 
-/// Maps the answer of `lstat` or `stat` to a `Look`; a failed call gives `absent`, or an error if memory ran out.
+/// Maps the answer of `lstat` or `stat` to a `Look`; returns `absent` if the call failed, and an error if memory ran
+/// out.
 fn look_of(answer: io::Result<Metadata>, absent: Look) -> Result<Look, AllocError>
     ensures { (found : Option Found) → IsStatAnswer found answer
         → IfOk result (λ look. look ≡ look_found absent found) }

@@ -25,7 +25,7 @@ pub(crate) fn proper_names(path: &str) -> Option<&str>
 fn are_proper(names: &str) -> bool
     ensures { result ≡ list_all is_proper_text (pieces names.now) }
 {
-    // A bare `is_proper` would make a proof look for it in a module that is private to its crate.
+    // With a bare `is_proper`, a proof would look for it in a module that is private to its crate.
     names.split('/').all(|name| is_proper(name))
 }
 

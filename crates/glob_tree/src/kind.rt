@@ -4,7 +4,7 @@ ghost use Rattle.glob_tree.specs.Content.{is_dir};
 
 use std::io;
 
-/// What a tree has at a key, the list of names that leads there from its root: `Other` for a file.
+/// What a tree has at a key (the list of names that leads there from the root): `Other` for a file.
 #[derive(Clone, Copy, PartialEq, Eq, Debug)]
 pub enum Kind {
     /// A directory.
@@ -16,7 +16,7 @@ pub enum Kind {
 }
 
 impl Kind {
-    /// Whether it is a directory, even one that cannot be listed: `Shut(NotFound)` is, `Other` is not.
+    /// Whether it is a directory, even one that cannot be listed: true for `Shut(NotFound)`, false for `Other`.
     pub fn is_dir(self) -> bool
         ensures { result ≡ is_dir self }
     {

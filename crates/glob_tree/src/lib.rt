@@ -1,8 +1,9 @@
-//! Trees of files and directories: what a walk asks of one, paths, a tree in memory, and the file system.
+//! Trees of files and directories: what a walk asks a tree, paths, a tree in memory, and the file system.
 #![tactic(auto)]
 
 mod asks;
 mod directory;
+mod directory_id;
 mod disk;
 mod keys;
 mod kind;
@@ -21,6 +22,7 @@ mod tree;
 
 pub use asks::Asks;
 pub use directory::{names_in, read_directory};
+pub use directory_id::DirectoryId;
 pub use disk::Disk;
 pub use kind::Kind;
 pub use mem_system::{MemDirectory, MemSystem};

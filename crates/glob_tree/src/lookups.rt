@@ -1,15 +1,16 @@
 //! What the calls of a system say about paths and entries, with links kept or followed.
-ghost use Rattle.std.specs.Prelude.{if◌then◌else◌, ◌≡◌, ◌≢◌, [], true, false, None, IfOk, IfErr, IsSome, OnOk};
+ghost use Rattle.std.specs.Prelude.{if◌then◌else◌, ◌≡◌, ◌≢◌, ◌∷◌, [], true, false, None, IfOk, IfErr, IsSome, OnOk};
+ghost use Rattle.std.specs.List.{filter};
 ghost use Rattle.glob_tree.specs.Answers.{AreListedNames, IsEntriesAnswer, IsListError, entries_of, names_of};
 ghost use Rattle.glob_tree.specs.Content.{list_result, look_result};
-ghost use Rattle.glob_tree.specs.FileSystems.{FileSystem, IsHeld, IsReceived, is_direct, lstat_found, strays_found};
-ghost use Rattle.glob_tree.specs.Followed.{AreKindsSaid, IsLookSaid};
+ghost use Rattle.glob_tree.specs.FileSystems.{FileSystem, IsHeld, IsReceived, is_direct, is_lost, lstat_found, strays_found};
+ghost use Rattle.glob_tree.specs.Followed.{AreKindsSaid, IsLookReported, IsLookSaid};
 ghost use Rattle.glob_tree.specs.Looks.{is_directory};
 ghost use Rattle.glob_tree.specs.Private.Listing.{IsSaid, are_looked_up};
-ghost use Rattle.glob_tree.specs.Private.Looking.{HasWay, IsFoundAs, IsSeen, IsWay, LeadsOn};
+ghost use Rattle.glob_tree.specs.Private.Looking.{HasWay, IsFoundAs, IsLookedUp, IsSeen, IsStopped, IsWay, LeadsOn};
 ghost use Rattle.glob_tree.specs.Received.{IsLookReceived, ReceivesAtMost, ReceivesOnWay};
-ghost use Rattle.glob_tree.specs.declared.physical.Links.TheVariants.{Followed};
-ghost use Rattle.glob_tree.specs.declared.reading.Kinds.TheVariants.{LookedUp};
+ghost use Rattle.glob_tree.specs.Strays.{and_then};
+ghost use Rattle.glob_tree.specs.declared.reading.Kinds.TheVariants.{LookedUp, LeftOut};
 
 mod following;
 
@@ -24,13 +25,13 @@ use std::fs::Metadata;
 use std::io;
 use std::marker::Model;
 
-/// The calls of a system, whether they follow links, and who receives what they cannot settle.
+/// The calls of a system, whether links are followed, and who receives what the calls cannot settle.
 #[derive(Drop)]
 pub(crate) struct Lookups<R: System, S: Strays, A: Allocator> {
     rt: R,
     links: Links,
     strays: S,
-    /// The last path whose directories were all looked at. They need no second look for the paths beside it.
+    /// The last path whose directories were all looked at. Paths beside it need no second look at them.
     way: String<A>,
 }
 
@@ -67,15 +68,15 @@ impl<R: System, S: Strays, A: Allocator + Copy> Lookups<R, S, A> {
         self.links
     }
 
-    /// What is at a path. Nothing is below a non-directory, so a path that goes on behind a kept link is missing.
+    /// What is at a path. Nothing is below a non-directory, so a path that goes on after a kept link is missing.
     pub fn look(&mut self, path: &str) -> Result<Look, AllocError>
         ensures files { self.new.files ≡ self.old.files }
         ensures links { self.new.links ≡ self.old.links }
         ensures seen { (f : FileSystem) → IsSeen self.old.links self.old.files f
             → IfOk result (λ seen. seen ≡ look_result f.content path.now) }
-        ensures followed { (f : FileSystem) → IsHeld self.old.files f → is_direct f path.now ≡ true
-            → self.old.links ≡ Followed → IfOk result (λ seen.
-            IsLookSaid f path.now seen (S.paths self.old.strays) (S.paths self.new.strays)) }
+        ensures said { (f : FileSystem) → IsHeld self.old.files f → is_direct f path.now ≡ true
+            → IfOk result (λ seen. IsLookSaid self.old.links f path.now seen
+            (S.paths self.old.strays) (S.paths self.new.strays)) }
         ensures names { S.names self.new.strays ≡ S.names self.old.strays }
         ensures received { IfOk result (λ seen. IsLookReceived path.now seen
             (S.paths self.old.strays) (S.paths self.new.strays)) }
@@ -93,9 +94,10 @@ impl<R: System, S: Strays, A: Allocator + Copy> Lookups<R, S, A> {
         ensures links { self.new.links ≡ self.old.links }
         ensures way { (f : FileSystem) → IsSeen self.old.links self.old.files f
             → IfOk result (HasWay f path.now) }
-        ensures followed { (f : FileSystem) → IsHeld self.old.files f → is_direct f path.now ≡ true
-            → self.old.links ≡ Followed
-            → IfOk result (λ yes. yes ≡ false → HasWay f path.now false) }
+        ensures said { (f : FileSystem) → IsHeld self.old.files f → is_direct f path.now ≡ true
+            → IfOk result (λ yes. yes ≡ false → HasWay f path.now false
+            × IsLookReported self.old.links f path.now
+            (S.paths self.old.strays) (S.paths self.new.strays)) }
         ensures settled { IfOk result (λ yes. yes ≡ true
             → S.paths self.new.strays ≡ S.paths self.old.strays) }
         ensures names { S.names self.new.strays ≡ S.names self.old.strays }
@@ -122,9 +124,10 @@ impl<R: System, S: Strays, A: Allocator + Copy> Lookups<R, S, A> {
         ensures links { self.new.links ≡ self.old.links }
         ensures leads { (f : FileSystem) → IsSeen self.old.links self.old.files f
             → IfOk result (LeadsOn f above.now) }
-        ensures followed { (f : FileSystem) → IsHeld self.old.files f → is_direct f above.now ≡ true
-            → self.old.links ≡ Followed
-            → IfOk result (λ yes. yes ≡ false → LeadsOn f above.now false) }
+        ensures said { (f : FileSystem) → IsHeld self.old.files f → is_direct f above.now ≡ true
+            → IfOk result (λ yes. yes ≡ false → LeadsOn f above.now false
+            × IsStopped self.old.links f above.now
+            (S.paths self.old.strays) (S.paths self.new.strays)) }
         ensures settled { IfOk result (λ yes. yes ≡ true
             → S.paths self.new.strays ≡ S.paths self.old.strays) }
         ensures names { S.names self.new.strays ≡ S.names self.old.strays }
@@ -144,7 +147,7 @@ impl<R: System, S: Strays, A: Allocator + Copy> Lookups<R, S, A> {
         Ok(true)
     }
 
-    /// Whether all directories of a path were looked at. The empty path has none.
+    /// Whether all directories of a path were looked at. The empty path has no directories.
     fn is_known(&self, directory: &str) -> bool
         ensures known { result ≡ true → (f : FileSystem)
             → IsSeen self.now.links self.now.files f → IsWay f.content directory.now }
@@ -153,8 +156,8 @@ impl<R: System, S: Strays, A: Allocator + Copy> Lookups<R, S, A> {
         is_on_way(directory, self.way.as_str())
     }
 
-    /// What is at a path below directories. A followed link is `Dir` if it points to a directory other than its
-    /// ancestors, and otherwise `Other`.
+    /// What is at a path below directories. A followed link is `Dir` if it points to a directory that is not
+    /// above it, and otherwise `Other`.
     fn look_at(&mut self, path: &str) -> Result<Look, AllocError>
         ensures files { self.new.files ≡ self.old.files }
         ensures links { self.new.links ≡ self.old.links }
@@ -162,9 +165,9 @@ impl<R: System, S: Strays, A: Allocator + Copy> Lookups<R, S, A> {
         ensures seen { (f : FileSystem) → IsSeen self.old.links self.old.files f
             → is_direct f path.now ≡ true
             → IfOk result (λ seen. seen ≡ look_result f.content path.now) }
-        ensures followed { (f : FileSystem) → IsHeld self.old.files f → is_direct f path.now ≡ true
-            → self.old.links ≡ Followed → IfOk result (λ seen.
-            IsLookSaid f path.now seen (S.paths self.old.strays) (S.paths self.new.strays)) }
+        ensures said { (f : FileSystem) → IsHeld self.old.files f → is_direct f path.now ≡ true
+            → IfOk result (λ seen. IsLookedUp self.old.links f path.now seen
+            (S.paths self.old.strays) (S.paths self.new.strays)) }
         ensures settled { IfOk result (λ seen. is_directory seen ≡ true
             → S.paths self.new.strays ≡ S.paths self.old.strays) }
         ensures received { OnOk result
@@ -184,10 +187,10 @@ impl<R: System, S: Strays, A: Allocator + Copy> Lookups<R, S, A> {
         ensures entries { (f : FileSystem) → IsSeen self.old.links self.old.files f → IfOk result
             (λ v. IsEntriesAnswer (are_looked_up kinds) (list_result f.content path.now)
             (entries_of v.items)) }
-        ensures followed { (f : FileSystem) → IsHeld self.old.files f → self.old.links ≡ Followed
-            → kinds ≡ LookedUp
-            → IfOk result (λ v. AreKindsSaid f path.now (list_result f.content path.now)
+        ensures said { (f : FileSystem) → IsHeld self.old.files f → kinds ≡ LookedUp → IfOk result
+            (λ v. AreKindsSaid self.old.links f path.now (list_result f.content path.now)
             (entries_of v.items) (S.paths self.old.strays) (S.paths self.new.strays)) }
+        ensures unseen { kinds ≡ LeftOut → S.paths self.new.strays ≡ S.paths self.old.strays }
         ensures named { (f : FileSystem) → IsHeld self.old.files f → IfOk result (λ v.
             AreListedNames (list_result f.content path.now) (names_of (entries_of v.items))) }
         ensures strays { (f : FileSystem) → IsHeld self.old.files f
@@ -200,7 +203,7 @@ impl<R: System, S: Strays, A: Allocator + Copy> Lookups<R, S, A> {
         entries(self, alloc, path, kinds)
     }
 
-    /// Whether a directory is at a path. A link to one counts only if links are followed.
+    /// Whether a directory is at a path. A link to a directory counts only if links are followed.
     fn is_dir(&mut self, path: &str) -> Result<bool, AllocError>
         ensures files { self.new.files ≡ self.old.files }
         ensures links { self.new.links ≡ self.old.links }
@@ -208,10 +211,9 @@ impl<R: System, S: Strays, A: Allocator + Copy> Lookups<R, S, A> {
         ensures directory { (f : FileSystem) → IsSeen self.old.links self.old.files f
             → is_direct f path.now ≡ true
             → IfOk result (λ yes. yes ≡ is_directory (look_result f.content path.now)) }
-        ensures followed { (f : FileSystem) → IsHeld self.old.files f → is_direct f path.now ≡ true
-            → self.old.links ≡ Followed
-            → IfOk result (λ yes.
-            IsSaid f path.now yes (S.paths self.old.strays) (S.paths self.new.strays)) }
+        ensures said { (f : FileSystem) → IsHeld self.old.files f → is_direct f path.now ≡ true
+            → IfOk result (λ yes. IsSaid true self.old.links f path.now yes
+            (S.paths self.old.strays) (S.paths self.new.strays)) }
         ensures settled { IfOk result (λ yes. yes ≡ true
             → S.paths self.new.strays ≡ S.paths self.old.strays) }
         ensures received { OnOk result
@@ -227,6 +229,9 @@ impl<R: System, S: Strays, A: Allocator + Copy> Lookups<R, S, A> {
         ensures strays { S.names self.new.strays ≡ S.names self.old.strays }
         ensures found { (f : FileSystem) → IsHeld self.old.files f → is_direct f path.now ≡ true
             → IfOk result (λ metadata. IsFoundAs (lstat_found f path.now) metadata) }
+        ensures reported { (f : FileSystem) → IsHeld self.old.files f → is_direct f path.now ≡ true
+            → OnOk result (S.paths self.new.strays
+            ≡ and_then (S.paths self.old.strays) (filter (is_lost f) (path.now ∷ []))) }
         ensures known { IfOk result (λ metadata. IsSome metadata
             → S.paths self.new.strays ≡ S.paths self.old.strays) }
         ensures received { OnOk result
@@ -237,7 +242,7 @@ impl<R: System, S: Strays, A: Allocator + Copy> Lookups<R, S, A> {
     }
 }
 
-/// A non-UTF-8 name goes to the strays, and so does a link that points back to one of its ancestors.
+/// Non-UTF-8 names and links that point back to one of their ancestors go to the strays.
 impl<R: System, S: Strays, A: Allocator + Copy> Reader for Lookups<R, S, A> {
     type Dir = R::Dir;
 
@@ -267,7 +272,7 @@ impl<R: System, S: Strays, A: Allocator + Copy> Reader for Lookups<R, S, A> {
     }
 }
 
-/// The look at something that is there.
+/// The look for something that is there.
 fn look_for(is_dir: bool) -> Look
     ensures { result ≡ (if is_dir then Look.Dir else Look.Other) }
 {

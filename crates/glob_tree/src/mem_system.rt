@@ -1,10 +1,11 @@
 //! A system in memory.
-ghost use Rattle.std.specs.Prelude.{◌≡◌, IfOk};
+ghost use Rattle.std.specs.Prelude.{◌≡◌, false, IfErr, IfOk};
 ghost use Rattle.glob_tree.specs.Answers.{entries_of, names_of};
 ghost use Rattle.glob_tree.specs.Content.{look_result};
-ghost use Rattle.glob_tree.specs.FileSystems.{IsStatAnswer, plain_files};
+ghost use Rattle.glob_tree.specs.FileSystems.{IsLookupError, IsNumberAnswer, IsStatAnswer, no_number, plain_files};
 ghost use Rattle.glob_tree.specs.Private.Listing.{found_by, name_bytes};
 
+use crate::directory_id::DirectoryId;
 use crate::mem_tree::MemTree;
 use crate::system::{Directory, System};
 use crate::tree::{Entry, ListError, Look};
@@ -15,7 +16,7 @@ use std::io::{self, ErrorKind, Read};
 use std::marker::Model;
 
 /// A [`System`] that holds the files of a tree in memory, without symbolic links. It keeps the promises of a system,
-/// and its directories are read in pieces, as real ones may be.
+/// and reads directories in pieces, as a real system may.
 #[derive(Drop)]
 pub struct MemSystem<A: Allocator = Global> {
     tree: MemTree<A>,
@@ -42,11 +43,24 @@ impl<A: Allocator + Copy> MemSystem<A> {
 
     /// The metadata of what is at a path. If nothing is there, the error is `NotFound`.
     fn metadata(&self, path: &str) -> io::Result<Metadata>
-        ensures { IsStatAnswer (found_by (look_result self.now path.now)) result }
+        ensures found { IsStatAnswer (found_by (look_result self.now path.now)) result }
+        ensures fails { IfErr result (IsLookupError false) }
     {
         match self.tree.seen(path) {
             Look::Dir => Ok(Metadata::of_dir()),
             Look::Other => Ok(Metadata::of_file(0)),
+            Look::Missing => Err(ErrorKind::NotFound.into()),
+        }
+    }
+
+    /// The number of the directory at a path, which is 0: directories in memory have no numbers.
+    fn number(&self, path: &str) -> io::Result<Option<DirectoryId>>
+        ensures found { IsNumberAnswer (found_by (look_result self.now path.now)) no_number result }
+        ensures fails { IfErr result (IsLookupError false) }
+    {
+        match self.tree.seen(path) {
+            Look::Dir => Ok(Some(DirectoryId { dev: 0, ino: 0 })),
+            Look::Other => Ok(None),
             Look::Missing => Err(ErrorKind::NotFound.into()),
         }
     }
@@ -65,6 +79,10 @@ impl<A: Allocator + Copy> System for MemSystem<A> {
 
     fn stat(&self, path: &str) -> io::Result<Metadata> {
         self.metadata(path)
+    }
+
+    fn directory_id(&self, path: &str) -> io::Result<Option<DirectoryId>> {
+        self.number(path)
     }
 
     fn open(&self, path: &str) -> io::Result<MemDirectory<A>> {

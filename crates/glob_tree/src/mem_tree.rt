@@ -53,7 +53,7 @@ impl<A: Allocator + Copy> MemTree<A> {
     /// A tree with only its root, which is the current directory. All that the tree holds and lists is allocated from
     /// `alloc`.
     ///
-    /// This call succeeds, since only changes take memory. It has the error type of an allocation failure, as they do.
+    /// This call succeeds, since only changes take memory. It returns the same error type as they do.
     pub fn new(alloc: A) -> Result<Self, AllocError>
         ensures made { IsOk result }
         ensures empty { IfOk result (λ tree. tree.content ≡ empty_content) }
@@ -90,7 +90,7 @@ impl<A: Allocator + Copy> MemTree<A> {
     /// Adds a directory that cannot be listed: listing it fails with an error of this kind. After `add_shut("/a",
     /// ErrorKind::PermissionDenied)`, a look at `/a` returns `Look::Dir`, and `list("/a")` fails.
     ///
-    /// The errors are those of [`add_dir`](MemTree::add_dir).
+    /// Errors are as for [`add_dir`](MemTree::add_dir).
     pub fn add_shut(&mut self, path: &str, kind: io::ErrorKind) -> Result<(), TreeRefusal>
         ensures answer { IsChangeAnswer (add_refusal self.old.content path.now) result }
         ensures added { OnOk result
@@ -105,7 +105,7 @@ impl<A: Allocator + Copy> MemTree<A> {
     /// Adds something other than a directory, such as a file. After `add_other("/a.rs")`, a look at `/a.rs` returns
     /// `Look::Other`.
     ///
-    /// The errors are those of [`add_dir`](MemTree::add_dir).
+    /// Errors are as for [`add_dir`](MemTree::add_dir).
     pub fn add_other(&mut self, path: &str) -> Result<(), TreeRefusal>
         ensures answer { IsChangeAnswer (add_refusal self.old.content path.now) result }
         ensures added { OnOk result
@@ -173,9 +173,9 @@ impl<A: Allocator + Copy> Tree for MemTree<A> {
         Ok(self.seen(path))
     }
 
-    /// The error is [`ListError::Read`]. Its kind is `NotADirectory` if `path` leads to a non-directory, `NotFound` if
-    /// it leads nowhere, and for a directory of [`add_shut`](MemTree::add_shut) the kind given there.
-    /// [`ListError::Memory`] comes if the entries cannot be allocated.
+    /// The error is [`ListError::Read`], with the kind `NotADirectory` if `path` leads to a non-directory, `NotFound`
+    /// if it leads nowhere, and for a directory of [`add_shut`](MemTree::add_shut) the kind given there; or
+    /// [`ListError::Memory`] if the entries cannot be allocated.
     fn list(&mut self, path: &str) -> Result<Vec<Entry<A>, A>, ListError>
         ensures well_formed { is_content self.old.content ≡ true }
         ensures asks { self.new.asks ≡ self.old.asks + 1 + entry_count result }

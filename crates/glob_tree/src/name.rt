@@ -59,8 +59,8 @@ pub fn copy_name<A: Allocator>(alloc: A, name: &Name<A>) -> Result<Name<A>, Allo
     Ok(Name { text })
 }
 
-/// The name `text`, which must be proper, such as `a.rs`. It is [`Name::new`] of a copy of `text`, without its test.
-/// The error is an allocation failure.
+/// The name `text`, which must be proper, such as `a.rs`: [`Name::new`] of a copy of `text`, without the test. The
+/// error is an allocation failure.
 pub fn name_from_proper<A: Allocator>(alloc: A, text: &str) -> Result<Name<A>, AllocError>
     requires { is_proper_text text.now ≡ true }
     ensures { IfOk result (λ name. name ≡ text.now) }

@@ -27,8 +27,8 @@ pub(crate) struct Node<A: Allocator = Global> {
     kind: Kind,
 }
 
-/// The nodes of a tree, each after its parent. The root is a directory with number 0 and without a node, so the node at
-/// index 0 has number 1.
+/// The nodes of a tree, each after its parent. The root is a directory with the number 0 and has no node, so the node
+/// at index 0 has the number 1.
 #[derive(Drop)]
 #[derive_where(Debug)]
 pub(crate) struct Nodes<A: Allocator = Global> {

@@ -45,7 +45,7 @@ fn needs_separator(dir: &str) -> bool
     !dir.is_empty() && !dir.ends_with('/')
 }
 
-/// Whether the path is `.`, or `.` and further pieces that stay there, such as `./.`.
+/// Whether the path is `.`, or `.` and more pieces that stay there, such as `./.`.
 fn is_here(path: &str) -> bool
     ensures { result ≡ is_here_text path.now }
 {
@@ -71,7 +71,7 @@ pub(crate) fn cut_last(path: &str) -> Option<(&str, &str)>
     }
 }
 
-/// Whether a piece of a path leads nowhere else: it is empty or `.`, and not `a` or `..`.
+/// Whether a piece of a path stays where it is: true for an empty piece and `.`, false for `a` and `..`.
 pub fn stays(piece: &str) -> bool
     ensures { result ≡ stays_text piece.now }
 {
@@ -85,7 +85,7 @@ pub fn begins_with_dot(name: &str) -> bool
     name.starts_with('.')
 }
 
-/// Whether a directory is `way` or above it. The empty path is above every path.
+/// Whether a directory is `way` or is above it. The empty path is above every path.
 pub(crate) fn is_on_way(directory: &str, way: &str) -> bool
     ensures { IsOnWay directory.now way.now result }
 {

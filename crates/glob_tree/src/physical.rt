@@ -9,7 +9,7 @@ ghost use Rattle.glob_tree.specs.Followed.{AreKindsSaid, IsLookSaid};
 ghost use Rattle.glob_tree.specs.Private.Listing.{are_looked_up};
 ghost use Rattle.glob_tree.specs.Received.{IsLookReceived};
 ghost use Rattle.glob_tree.specs.declared.physical.Links.TheVariants.{Followed, Kept};
-ghost use Rattle.glob_tree.specs.declared.reading.Kinds.TheVariants.{LookedUp};
+ghost use Rattle.glob_tree.specs.declared.reading.Kinds.TheVariants.{LookedUp, LeftOut};
 
 use crate::asks::Asks;
 use crate::lookups::Lookups;
@@ -23,37 +23,37 @@ use std::marker::Model;
 /// Whether symbolic links are followed.
 #[derive(Clone, Copy, PartialEq, Eq)]
 pub enum Links {
-    /// A link is not treated as a directory. A walk by `**` enters none, so it ends on a cycle of links.
+    /// A link is not treated as a directory. A walk by `**` enters no link, so it ends on a cycle of links.
     Kept,
     /// A link is treated as what it points to, or as a non-directory if its target is missing. A link to one of its own
     /// ancestors is not treated as a directory, and the [`Strays`] receive it, so a walk by `**` ends on a cycle of
     /// links, such as `a/up` that points to `a`. If the system numbers no files, the walk ends when the system stops
-    /// following links. The clauses allow any link to a directory to be received instead of followed.
+    /// following links.
     Followed,
 }
 
 /// The file system that a [`System`] reaches, as a tree where a symbolic link is not treated as a directory unless
 /// links are [`Followed`](Links::Followed): nothing is below it, so `link/a` is missing. If the system holds a known
-/// file system, the tree has its content; if links are followed, only if none points to a directory. With such links, a
-/// look at a path that passes none of them before its end says what `stat` says (`Other` for a link without a target),
-/// or the path is a link to a directory and the strays receive it. Relative paths start at the current directory of the
-/// process.
+/// file system in which each listed file can be looked up, the tree has its content; if links are followed, no link may
+/// point to a directory for this. If some do, a look at a path that goes through none of these links says what `stat`
+/// says (`Other` for a link without a target), or the path is a link to a directory above it, and the strays receive
+/// it. Relative paths start at the current directory of the process.
 ///
 /// A walk over it is complete, or the [`Strays`] receive what is missing: each name that is not UTF-8, without loss of
 /// other entries, and each path where the system does not say what is there, such as one below a directory that may be
-/// listed but not searched. A path where the system says that nothing is there is not received, such as a link without
-/// a target. A directory that cannot be listed is an error of its listing. The clauses promise this for the names, and
-/// for followed links to directories.
+/// listed but not searched, or a followed link in a cycle of links. No other path is received: none where nothing is, and
+/// no link without a target. A directory that cannot be listed is an error of its listing. The clauses promise this for
+/// each path that does not go on behind a link to a directory.
 ///
 /// ```text
 /// let disk = PhysicalDisk::new(rt, Lost { count: 0 }, alloc);
 /// walk_in(alloc, disk, "**/*.rs", options, u64::MAX)?    // `a/b.rs`, but not `link/b.rs` if `link` points to `a`
 /// ```
 ///
-/// A look makes one system call, and one more for each directory above the path, except for those that are above the
-/// last such path as well. A listing makes one for each entry (`list_names` makes none if links are kept), besides the
+/// A look makes one system call, and one more for each directory above the path, except for those that are also above
+/// the last such path. A listing makes one for each entry (`list_names` makes none if links are kept), besides the
 /// calls that open, read and close the directory. If links are followed, each link costs a second call, and a link to a
-/// directory at most one more for each of its ancestors. No clause counts system calls.
+/// directory costs at most one more for each of its ancestors. No clause counts system calls.
 #[derive(Drop)]
 pub struct PhysicalDisk<R: System, S: Strays, A: Allocator = Global> {
     lookups: Lookups<R, S, A>,
@@ -86,7 +86,7 @@ impl<R: System, S: Strays, A: Allocator + Copy> PhysicalDisk<R, S, A> {
         PhysicalDisk::with_links(rt, strays, alloc, Links::Kept)
     }
 
-    /// As [`new`](Self::new), with links kept or followed as `links` says.
+    /// Like [`new`](Self::new), but `links` says whether links are kept or followed.
     pub fn with_links(rt: R, strays: S, alloc: A, links: Links) -> Self
         ensures files { result.files ≡ R.holds rt }
         ensures asks { result.asks ≡ 0 }
@@ -111,8 +111,8 @@ impl<R: System, S: Strays, A: Allocator + Copy> Tree for PhysicalDisk<R, S, A> {
     ghost asks = { λ disk. disk.asks };
 
     /// A symbolic link that is not followed is `Other`, and what is below it is `Missing`. A path that cannot be looked
-    /// up is `Missing`, and the strays receive it unless the system says that nothing is there. The error comes only if
-    /// the I/O error's kind is `OutOfMemory`, or an allocation fails.
+    /// up is `Missing`, and the strays receive it unless the system says that nothing is there. It fails only if the
+    /// I/O error's kind is `OutOfMemory`, or an allocation fails.
     fn look(&mut self, path: &str) -> Result<Look, AllocError>
         ensures files { self.new.files ≡ self.old.files }
         ensures links { self.new.links ≡ self.old.links }
@@ -120,9 +120,9 @@ impl<R: System, S: Strays, A: Allocator + Copy> Tree for PhysicalDisk<R, S, A> {
         ensures seen { (c : Content)
             → IsTold (option_and_then (content_with_links self.old.links) self.old.files) c
             → IfOk result (λ seen. seen ≡ look_result c path.now) }
-        ensures followed { (f : FileSystem) → IsHeld self.old.files f → is_direct f path.now ≡ true
-            → self.old.links ≡ Followed → IfOk result (λ seen.
-            IsLookSaid f path.now seen (S.paths self.old.strays) (S.paths self.new.strays)) }
+        ensures said { (f : FileSystem) → IsHeld self.old.files f → is_direct f path.now ≡ true
+            → IfOk result (λ seen. IsLookSaid self.old.links f path.now seen
+            (S.paths self.old.strays) (S.paths self.new.strays)) }
         ensures names { S.names self.new.strays ≡ S.names self.old.strays }
         ensures received { IfOk result (λ seen. IsLookReceived path.now seen
             (S.paths self.old.strays) (S.paths self.new.strays)) }
@@ -144,8 +144,8 @@ impl<R: System, S: Strays, A: Allocator + Copy> Tree for PhysicalDisk<R, S, A> {
         ensures fails { (c : Content)
             → IsTold (option_and_then (content_with_links self.old.links) self.old.files) c
             → IfErr result (λ e. IsListError (list_result c path.now) e) }
-        ensures followed { (f : FileSystem) → IsHeld self.old.files f → self.old.links ≡ Followed
-            → IfOk result (λ v. AreKindsSaid f path.now (list_result f.content path.now)
+        ensures said { (f : FileSystem) → IsHeld self.old.files f → IfOk result
+            (λ v. AreKindsSaid self.old.links f path.now (list_result f.content path.now)
             (entries_of v.items) (S.paths self.old.strays) (S.paths self.new.strays)) }
         ensures named { (f : FileSystem) → IsHeld self.old.files f → IfOk result
             (λ v. AreListedNames (list_result f.content path.now) (names_of (entries_of v.items))) }
@@ -158,9 +158,9 @@ impl<R: System, S: Strays, A: Allocator + Copy> Tree for PhysicalDisk<R, S, A> {
         self.listing(path, Kinds::LookedUp)
     }
 
-    /// The names of the entries. If links are kept, it looks none of them up, so it reports none as a directory; the
-    /// clauses promise only that what it reports as one is one. If links are followed, it is [`list`](Tree::list): only a
-    /// lookup finds the links that the strays receive. The errors are those of a listing.
+    /// The names of the entries. If links are kept, it looks up no entry, so it reports none as a directory; the
+    /// clauses promise only that what it reports as a directory is one. If links are followed, it is
+    /// [`list`](Tree::list), since only a lookup finds the links that the strays receive. Errors are as for a listing.
     fn list_names(&mut self, path: &str) -> Result<Vec<Entry<A>, A>, ListError>
         ensures files { self.new.files ≡ self.old.files }
         ensures links { self.new.links ≡ self.old.links }
@@ -171,9 +171,11 @@ impl<R: System, S: Strays, A: Allocator + Copy> Tree for PhysicalDisk<R, S, A> {
         ensures fails { (c : Content)
             → IsTold (option_and_then (content_with_links self.old.links) self.old.files) c
             → IfErr result (λ e. IsListError (list_result c path.now) e) }
-        ensures followed { (f : FileSystem) → IsHeld self.old.files f → self.old.links ≡ Followed
-            → IfOk result (λ v. AreKindsSaid f path.now (list_result f.content path.now)
-            (entries_of v.items) (S.paths self.old.strays) (S.paths self.new.strays)) }
+        ensures said { (f : FileSystem) → IsHeld self.old.files f → self.old.links ≡ Followed
+            → IfOk result (λ v. AreKindsSaid self.old.links f path.now
+            (list_result f.content path.now) (entries_of v.items)
+            (S.paths self.old.strays) (S.paths self.new.strays)) }
+        ensures unseen { self.old.links ≡ Kept → S.paths self.new.strays ≡ S.paths self.old.strays }
         ensures named { (f : FileSystem) → IsHeld self.old.files f → IfOk result
             (λ v. AreListedNames (list_result f.content path.now) (names_of (entries_of v.items))) }
         ensures unread { (f : FileSystem) → IsHeld self.old.files f
@@ -190,7 +192,7 @@ impl<R: System, S: Strays, A: Allocator + Copy> Tree for PhysicalDisk<R, S, A> {
 }
 
 impl<R: System, S: Strays, A: Allocator + Copy> PhysicalDisk<R, S, A> {
-    /// Lists a directory, and counts what that asks.
+    /// Lists a directory, and counts the questions.
     fn listing(&mut self, path: &str, kinds: Kinds) -> Result<Vec<Entry<A>, A>, ListError>
         ensures files { self.new.files ≡ self.old.files }
         ensures links { self.new.links ≡ self.old.links }
@@ -202,10 +204,10 @@ impl<R: System, S: Strays, A: Allocator + Copy> PhysicalDisk<R, S, A> {
         ensures fails { (c : Content)
             → IsTold (option_and_then (content_with_links self.old.links) self.old.files) c
             → IfErr result (λ e. IsListError (list_result c path.now) e) }
-        ensures followed { (f : FileSystem) → IsHeld self.old.files f → self.old.links ≡ Followed
-            → kinds ≡ LookedUp
-            → IfOk result (λ v. AreKindsSaid f path.now (list_result f.content path.now)
+        ensures said { (f : FileSystem) → IsHeld self.old.files f → kinds ≡ LookedUp → IfOk result
+            (λ v. AreKindsSaid self.old.links f path.now (list_result f.content path.now)
             (entries_of v.items) (S.paths self.old.strays) (S.paths self.new.strays)) }
+        ensures unseen { kinds ≡ LeftOut → S.paths self.new.strays ≡ S.paths self.old.strays }
         ensures named { (f : FileSystem) → IsHeld self.old.files f → IfOk result
             (λ v. AreListedNames (list_result f.content path.now) (names_of (entries_of v.items))) }
         ensures unread { (f : FileSystem) → IsHeld self.old.files f

@@ -4,14 +4,13 @@ ghost use Rattle.glob_tree.specs.Answers.{IsListAnswer, IsListError, AreListedNa
 ghost use Rattle.glob_tree.specs.Content.{list_result, look_result};
 ghost use Rattle.glob_tree.specs.Directories.{HasEnded, names_in as names_of_bytes};
 ghost use Rattle.glob_tree.specs.FileSystems.{FileSystem, IsHeld, IsOpened, IsReceived, OpenMayFail, is_direct, strays_found};
-ghost use Rattle.glob_tree.specs.Followed.{AreKindsSaid, answer_followed};
+ghost use Rattle.glob_tree.specs.Followed.{answer_followed};
 ghost use Rattle.glob_tree.specs.Looks.{is_directory};
 ghost use Rattle.glob_tree.specs.Paths.{is_proper as is_proper_text};
-ghost use Rattle.glob_tree.specs.Private.Listing.{AreSaid, IsEntriesError, IsNameError, IsSaid, IsStrayError, are_names_taken, failing, is_dir_in as is_in, said_entries};
+ghost use Rattle.glob_tree.specs.Private.Listing.{AreAnswered, AreSaid, IsEntriesError, IsNameError, IsSaid, IsStrayError, are_names_taken, failing, is_dir_in as is_in, said_entries};
 ghost use Rattle.glob_tree.specs.Private.Looking.{AreDirect, IsSeen};
 ghost use Rattle.glob_tree.specs.Strays.{and_then, texts_of, strays_of};
 ghost use Rattle.glob_tree.specs.declared.physical.Links.{Links};
-ghost use Rattle.glob_tree.specs.declared.physical.Links.TheVariants.{Followed};
 ghost use Rattle.glob_tree.specs.declared.reading.Kinds.TheVariants.{LookedUp, LeftOut};
 
 use crate::directory::{names_in, read_directory};
@@ -64,9 +63,9 @@ pub(crate) trait Reader: Drop {
         ensures directory { (f : FileSystem) → IsSeen (links self.old) (files self.old) f
             → is_direct f path.now ≡ true
             → IfOk result (λ yes. yes ≡ is_directory (look_result f.content path.now)) }
-        ensures followed { (f : FileSystem) → IsHeld (files self.old) f
-            → is_direct f path.now ≡ true → links self.old ≡ Followed
-            → IfOk result (λ yes. IsSaid f path.now yes (paths self.old) (paths self.new)) };
+        ensures said { (f : FileSystem) → IsHeld (files self.old) f → is_direct f path.now ≡ true
+            → IfOk result (λ yes. IsSaid (receives self.old) (links self.old) f path.now yes
+            (paths self.old) (paths self.new)) };
 
     /// Receives a non-UTF-8 name, or fails because of it.
     fn receive(&mut self, directory: &str, name: &[u8]) -> Result<(), ListError>
@@ -90,10 +89,11 @@ pub(crate) fn entries<R: Reader, A: Allocator + Copy>(
     ensures entries { (f : FileSystem) → IsSeen (R.links reader.old) (R.files reader.old) f
         → kinds ≡ LookedUp → IfOk result
         (λ v. IsListAnswer (list_result f.content path.now) (entries_of v.items)) }
-    ensures followed { (f : FileSystem) → IsHeld (R.files reader.old) f
-        → R.links reader.old ≡ Followed → kinds ≡ LookedUp
-        → IfOk result (λ v. AreKindsSaid f path.now (list_result f.content path.now)
-        (entries_of v.items) (R.paths reader.old) (R.paths reader.new)) }
+    ensures said { (f : FileSystem) → IsHeld (R.files reader.old) f → kinds ≡ LookedUp
+        → IfOk result (λ v. AreAnswered (R.receives reader.old) (R.links reader.old) f path.now
+        (list_result f.content path.now) (entries_of v.items)
+        (R.paths reader.old) (R.paths reader.new)) }
+    ensures unseen { kinds ≡ LeftOut → R.paths reader.new ≡ R.paths reader.old }
     ensures left_out { kinds ≡ LeftOut
         → IfOk result (λ v. All (λ e. e.1 ≡ false) (entries_of v.items)) }
     ensures named { (f : FileSystem) → IsHeld (R.files reader.old) f → IfOk result (λ v.
@@ -105,7 +105,7 @@ pub(crate) fn entries<R: Reader, A: Allocator + Copy>(
         IsListError (answer_followed f path.now (list_result f.content path.now)
         (failing (R.receives reader.old) (strays_found f path.now))) e) }
 {
-    // With a separator at the end, so that a link there is followed.
+    // A separator at the end makes the system follow a link there.
     let mut path = join(alloc, path, "")?;
     let mut directory = reader.open(path.as_str())?;
     read_entries(reader, alloc, &mut path, kinds, &mut directory)
@@ -131,10 +131,11 @@ fn read_entries<R: Reader, A: Allocator + Copy, D: Directory>(
         → IfOk result (λ v. IfSome (D.left directory.old) (λ bytes. entries_of v.items
         ≡ said_entries (is_in f.content (string_bytes path.old))
         (texts_of (names_of_bytes bytes)))) }
-    ensures followed { (f : FileSystem) → IsHeld (R.files reader.old) f
-        → AreDirect f (string_bytes path.old) → R.links reader.old ≡ Followed → kinds ≡ LookedUp
-        → IfOk result (λ v. AreSaid f (string_bytes path.old) (entries_of v.items)
-        (R.paths reader.old) (R.paths reader.new)) }
+    ensures said { (f : FileSystem) → IsHeld (R.files reader.old) f
+        → AreDirect f (string_bytes path.old) → kinds ≡ LookedUp → IfOk result
+        (λ v. AreSaid (R.receives reader.old) (R.links reader.old) f (string_bytes path.old)
+        (entries_of v.items) (R.paths reader.old) (R.paths reader.new)) }
+    ensures unseen { kinds ≡ LeftOut → R.paths reader.new ≡ R.paths reader.old }
     ensures left_out { kinds ≡ LeftOut
         → IfOk result (λ v. All (λ e. e.1 ≡ false) (entries_of v.items)) }
     ensures fails { IfErr result (λ e. IfSome (D.left directory.old) (λ bytes.
@@ -167,10 +168,11 @@ fn named_entries<R: Reader, A: Allocator + Copy>(
         → IfOk result (λ v. entries_of v.items
         ≡ said_entries (is_in f.content (string_bytes path.old))
         (texts_of (names_of_bytes bytes.now))) }
-    ensures followed { (f : FileSystem) → IsHeld (R.files reader.old) f
-        → AreDirect f (string_bytes path.old) → R.links reader.old ≡ Followed → kinds ≡ LookedUp
-        → IfOk result (λ v. AreSaid f (string_bytes path.old) (entries_of v.items)
-        (R.paths reader.old) (R.paths reader.new)) }
+    ensures said { (f : FileSystem) → IsHeld (R.files reader.old) f
+        → AreDirect f (string_bytes path.old) → kinds ≡ LookedUp → IfOk result
+        (λ v. AreSaid (R.receives reader.old) (R.links reader.old) f (string_bytes path.old)
+        (entries_of v.items) (R.paths reader.old) (R.paths reader.new)) }
+    ensures unseen { kinds ≡ LeftOut → R.paths reader.new ≡ R.paths reader.old }
     ensures left_out { kinds ≡ LeftOut
         → IfOk result (λ v. All (λ e. e.1 ≡ false) (entries_of v.items)) }
     ensures fails { IfErr result (IsNameError
@@ -199,10 +201,11 @@ fn entries_named<R: Reader, A: Allocator + Copy>(
         → IfOk result (λ v. entries_of v.items
         ≡ said_entries (is_in f.content (string_bytes path.old))
         (texts_of (map (λ n. n.now) names.now))) }
-    ensures followed { (f : FileSystem) → IsHeld (R.files reader.old) f
-        → AreDirect f (string_bytes path.old) → R.links reader.old ≡ Followed → kinds ≡ LookedUp
-        → IfOk result (λ v. AreSaid f (string_bytes path.old) (entries_of v.items)
-        (R.paths reader.old) (R.paths reader.new)) }
+    ensures said { (f : FileSystem) → IsHeld (R.files reader.old) f
+        → AreDirect f (string_bytes path.old) → kinds ≡ LookedUp → IfOk result
+        (λ v. AreSaid (R.receives reader.old) (R.links reader.old) f (string_bytes path.old)
+        (entries_of v.items) (R.paths reader.old) (R.paths reader.new)) }
+    ensures unseen { kinds ≡ LeftOut → R.paths reader.new ≡ R.paths reader.old }
     ensures left_out { kinds ≡ LeftOut
         → IfOk result (λ v. All (λ e. e.1 ≡ false) (entries_of v.items)) }
     ensures fails { IfErr result (IsNameError
@@ -236,10 +239,12 @@ fn entry_named<R: Reader, A: Allocator + Copy>(
         → AreDirect f (string_bytes path.old) → kinds ≡ LookedUp
         → IfOk result (λ entry. entry.is_dir
         ≡ is_directory (look_result f.content (string_bytes path.old ++ name.now))) }
-    ensures followed { (f : FileSystem) → IsHeld (R.files reader.old) f
-        → AreDirect f (string_bytes path.old) → R.links reader.old ≡ Followed → kinds ≡ LookedUp
-        → IfOk result (λ entry. IsSaid f (string_bytes path.old ++ name.now) entry.is_dir
+    ensures said { (f : FileSystem) → IsHeld (R.files reader.old) f
+        → AreDirect f (string_bytes path.old) → kinds ≡ LookedUp
+        → IfOk result (λ entry. IsSaid (R.receives reader.old) (R.links reader.old) f
+        (string_bytes path.old ++ name.now) entry.is_dir
         (R.paths reader.old) (R.paths reader.new)) }
+    ensures unseen { kinds ≡ LeftOut → R.paths reader.new ≡ R.paths reader.old }
     ensures left_out { kinds ≡ LeftOut → IfOk result (λ entry. entry.is_dir ≡ false) }
     ensures fails { IfErr result (IsNameError (is_proper_text name.now)) }
 {
@@ -251,7 +256,7 @@ fn entry_named<R: Reader, A: Allocator + Copy>(
     Ok(Entry { name, is_dir })
 }
 
-/// Whether a name in a directory is reported as a directory. If kinds are left out, none is.
+/// Whether a name in a directory is reported as a directory: never if kinds are left out.
 fn is_said_dir<R: Reader, A: Allocator + Copy>(
     reader: &mut R,
     path: &mut String<A>,
@@ -267,11 +272,11 @@ fn is_said_dir<R: Reader, A: Allocator + Copy>(
         → is_direct f (string_bytes path.old ++ name.now) ≡ true → kinds ≡ LookedUp
         → IfOk result (λ yes. yes
         ≡ is_directory (look_result f.content (string_bytes path.old ++ name.now))) }
-    ensures followed { (f : FileSystem) → IsHeld (R.files reader.old) f
-        → is_direct f (string_bytes path.old ++ name.now) ≡ true
-        → R.links reader.old ≡ Followed → kinds ≡ LookedUp → IfOk result
-        (λ yes. IsSaid f (string_bytes path.old ++ name.now) yes
-        (R.paths reader.old) (R.paths reader.new)) }
+    ensures said { (f : FileSystem) → IsHeld (R.files reader.old) f
+        → is_direct f (string_bytes path.old ++ name.now) ≡ true → kinds ≡ LookedUp
+        → IfOk result (λ yes. IsSaid (R.receives reader.old) (R.links reader.old) f
+        (string_bytes path.old ++ name.now) yes (R.paths reader.old) (R.paths reader.new)) }
+    ensures unseen { kinds ≡ LeftOut → R.paths reader.new ≡ R.paths reader.old }
     ensures left_out { kinds ≡ LeftOut → IfOk result (λ yes. yes ≡ false) }
 {
     match kinds {
@@ -294,11 +299,10 @@ fn is_dir_in<R: Reader, A: Allocator + Copy>(
     ensures directory { (f : FileSystem) → IsSeen (R.links reader.old) (R.files reader.old) f
         → is_direct f (string_bytes path.old ++ name.now) ≡ true → IfOk result (λ yes. yes
         ≡ is_directory (look_result f.content (string_bytes path.old ++ name.now))) }
-    ensures followed { (f : FileSystem) → IsHeld (R.files reader.old) f
+    ensures said { (f : FileSystem) → IsHeld (R.files reader.old) f
         → is_direct f (string_bytes path.old ++ name.now) ≡ true
-        → R.links reader.old ≡ Followed → IfOk result
-        (λ yes. IsSaid f (string_bytes path.old ++ name.now) yes
-        (R.paths reader.old) (R.paths reader.new)) }
+        → IfOk result (λ yes. IsSaid (R.receives reader.old) (R.links reader.old) f
+        (string_bytes path.old ++ name.now) yes (R.paths reader.old) (R.paths reader.new)) }
 {
     let length = path.len();
     path.push_str(name)?;

@@ -1,13 +1,11 @@
 //! Receivers of what a disk leaves out or cannot learn.
-ghost use Rattle.std.specs.Prelude.{◌≡◌, ◌≢◌, ◌⊎◌, ℕ, List, Option, None, [], ◌∷◌, IfOk, IfErr, IsSome, OnOk};
+ghost use Rattle.std.specs.Prelude.{◌≡◌, ◌≢◌, ◌⊎◌, ℕ, List, Option, None, Ok, [], ◌∷◌, IfOk, IfErr, IfSome, IsSome, OnOk};
 ghost use Rattle.std.specs.IoError.{error_kind};
-ghost use Rattle.glob_tree.specs.FileSystems.{Found, IsStatAnswer};
-ghost use Rattle.glob_tree.specs.Private.Looking.{IsFoundAs};
+ghost use Rattle.std.specs.Result.{IsErrAnd};
 ghost use Rattle.glob_tree.specs.Received.{ReceivesAtMost};
 ghost use Rattle.glob_tree.specs.Strays.{and_then};
 
 use std::alloc::AllocError;
-use std::fs::Metadata;
 use std::io::{self, ErrorKind};
 
 /// Receives what a [`PhysicalDisk`](crate::PhysicalDisk) left out or could not learn. A walk over it is complete if
@@ -51,18 +49,19 @@ pub trait Strays: Drop {
 
 /// What the system says is at a path; `None` if it says that nothing is there. An allocation failure is returned as an
 /// error. Any other error goes to the strays, and the result is `None`.
-pub(crate) fn settle<S: Strays>(
+pub(crate) fn settle<S: Strays, T: Drop>(
     strays: &mut S,
     path: &str,
-    answer: io::Result<Metadata>,
-) -> Result<Option<Metadata>, AllocError>
-    ensures found { (found : Option Found) → IsStatAnswer found answer
-        → IfOk result (λ metadata. IsFoundAs found metadata) }
+    answer: io::Result<T>,
+) -> Result<Option<T>, AllocError>
+    ensures found { IfOk result (λ found. IfSome found (λ one. answer ≡ Ok one)) }
+    ensures nothing { IfOk result (λ found. found ≡ None
+        → IsErrAnd answer (λ error. error_kind error ≢ ErrorKind.OutOfMemory)) }
     ensures names { S.names strays.new ≡ S.names strays.old }
     ensures received { OnOk result
         (ReceivesAtMost path.now (S.paths strays.old) (S.paths strays.new)) }
     ensures known { OnOk answer (S.paths strays.new ≡ S.paths strays.old) }
-    ensures some { IfOk result (λ metadata. IsSome metadata
+    ensures some { IfOk result (λ found. IsSome found
         → S.paths strays.new ≡ S.paths strays.old) }
     ensures missing { IfErr answer (λ error. (error_kind error ≡ ErrorKind.NotFound)
         ⊎ (error_kind error ≡ ErrorKind.NotADirectory) → S.paths strays.new ≡ S.paths strays.old) }

@@ -5,18 +5,22 @@ ghost use Rattle.std.specs.Io.KnownBytes.{ReadConsumes};
 ghost use Rattle.std.specs.declared.io.ErrorKind.{ErrorKind};
 ghost use Rattle.glob_tree.specs.Content.{list_result};
 ghost use Rattle.glob_tree.specs.Directories.{HasEnded, ReadMayFail};
-ghost use Rattle.glob_tree.specs.FileSystems.{FileSystem, IsHeld, IsOpened, OpenMayFail, IsStatAnswer, is_direct, lstat_found, stat_found, strays_found};
+ghost use Rattle.glob_tree.specs.FileSystems.{FileSystem, IsHeld, IsLookupError, IsNumberAnswer, IsOpened, OpenMayFail, IsStatAnswer};
+ghost use Rattle.glob_tree.specs.FileSystems.{is_direct, is_lost, is_target_lost, lstat_found, number_found, stat_found, strays_found};
 
+use crate::directory_id::DirectoryId;
 use std::fs::{Files, Metadata};
 use std::io::{self, Read};
+use std::os::unix::fs::MetadataExt;
 
-/// The calls of a system: what is at a path, and which names a directory has. `HostRuntime` is the real one; nothing is
-/// known of what it holds.
+/// The calls of a system: what is at a path, and which names a directory has. `HostRuntime` is the real system;
+/// contracts know nothing about what it holds.
 ///
 /// What contracts see of a system is the file system that it holds, if that is known. It then never changes, and each
-/// call answers for paths of any length. If something is there, `lstat` fails only if memory runs out, with an error of
-/// the kind `OutOfMemory`; so does `stat`, unless a link there points nowhere, and `open`, unless it is no directory
-/// that can be listed. Nothing is promised for a path that goes on behind a symbolic link to a directory.
+/// call answers for paths of any length. If memory runs out, the error's kind is `OutOfMemory`. Otherwise `lstat` fails
+/// only if nothing is there or it cannot be looked up, `stat` also if a link there points to no such thing, and `open`
+/// if it is no directory that can be listed. Nothing is promised for a path that goes on behind a symbolic link to a
+/// directory, or to what cannot be looked up.
 ///
 /// In a file system with a directory `a`, a file `a/b` and a symbolic link `l` to it, `lstat("l")` returns the metadata
 /// of a symbolic link and `stat("l")` that of a file, `lstat("a/c")` fails, and `open("a")` gives the bytes `b\0` to
@@ -29,17 +33,33 @@ pub trait System: Drop {
 
     /// The metadata of what is at a path; for a symbolic link, of the link itself.
     ///
-    /// It fails with any error if nothing is there.
+    /// If nothing is there, the error is `NotFound` or `NotADirectory`. If that cannot be known, such as in a directory
+    /// that may not be searched, it is another error.
     fn lstat(&self, path: &str) -> io::Result<Metadata>
         ensures found { (f : FileSystem) → IsHeld (holds self.now) f → is_direct f path.now ≡ true
-            → IsStatAnswer (lstat_found f path.now) result };
+            → IsStatAnswer (lstat_found f path.now) result }
+        ensures fails { (f : FileSystem) → IsHeld (holds self.now) f → is_direct f path.now ≡ true
+            → IfErr result (IsLookupError (is_lost f path.now)) };
 
     /// The metadata of what is at a path; for a symbolic link, of what it points to.
     ///
-    /// It fails with any error if nothing is there, or a symbolic link that points nowhere.
+    /// If nothing is there, or a symbolic link that points nowhere, the error is `NotFound` or `NotADirectory`. If that
+    /// cannot be known, such as for a cycle of links, it is another error.
     fn stat(&self, path: &str) -> io::Result<Metadata>
         ensures found { (f : FileSystem) → IsHeld (holds self.now) f → is_direct f path.now ≡ true
-            → IsStatAnswer (stat_found f path.now) result };
+            → IsStatAnswer (stat_found f path.now) result }
+        ensures fails { (f : FileSystem) → IsHeld (holds self.now) f → is_direct f path.now ≡ true
+            → IfErr result (IsLookupError (is_target_lost f path.now)) };
+
+    /// The number of the directory that [`stat`](System::stat) finds at a path; `None` if it finds something other than
+    /// a directory.
+    ///
+    /// It fails where and as `stat` does.
+    fn directory_id(&self, path: &str) -> io::Result<Option<DirectoryId>>
+        ensures number { (f : FileSystem) → IsHeld (holds self.now) f → is_direct f path.now ≡ true
+            → IsNumberAnswer (stat_found f path.now) (number_found f path.now) result }
+        ensures fails { (f : FileSystem) → IsHeld (holds self.now) f → is_direct f path.now ≡ true
+            → IfErr result (IsLookupError (is_target_lost f path.now)) };
 
     /// Opens the directory at a path.
     ///
@@ -66,7 +86,7 @@ pub trait Directory: Drop {
     /// empty. A directory with the names `a` and `b` may be read as `a\0b`, `\0`, and the end.
     ///
     /// If its bytes are known, a read fails only if memory runs out, with an error of the kind `OutOfMemory`, or after
-    /// the last byte of a directory whose reading fails, with an error of that kind.
+    /// the last byte, with the kind of error in which reading this directory ends.
     fn read(&mut self, block: &mut [u8]) -> io::Result<usize>
         ensures bound { ReadsAtMost result block.new }
         ensures bytes { ReadConsumes (left self.old) (left self.new) result block.new }
@@ -77,7 +97,7 @@ pub trait Directory: Drop {
 }
 
 /// The system that any [`Files`] reaches, such as a runtime of your own, or the real one with an allocator. Contracts
-/// know nothing of what it holds.
+/// know nothing about what it holds.
 ///
 /// ```text
 /// let disk = Disk::new(FilesSystem { files: rt }, alloc);    // a tree of the files that `rt` reaches
@@ -89,7 +109,7 @@ pub struct FilesSystem<F: Files + Drop> {
     pub files: F,
 }
 
-/// That these calls do what [`System`] says is believed, not proved.
+/// It is believed, not proved, that these calls do what [`System`] says.
 impl<F: Files + Drop> System for FilesSystem<F> {
     type Dir = FilesDirectory<F>;
 
@@ -101,6 +121,15 @@ impl<F: Files + Drop> System for FilesSystem<F> {
 
     fn stat(&self, path: &str) -> io::Result<Metadata> {
         self.files.metadata(path)
+    }
+
+    fn directory_id(&self, path: &str) -> io::Result<Option<DirectoryId>> {
+        let found = self.files.metadata(path)?;
+        if !found.is_dir() {
+            return Ok(None);
+        }
+        let (dev, ino) = (found.dev(), found.ino());
+        Ok(Some(DirectoryId { dev, ino }))
     }
 
     fn open(&self, path: &str) -> io::Result<FilesDirectory<F>> {
@@ -137,6 +166,10 @@ impl System for HostRuntime {
 
     fn stat(&self, path: &str) -> io::Result<Metadata> {
         FilesSystem { files: *self }.stat(path)
+    }
+
+    fn directory_id(&self, path: &str) -> io::Result<Option<DirectoryId>> {
+        FilesSystem { files: *self }.directory_id(path)
     }
 
     fn open(&self, path: &str) -> io::Result<OpenDirectory> {

@@ -45,7 +45,7 @@ pub struct Entry<A: Allocator = Global> {
 
 /// Why a listing failed. For a file in a tree in memory it is `Read`, with an I/O error of the kind `NotADirectory`.
 ///
-/// `Read` prints as its I/O error does, which no clause describes, and `Memory` prints as `out of memory`.
+/// `Read` prints like its I/O error, which no clause describes, and `Memory` prints `out of memory`.
 #[derive(Debug, Drop)]
 pub enum ListError {
     /// The directory cannot be read, or the path does not lead to one, for this reason.
@@ -110,11 +110,11 @@ impl From<io::Error> for ListError {
 ///
 /// Contracts see two things of a tree:
 ///
-/// - `tells` is its content, if it is known: what is at each key, and the current directory. Each answer is then that
-///   of the content, apart from allocation failures, and no call changes the content. If a path does not lead to a
+/// - `tells` is its content, if it is known: what is at each key, and the current directory. Each answer is then the
+///   content's, apart from allocation failures, and no call changes the content. If a path does not lead to a
 ///   directory, a listing may return any entries and any error. If `tells` is `None`, any answer may come.
-/// - `asks` counts what was asked: one for each `look`; and for each `list` or `list_names` one, plus one for each
-///   entry that it returns. A tree keeps the count in a field of type [`Asks`](crate::Asks).
+/// - `asks` counts what was asked: one for each `look`, one for each `list` or `list_names`, and one for each entry
+///   that these return. A tree keeps the count in a field of type [`Asks`](crate::Asks).
 ///
 /// For a tree in memory, `tree.look("/")` returns `Look::Dir`, and raises its `asks` by one.
 pub trait Tree: Drop {
@@ -150,8 +150,8 @@ pub trait Tree: Drop {
         ensures fails { (c : Content) → IsTold (tells self.old) c
             → IfErr result (λ e. IsListError (list_result c path.now) e) };
 
-    /// As [`list`](Tree::list), for callers that need only the names: `is_dir` may be `false` for any entry. A tree
-    /// that would have to find out what each entry is can skip that here.
+    /// Like [`list`](Tree::list), for callers that need only the names: `is_dir` may be `false` for any entry. A tree
+    /// that would have to find out the kind of each entry can skip that here.
     ///
     /// For a directory with the directory `a` and the file `b` it returns the names `a` and `b`. The errors are those
     /// of [`list`](Tree::list), which is the provided body.

@@ -20,7 +20,7 @@ Contains-cases x xs y (suc k, h, e) = inr (k, omega (arith, h), e)
 pub Contains-nil : {X : Type 0} (y : X) → Contains [] y → ⊥
 Contains-nil y (k, h, e) = omega (arith, h)
 
--- what holds of each contained element holds of all
+-- what holds for each contained element holds for all
 pub All-from_contains : {X : Type 0} (P : X → Type 0) (xs : List X) → ((x : X) → Contains xs x → P x) → All P xs
 All-from_contains P [] h = All-nil P
 All-from_contains P (x ∷ xs) h = All-cons P x xs (h x (Contains-head x xs)) (All-from_contains P xs

@@ -72,7 +72,7 @@ sorted_map {X} f key (x ∷ xs) up k d low high =
     ∙ ap (λ y. is_lt (slice_cmp nat_cmp (key (f (get_or (x ∷ xs) (k + 1) x))) (key y))) first
     ∙ up k x low within
 
--- Distinct names have one sorted order: that of the entries in ascending order.
+-- Distinct names have one sorted order: the order of the entries in ascending order.
 pub names_in_order : (es fs : List DirEntry) → AreApart es → IsPermutation (names_of es) (names_of fs) → IsSortedByKey
     (λ e. e.0) (slice_cmp nat_cmp) fs
     → names_of fs ≡ names_of (sorted_entries es)

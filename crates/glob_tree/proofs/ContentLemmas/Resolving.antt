@@ -24,7 +24,7 @@ cut_more false c (p ∷ ps) qs h = refl
 pub pieces_some : (path : Text) → 0 < length (pieces path)
 pieces_some path = omega (arith, length-slice_split (λ c. c == slash) path)
 
--- a separator divides the pieces before it from those after it
+-- a separator divides the pieces before it from the pieces after it
 pub pieces-append : (path more : Text) → pieces (path ++ slash ∷ more) ≡ pieces path ++ pieces more
 pieces-append [] more = refl
 pieces-append (c ∷ cs) more =
@@ -115,7 +115,7 @@ resolve_ended c front name k h plain =
     ∙ resolve_after c front name plain
     ∙ ap (option_and_then (step c name)) (was ∙ ap Some (step_stays c [] m k refl leads).0))
 
--- a path that does not end in one
+-- a path that does not end in a separator
 resolve_open : (c : Content) (path name : Text) (k : Key) → resolve c path ≡ Some k → has_no_slash name ≡ true
     → resolve c ((path ++ slash ∷ []) ++ name) ≡ step c name k
 resolve_open c path name k h plain =
@@ -199,7 +199,7 @@ join_empty : join [] [] ≡ []
 unfolding join
 join_empty = refl
 
--- a path that leads nowhere still does with a separator at its end
+-- a path that leads nowhere still leads nowhere with a separator at its end
 pub resolve_join_none : (c : Content) (path : Text) → resolve c path ≡ None → resolve c (join path []) ≡ None
 resolve_join_none c [] h = ap (resolve c) join_empty ∙ h
 resolve_join_none c (x ∷ xs) h = by_end (ends_with slash (x ∷ xs)) refl

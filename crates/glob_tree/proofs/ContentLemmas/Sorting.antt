@@ -68,7 +68,7 @@ sorted_entries-contains (e ∷ es) x h = insert_entry-contains e (sorted_entries
 abbrev Before : DirEntry → DirEntry → Type 0
 Before e f = slice_cmp nat_cmp e.0 f.0 ≡ Less
 
--- each entry is before those after it
+-- each entry is before the entries after it
 abbrev pub IsRising : List DirEntry → Type 0
 IsRising [] = ⊤
 IsRising (e ∷ es) = ((f : DirEntry) → Contains es f → Before e f) × IsRising es

@@ -21,7 +21,7 @@ module _ (entries : List (Key × Kind)) (all : Option Key) where
       let there = subst (λ o. Leads entries o (step c piece (key_numbered entries n))) is leads in
       (there.1, on ∙ ap (steps c (Some (key_numbered entries n))) first ∙ ap (λ o. steps c o ys) (sym there.0))
 
-  -- they lead nowhere if the first one does
+  -- they lead nowhere if the first piece does
   pub follows_none : (n : ℕ) (piece : Text) (r : Option ℕ) (rest ys : List Text) → all ≡ steps c
       (Some (key_numbered entries n)) rest → rest ≡ piece ∷ ys
       → Leads entries r (step c piece (key_numbered entries n)) → r ≡ None → all ≡ None
@@ -35,7 +35,7 @@ pub steps_any : (entries : List (Key × Kind)) (m n : Key) (o : Option Key) (ps 
 unfolding kind_at
 steps_any entries m n o ps = refl
 
--- where a path leads that is not empty
+-- where a nonempty path leads
 pub resolve_from : (entries : List (Key × Kind)) (current start : ℕ) (path : Text) → 0 < length path
     → (key_numbered entries start) ≡ origin (content_at entries current) path
     → resolve (content_at entries current) path ≡ steps (rooted_content entries) (Some (key_numbered entries start)) (pieces path)

@@ -1,4 +1,4 @@
--- What is read of nodes by number.
+-- What is read from nodes by number.
 use Rattle.std.proofs.Common.{◌≡◌, ℕ, zero, suc, ◌+◌, ◌-◌, ◌<◌, ◌≤◌, List, [], ◌∷◌, ◌++◌, length, Option, Some, None}
 use Rattle.std.proofs.Common.{refl, ap, sym, subst, ◌∙◌, arith, Bor}
 use Rattle.std.specs.Prelude.{MatchOption, slice_index_or, position, Contains, Bool, true, false, cond, is_some, nat_lt}
@@ -53,7 +53,7 @@ no_child [] = refl
 no_child (n ∷ k) = refl
 
 module _ {A : Type 0} (nodes : List (Node A)) (entries : List (Key × Kind)) (are : AreNodes nodes entries) where
-  -- what `get` returns of the nodes
+  -- what `get` returns for the nodes
   pub IsNode-from_get : (xs : List (Node A)) → xs ≡ nodes → (number : ℕ) → (number ≡ 0 → ⊥) → number < length entries →
       (r : Option (Bor (Node A)))
       → MatchOption r (length xs ≤ number - 1) (λ x. (number - 1 < length xs) × HoldsAt (λ y. x.now ≡ y) xs

@@ -11,7 +11,7 @@ error_or e (Err other) = other
 pub error_is : {E : Type 0} (found : Option ℕ) (e x : E) → ok_or found e ≡ Err x → found ≡ None → x ≡ e
 error_is found e x is none = sym (ap (error_or e) is) ∙ ap (λ f. error_or e (ok_or f e)) none
 
--- what holds of the error holds of the result that has it
+-- what holds for the error holds for the result that has it
 pub refused_by : {T E : Type 0} (P : T → Type 0) (Q : E → Type 0) (answer : Result T E) (e : E)
     → IsErrAnd answer (λ x. x ≡ e) → Q e → MatchResult answer P Q
 refused_by P Q (Ok y) e is so = elim is [ ]
@@ -21,7 +21,7 @@ pub fails_by : {T E : Type 0} (Q : E → Type 0) (answer : Result T E) (e : E) �
 fails_by Q (Ok y) e is so = elim is [ ]
 fails_by Q (Err x) e is so = subst Q (sym is) so
 
--- what holds of the search holds of the result that `ok_or` makes of it
+-- what holds for the search holds for the result that `ok_or` makes from it
 pub answered : {E N : Type 0} {S : ℕ → Type 0} (P : ℕ → Type 0) (Q : E → Type 0) (found : Option ℕ) (e : E)
     → MatchOption found N S → (N → Q e) → ((n : ℕ) → S n → P n) → MatchResult (ok_or found e) P Q
 answered P Q None e is refused some = refused is

@@ -92,14 +92,14 @@ module _ (f : FileSystem) (w : is_content f.content ≡ true) (path buffer : Tex
     unopened_taken true (Err made) is = as_received f path made (kept_unopened f w path e made fault_join is)
     unopened_taken false (Err made) is = followed_unopened f w path e made fault_join is
 
--- what holds of the answers with links followed holds of those of the content, if that is known
+-- what holds for the answers with links followed holds for the content's answers, if the content is known
 pub of_content : (files : Option FileSystem) (c : Content) → IsTold (option_and_then followed files) c
     → (path : Text) (P : ListAnswer → Type 0)
     → ((f : FileSystem) → IsHeld files f → P (list_followed f path)) → P (list_result c path)
 of_content files c told path P of =
     let is = Follows-from_told files c told in
     subst (λ d. P (list_result d path)) is.same
-    (subst P (list_followed-plain is.f is.held.1 is.no_links is.no_strays path) (of is.f is.held))
+    (subst P (list_followed-plain is.f is.held.1 is.no_links is.no_strays is.no_hidden path) (of is.f is.held))
 
 pub look_of_content : (files : Option FileSystem) (c : Content) → IsTold (option_and_then followed files) c
     → (path : Text) (P : Look → Type 0)
@@ -107,4 +107,4 @@ pub look_of_content : (files : Option FileSystem) (c : Content) → IsTold (opti
 look_of_content files c told path P of =
     let is = Follows-from_told files c told in
     subst (λ d. P (look_result d path)) is.same
-    (subst P (look_followed-plain is.f is.no_links path) (of is.f is.held (is_direct-from_links is.f is.no_links path)))
+    (subst P (look_followed-plain is.f is.no_links is.no_hidden path) (of is.f is.held (is_direct-from_links is.f is.no_links path)))

@@ -13,16 +13,17 @@ use Rattle.glob_text.specs.Pieces.{pieces}
 use Rattle.glob_text.specs.Text.{Text}
 use Rattle.glob_tree.specs.Answers.{IsTold}
 use Rattle.glob_tree.specs.Content.{Content, Key, same_key, is_content, kind_at, is_dir_at, step, origin, resolve, look_of, look_result}
-use Rattle.glob_tree.specs.FileSystems.{FileSystem, Target, Nowhere, AFile, ADirectory, is_a_directory, IsHeld}
+use Rattle.glob_tree.specs.FileSystems.{FileSystem, Target, Nowhere, AFile, ADirectory, Unknown, may_be_directory, IsHeld}
 use Rattle.glob_tree.specs.FileSystems.{target_at, Found, Directory, Symlink, File, lstat_reports, stat_reports}
 use Rattle.glob_tree.specs.FileSystems.{lstat_at, stat_at, lstat_found, stat_found, IsStatAnswer, is_directory_link}
-use Rattle.glob_tree.specs.FileSystems.{passes_link, is_direct, has_directory_links}
+use Rattle.glob_tree.specs.FileSystems.{passes_link, is_direct, has_directory_links, has_hidden}
 use Rattle.glob_tree.specs.Followed.{look_found, look_through, look_followed, is_found_directory, has_strays, followed}
 use Rattle.glob_tree.specs.Looks.{is_directory}
 use Rattle.glob_tree.specs.declared.kind.Kind.{Kind}
 use Rattle.glob_tree.specs.declared.kind.Kind.TheVariants.{Dir, Shut, Other}
 use Rattle.glob_tree.specs.declared.tree.Look.{Look}
 use Rattle.glob_tree.specs.declared.tree.Look.TheVariants as look
+use Rattle.glob_tree.proofs.SystemLemmas.Losing.{lstat_seen, never_lost, stat_seen}
 
 -- the files are known, no symbolic link points to a directory, and each name is UTF-8
 pub record Follows (files : Option FileSystem) (c : Content) : Type 0 where
@@ -31,64 +32,69 @@ pub record Follows (files : Option FileSystem) (c : Content) : Type 0 where
   pub same : f.content ≡ c
   pub no_links : has_directory_links f ≡ false
   pub no_strays : has_strays f.strays ≡ false
+  pub no_hidden : has_hidden f.hidden ≡ false
 
 pub Follows-from_told : (files : Option FileSystem) (c : Content) → IsTold (option_and_then followed files) c → Follows files c
 Follows-from_told None c told = absurd (none-some c told.0)
-Follows-from_told (Some f) c told = by_test (has_strays f.strays) (has_directory_links f) refl refl told.0
+Follows-from_told (Some f) c told =
+    by_test (has_strays f.strays) (has_directory_links f) (has_hidden f.hidden) refl refl refl told.0
   where
-    by_test : (strays links : Bool) → has_strays f.strays ≡ strays → has_directory_links f ≡ links
-        → cond strays None (cond links None (Some f.content)) ≡ Some c → Follows (Some f) c
-    by_test true links d e h = absurd (none-some c h)
-    by_test false true d e h = absurd (none-some c h)
-    by_test false false d e h =
+    by_test : (strays links hidden : Bool) → has_strays f.strays ≡ strays → has_directory_links f ≡ links
+        → has_hidden f.hidden ≡ hidden
+        → cond strays None (cond links None (cond hidden None (Some f.content))) ≡ Some c → Follows (Some f) c
+    by_test true links hidden d e g h = absurd (none-some c h)
+    by_test false true hidden d e g h = absurd (none-some c h)
+    by_test false false true d e g h = absurd (none-some c h)
+    by_test false false false d e g h =
         let same = same_Some f.content c h in
-        record { f = f; held = (refl, ap is_content same ∙ told.1); same = same; no_links = e; no_strays = d }
+        record { f = f; held = (refl, ap is_content same ∙ told.1); same = same; no_links = e; no_strays = d; no_hidden = g }
 
 and_no : (a b : Bool) → b ≡ false → (a && b) ≡ false
 and_no true b h = h
 and_no false b h = refl
 
-no_link_at : (k : Key) (links : List (Key × Target)) → list_any (λ e. is_a_directory e.1) links ≡ false → list_any
-    (λ e. same_key k e.0 && is_a_directory e.1) links ≡ false
+no_link_at : (k : Key) (links : List (Key × Target)) → list_any (λ e. may_be_directory e.1) links ≡ false → list_any
+    (λ e. same_key k e.0 && may_be_directory e.1) links ≡ false
 no_link_at k [] non = refl
 no_link_at k (e ∷ es) non =
-    let parts = or_parts (is_a_directory e.1) (list_any (λ g. is_a_directory g.1) es) non in
-    or_from (same_key k e.0 && is_a_directory e.1) (list_any (λ g. same_key k g.0 && is_a_directory g.1) es)
-    (and_no (same_key k e.0) (is_a_directory e.1) parts.0) (no_link_at k es parts.1)
+    let parts = or_parts (may_be_directory e.1) (list_any (λ g. may_be_directory g.1) es) non in
+    or_from (same_key k e.0 && may_be_directory e.1) (list_any (λ g. same_key k g.0 && may_be_directory g.1) es)
+    (and_no (same_key k e.0) (may_be_directory e.1) parts.0) (no_link_at k es parts.1)
 
-no_link_passed : (f : FileSystem) → list_any (λ e. is_a_directory e.1) f.links ≡ false → (at : Option Key)
+no_link_passed : (f : FileSystem) → list_any (λ e. may_be_directory e.1) f.links ≡ false → (at : Option Key)
     (ps : List Text) → passes_link f at ps ≡ false
 no_link_passed f non None ps = refl
 no_link_passed f non (Some k) [] = refl
 no_link_passed f non (Some k) (p ∷ ps) =
     or_from (is_directory_link f k) (passes_link f (step f.content p k) ps)
-    (and_no (not (is_dir_at f.content k)) (list_any (λ e. same_key k e.0 && is_a_directory e.1) f.links)
+    (and_no (not (is_dir_at f.content k)) (list_any (λ e. same_key k e.0 && may_be_directory e.1) f.links)
     (no_link_at k f.links non)) (no_link_passed f non (step f.content p k) ps)
 
 -- without symbolic links to directories, each path is direct
-pub is_direct-from_links : (f : FileSystem) → list_any (λ e. is_a_directory e.1) f.links ≡ false → (path : Text) → is_direct f path ≡ true
+pub is_direct-from_links : (f : FileSystem) → list_any (λ e. may_be_directory e.1) f.links ≡ false → (path : Text) → is_direct f path ≡ true
 unfolding is_direct
 is_direct-from_links f non path =
     not_from_false (passes_link f (Some (origin f.content path)) (pieces path)) (no_link_passed f non
     (Some (origin f.content path)) (pieces path))
 
-pub no_target : (k : Key) (links : List (Key × Target)) → list_any (λ e. is_a_directory e.1) links ≡ false → option_map
+pub no_target : (k : Key) (links : List (Key × Target)) → list_any (λ e. may_be_directory e.1) links ≡ false → option_map
     (λ e. e.1) (find (λ e. same_key k e.0) links) ≡ Some ADirectory → ⊥
 no_target k [] non h = none-some ADirectory h
 no_target k (e ∷ es) non h =
-    let parts = or_parts (is_a_directory e.1) (list_any (λ g. is_a_directory g.1) es) non in
+    let parts = or_parts (may_be_directory e.1) (list_any (λ g. may_be_directory g.1) es) non in
     by_test (same_key k e.0) h parts.0 (no_target k es parts.1)
   where
     by_test : (b : Bool) → option_map (λ g. g.1) (cond b (Some e) (find (λ g. same_key k g.0) es)) ≡ Some ADirectory
-        → is_a_directory e.1 ≡ false
+        → may_be_directory e.1 ≡ false
         → (option_map (λ g. g.1) (find (λ g. same_key k g.0) es) ≡ Some ADirectory → ⊥) → ⊥
-    by_test true h non further = both_ways (is_a_directory e.1) non (ap is_a_directory (same_Some e.1 ADirectory h))
+    by_test true h non further = both_ways (may_be_directory e.1) non (ap may_be_directory (same_Some e.1 ADirectory h))
     by_test false h non further = further h
 
--- what `lstat` finds gives the look
-pub lstat_look : (f : FileSystem) (path : Text) → look_found look.Missing (lstat_found f path) ≡ look_result f.content path
-unfolding lstat_found look_result
-lstat_look f path = at_key (resolve f.content path)
+-- what `lstat` finds gives the look, if no file is hidden
+pub lstat_look : (f : FileSystem) → has_hidden f.hidden ≡ false → (path : Text)
+    → look_found look.Missing (lstat_found f path) ≡ look_result f.content path
+unfolding look_result
+lstat_look f bare path = ap (look_found look.Missing) (lstat_seen f path (never_lost f bare path)) ∙ at_key (resolve f.content path)
   where
     at_target : (t : Option Target) → look_found look.Missing (Some (lstat_reports Other t)) ≡ look.Other
     at_target None = refl
@@ -105,16 +111,20 @@ lstat_look f path = at_key (resolve f.content path)
     at_key (Some k) = at_kind k (kind_at f.content k)
 
 -- for a symbolic link, what `stat` finds gives the look, unless the link points to a directory
-pub stat_look : (f : FileSystem) → list_any (λ e. is_a_directory e.1) f.links ≡ false → (path : Text) → lstat_found f path ≡ Some Symlink
+pub stat_look : (f : FileSystem) → list_any (λ e. may_be_directory e.1) f.links ≡ false → has_hidden f.hidden ≡ false
+    → (path : Text) → lstat_found f path ≡ Some Symlink
     → look_found look.Other (stat_found f path) ≡ look_result f.content path
-unfolding lstat_found stat_found look_result
-stat_look f non path h = at_key (resolve f.content path) h
+unfolding look_result
+stat_look f non bare path h =
+    let seen = never_lost f bare path in
+    ap (look_found look.Other) (stat_seen f path seen) ∙ at_key (resolve f.content path) (sym (lstat_seen f path seen) ∙ h)
   where
     at_target : (k : Key) (t : Option Target) → target_at f k ≡ t → look_found look.Other (stat_reports Other t) ≡ look.Other
     at_target k None is = refl
     at_target k (Some Nowhere) is = refl
     at_target k (Some AFile) is = refl
     at_target k (Some ADirectory) is = absurd (no_target k f.links non is)
+    at_target k (Some Unknown) is = refl
 
     at_kind : (k : Key) (o : Option Kind) → option_map (λ kind. lstat_reports kind (target_at f k)) o ≡ Some Symlink
         → look_found look.Other (option_and_then (λ kind. stat_reports kind (target_at f k)) o) ≡ look_of o
@@ -128,17 +138,19 @@ stat_look f non path h = at_key (resolve f.content path) h
     at_key None h = absurd (none-some Symlink h)
     at_key (Some k) h = at_kind k (kind_at f.content k) h
 
--- what `stat` finds says whether a directory is at a path, if no symbolic link points to one
-pub stat_directory : (f : FileSystem) → list_any (λ e. is_a_directory e.1) f.links ≡ false → (path : Text)
+-- what `stat` finds says whether a directory is at a path, if no symbolic link points to one and no file is hidden
+pub stat_directory : (f : FileSystem) → list_any (λ e. may_be_directory e.1) f.links ≡ false → has_hidden f.hidden ≡ false → (path : Text)
     → is_directory (look_found look.Missing (stat_found f path)) ≡ is_directory (look_result f.content path)
-unfolding stat_found look_result
-stat_directory f non path = at_key (resolve f.content path)
+unfolding look_result
+stat_directory f non bare path =
+    ap (λ o. is_directory (look_found look.Missing o)) (stat_seen f path (never_lost f bare path)) ∙ at_key (resolve f.content path)
   where
     at_target : (k : Key) (t : Option Target) → target_at f k ≡ t → is_directory (look_found look.Missing (stat_reports Other t)) ≡ false
     at_target k None is = refl
     at_target k (Some Nowhere) is = refl
     at_target k (Some AFile) is = refl
     at_target k (Some ADirectory) is = absurd (no_target k f.links non is)
+    at_target k (Some Unknown) is = refl
 
     at_kind : (k : Key) (o : Option Kind) → is_directory (look_found look.Missing (option_and_then
         (λ kind. stat_reports kind (target_at f k)) o)) ≡ is_directory (look_of o)
@@ -183,22 +195,22 @@ found_looked (Some Directory) = refl
 found_looked (Some Symlink) = refl
 found_looked (Some File) = refl
 
--- without symbolic links to directories, following links changes no look
-pub look_followed-plain : (f : FileSystem) → has_directory_links f ≡ false → (path : Text)
+-- without symbolic links to directories and hidden files, following links changes no look
+pub look_followed-plain : (f : FileSystem) → has_directory_links f ≡ false → has_hidden f.hidden ≡ false → (path : Text)
     → look_followed f path ≡ look_result f.content path
 unfolding look_followed
-look_followed-plain f non path = by_here (lstat_found f path) refl
+look_followed-plain f non bare path = by_here (lstat_found f path) refl
   where
     by_here : (o : Option Found) → lstat_found f path ≡ o → look_through o (stat_found f path) ≡ look_result f.content path
-    by_here None is = ap (look_found look.Missing) (sym is) ∙ lstat_look f path
-    by_here (Some Directory) is = ap (look_found look.Missing) (sym is) ∙ lstat_look f path
-    by_here (Some Symlink) is = stat_look f non path is
-    by_here (Some File) is = ap (look_found look.Missing) (sym is) ∙ lstat_look f path
+    by_here None is = ap (look_found look.Missing) (sym is) ∙ lstat_look f bare path
+    by_here (Some Directory) is = ap (look_found look.Missing) (sym is) ∙ lstat_look f bare path
+    by_here (Some Symlink) is = stat_look f non bare path is
+    by_here (Some File) is = ap (look_found look.Missing) (sym is) ∙ lstat_look f bare path
 
 -- and `stat` finds exactly the directories
-pub stat_looked : (f : FileSystem) → has_directory_links f ≡ false → (path : Text)
+pub stat_looked : (f : FileSystem) → has_directory_links f ≡ false → has_hidden f.hidden ≡ false → (path : Text)
     → is_found_directory (stat_found f path) ≡ is_directory (look_result f.content path)
-stat_looked f non path = found_looked (stat_found f path) ∙ stat_directory f non path
+stat_looked f non bare path = found_looked (stat_found f path) ∙ stat_directory f non bare path
 
 is_missing : Look → Bool
 is_missing look.Dir = false

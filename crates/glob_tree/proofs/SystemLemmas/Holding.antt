@@ -1,13 +1,13 @@
 -- A system that holds the files of a tree in memory.
-use Rattle.std.proofs.Common.{◌≡◌, ℕ, true, false, not, cond, ◌&&◌, ◌+◌, ◌<◌, List, [], ◌∷◌, ◌++◌, length, take, Option}
+use Rattle.std.proofs.Common.{◌≡◌, ℕ, Bool, true, false, not, cond, ◌&&◌, ◌+◌, ◌<◌, List, [], ◌∷◌, ◌++◌, length, take, Option}
 use Rattle.std.proofs.Common.{Some, None, Result, refl, ap, sym, subst, ◌∙◌}
-use Rattle.std.specs.Prelude.{All, ◌==◌, IsPermutation, slice_index_or, bytes_eq, option_and_then}
+use Rattle.std.specs.Prelude.{All, IfErr, ◌==◌, IsPermutation, slice_index_or, bytes_eq, option_and_then, option_map, unwrap_or}
 use Rattle.std.specs.List.{filter, list_any, list_all, slice_split}
 use Rattle.std.specs.Path.{parent_dir}
 use Rattle.std.specs.Str.{is_utf8}
 use Rattle.std.specs.declared.fs.attrs.Metadata.{Metadata}
 use Rattle.std.specs.declared.io.Error.{Error}
-use Rattle.std.proofs.lemmas.Bool.{and_parts, not-true, or_parts}
+use Rattle.std.proofs.lemmas.Bool.{and_parts, not-true, or_from, or_parts}
 use Rattle.std.proofs.lemmas.List.Elements.{All-nil, All-cons}
 use Rattle.std.proofs.lemmas.List.Sorted.{IsPermutation-refl}
 use Rattle.std.proofs.lemmas.List.Splits.{slice_split_at}
@@ -20,21 +20,30 @@ use Rattle.glob_tree.specs.Content.{Content, Key, is_content, kind_at, resolve, 
 use Rattle.glob_tree.specs.Directories.{is_listed, names_in}
 use Rattle.glob_tree.specs.FileSystems.{FileSystem, IsHeld, IsOpened, IsStatAnswer, lstat_at, stat_at, lstat_found}
 use Rattle.glob_tree.specs.FileSystems.{stat_found, plain_files, strays_at, strays_found}
+use Rattle.glob_tree.specs.FileSystems.{IsLookupError, IsNumberAnswer, has_hidden, is_lost, is_other, is_target_lost}
+use Rattle.glob_tree.specs.FileSystems.{is_unknown, is_unknown_at, no_number, number_at, number_found, target_at}
 use Rattle.glob_tree.specs.Paths.{is_barred, is_proper, nul, stays}
 use Rattle.glob_tree.specs.Private.Listing.{are_text_names, found_by, is_text_name, name_bytes}
 use Rattle.glob_tree.specs.Strays.{texts_of, strays_of}
+use Rattle.glob_tree.specs.declared.directory_id.DirectoryId.{DirectoryId}
 use Rattle.glob_tree.specs.declared.kind.Kind.{Kind}
 use Rattle.glob_tree.specs.declared.kind.Kind.TheVariants.{Dir, Shut, Other}
 use Rattle.glob_tree.specs.declared.tree.Entry.{Entry}
 use Rattle.glob_tree.proofs.StraysLemmas.{names_more}
 use Rattle.glob_tree.proofs.SystemLemmas.Listing.{texts_read}
+use Rattle.glob_tree.proofs.SystemLemmas.Losing.{lstat_seen, never_lost, stat_seen}
 use Rattle.glob_tree.proofs.SystemLemmas.Naming.{no_strays, texts_same}
 
 -- without links, `lstat` and `stat` find the same
 pub plain_found : (c : Content) (path : Text)
     → (found_by (look_result c path) ≡ lstat_found (plain_files c) path) × (found_by (look_result c path) ≡ stat_found (plain_files c) path)
-unfolding lstat_found stat_found look_result
-plain_found c path = at_key (resolve c path)
+unfolding look_result
+plain_found c path =
+    let seen = never_lost (plain_files c) refl path in
+    let both = at_key (resolve c path) in (
+      both.0 ∙ sym (lstat_seen (plain_files c) path seen),
+      both.1 ∙ sym (stat_seen (plain_files c) path seen),
+    )
   where
     at_kind : (k : Key) (o : Option Kind) → kind_at c k ≡ o
         → (found_by (look_of (kind_at c k)) ≡ lstat_at (plain_files c) k) × (found_by (look_of (kind_at c k)) ≡ stat_at (plain_files c) k)
@@ -104,6 +113,50 @@ pub found_held : (c : Content) (f : FileSystem) → Some (plain_files c) ≡ Som
 found_held c f held path r is =
     subst (λ g. IsStatAnswer (lstat_found g path) r × IsStatAnswer (stat_found g path) r) (same_Some (plain_files c) f held)
     (subst (λ o. IsStatAnswer o r) (plain_found c path).0 is, subst (λ o. IsStatAnswer o r) (plain_found c path).1 is)
+
+-- no directory of the tree has a number
+pub number_held : (c : Content) (f : FileSystem) → Some (plain_files c) ≡ Some f → (path : Text) (r : Result (Option DirectoryId) Error)
+    → IsNumberAnswer (found_by (look_result c path)) no_number r → IsNumberAnswer (stat_found f path) (number_found f path) r
+unfolding number_found
+number_held c f held path r is =
+    subst (λ g. IsNumberAnswer (stat_found g path) (number_found g path) r) (same_Some (plain_files c) f held)
+    (subst (λ n. IsNumberAnswer (stat_found (plain_files c) path) n r) (at_key (resolve c path))
+    (subst (λ o. IsNumberAnswer o no_number r) (plain_found c path).1 is))
+  where
+    at_key : (o : Option Key) → no_number ≡ unwrap_or (option_map (number_at (plain_files c)) o) no_number
+    at_key None = refl
+    at_key (Some k) = refl
+
+-- errors that say that nothing is there, if nothing is hidden and each target is known
+pub known_errors : (f : FileSystem) → has_hidden f.hidden ≡ false
+    → ((k : Key) → unwrap_or (option_map is_unknown (target_at f k)) false ≡ false)
+    → (path : Text) {T : Type 0} (r : Result T Error) → IfErr r (IsLookupError false)
+    → IfErr r (IsLookupError (is_lost f path)) × IfErr r (IsLookupError (is_target_lost f path))
+unfolding is_target_lost
+known_errors f bare known path r is = (
+  subst (λ b. IfErr r (IsLookupError b)) (sym seen) is,
+  subst (λ b. IfErr r (IsLookupError b))
+      (sym (or_from (is_lost f path) (unwrap_or (option_map (is_unknown_at f) (resolve f.content path)) false) seen
+      (at_key (resolve f.content path)))) is,
+)
+  where
+    seen : is_lost f path ≡ false
+    seen = never_lost f bare path
+
+    and_no : (a b : Bool) → b ≡ false → (a && b) ≡ false
+    and_no true b h = h
+    and_no false b h = refl
+
+    at_key : (o : Option Key) → unwrap_or (option_map (is_unknown_at f) o) false ≡ false
+    at_key None = refl
+    at_key (Some k) =
+        and_no (is_other (kind_at f.content k)) (unwrap_or (option_map is_unknown (target_at f k)) false) (known k)
+
+pub fails_held : (c : Content) (f : FileSystem) → Some (plain_files c) ≡ Some f → (path : Text) {T : Type 0} (r : Result T Error)
+    → IfErr r (IsLookupError false) → IfErr r (IsLookupError (is_lost f path)) × IfErr r (IsLookupError (is_target_lost f path))
+fails_held c f held path r is =
+    subst (λ g. IfErr r (IsLookupError (is_lost g path)) × IfErr r (IsLookupError (is_target_lost g path)))
+    (same_Some (plain_files c) f held) (known_errors (plain_files c) refl (λ k. refl) path r is)
 
 pub opened_held : (c : Content) (f : FileSystem) → IsHeld (Some (plain_files c)) f → (path : Text) (es : List DirEntry)
     → list_result c path ≡ Entries es

@@ -12,7 +12,7 @@ use Rattle.glob_tree.specs.Answers.{names_of}
 use Rattle.glob_tree.specs.Content.{Content, Key, same_key, is_content, kind_at, is_dir, is_dir_at, step, resolve}
 use Rattle.glob_tree.specs.Content.{look_of, look_result, DirEntry, children, ListAnswer, Entries, Fails, NoDirectory}
 use Rattle.glob_tree.specs.Content.{list_of, list_found, list_result}
-use Rattle.glob_tree.specs.FileSystems.{FileSystem, has_directory_links, strays_at, strays_found}
+use Rattle.glob_tree.specs.FileSystems.{FileSystem, has_directory_links, has_hidden, strays_at, strays_found}
 use Rattle.glob_tree.specs.Followed.{entry_followed, answer_followed, list_followed, has_strays}
 use Rattle.glob_tree.specs.Looks.{is_directory}
 use Rattle.glob_tree.specs.Paths.{join, is_proper}
@@ -104,7 +104,7 @@ pub joined : (path name : Text) → join path [] ++ name ≡ join path name
 unfolding join
 joined path name = ap (λ p. p ++ name) (append-nil (with_separator path))
 
--- the entries made from names are those of the directory
+-- the entries made from names are the directory's entries
 all_said : (c : Content) (path : Text) (es : List DirEntry) → ((l : DirEntry) → Contains es l → is_directory
     (look_result c (path ++ l.0)) ≡ l.1)
     → said_entries (is_dir_in c path) (names_of es) ≡ es
@@ -131,10 +131,10 @@ entries_kept c w path es at names moved =
 
 -- a tree that follows links lists the content, if no link points to a directory and each name is UTF-8
 pub list_followed-plain : (f : FileSystem) → is_content f.content ≡ true → has_directory_links f ≡ false → has_strays f.strays ≡ false
-    → (path : Text)
+    → has_hidden f.hidden ≡ false → (path : Text)
     → list_followed f path ≡ list_result f.content path
 unfolding list_followed strays_found
-list_followed-plain f w non texts path = by_strays f.strays refl texts ∙ by_answer (list_result f.content path) refl
+list_followed-plain f w non texts bare path = by_strays f.strays refl texts ∙ by_answer (list_result f.content path) refl
   where
     at_key : (ss : List (Key × Text)) → f.strays ≡ ss → ss ≡ [] → (o : Option Key) → strays_at f o ≡ []
     at_key ss is none None = refl
@@ -150,7 +150,7 @@ list_followed-plain f w non texts path = by_strays f.strays refl texts ∙ by_an
         → map (entry_followed f path) es ≡ es
     all_looked [] h = refl
     all_looked (e ∷ es) h =
-        λ i. (e.0, (stat_looked f non (join path e.0) ∙ h e (Contains-head e es)) i) ∷ all_looked es
+        λ i. (e.0, (stat_looked f non bare (join path e.0) ∙ h e (Contains-head e es)) i) ∷ all_looked es
         (λ l in'. h l (Contains-tail e es l in')) i
 
     by_answer : (a : ListAnswer) → list_result f.content path ≡ a
@@ -170,7 +170,7 @@ all_texts [] h = refl
 all_texts (n ∷ names) h = and_from (is_text_name n) (list_all is_text_name names) (h n (Contains-head n names))
     (all_texts names (λ m in'. h m (Contains-tail n names m in')))
 
--- each name is that of an entry
+-- each name is the name of an entry
 entry_named : (es : List DirEntry) (n : Text) → Contains (names_of es) n → (l : DirEntry) × Contains es l × (l.0 ≡ n)
 entry_named [] n in' = absurd (Contains-nil n in')
 entry_named (e ∷ es) n in' = ⊎_elim

@@ -1,5 +1,5 @@
 -- What lookups that keep or follow links say about a path.
-use Rattle.std.proofs.Common.{◌≡◌, ◌≢◌, ℕ, Bool, true, false, cond, inl, inr, List, [], ◌∷◌, ◌++◌, Option, Some, None}
+use Rattle.std.proofs.Common.{◌≡◌, ◌≢◌, ℕ, Bool, true, false, cond, inl, inr, [], ◌∷◌, ◌++◌, Option, Some, None}
 use Rattle.std.proofs.Common.{Ok, refl, ap, sym, subst, ◌∙◌}
 use Rattle.std.specs.Prelude.{is_some, option_map, option_and_then}
 use Rattle.std.specs.Fs.{file_type, IsDir, IsSymlink}
@@ -11,26 +11,23 @@ use Rattle.glob_text.specs.Characters.{slash}
 use Rattle.glob_text.specs.Text.{Text}
 use Rattle.glob_tree.specs.Answers.{IsTold}
 use Rattle.glob_tree.specs.Content.{Content, Key, is_content, kind_at, resolve, look_result}
-use Rattle.glob_tree.specs.Disks.{content_with_links}
-use Rattle.glob_tree.specs.FileSystems.{FileSystem, Target, Nowhere, AFile, ADirectory, target_at, Found, Directory}
+use Rattle.glob_tree.specs.Disks.{content_with_links, visible_content}
+use Rattle.glob_tree.specs.FileSystems.{FileSystem, Target, Nowhere, AFile, ADirectory, Unknown, target_at, Found, Directory}
 use Rattle.glob_tree.specs.FileSystems.{Symlink, File, lstat_reports, stat_reports, lstat_at, stat_at, lstat_found}
-use Rattle.glob_tree.specs.FileSystems.{stat_found, IsStatAnswer, is_direct, has_directory_links}
-use Rattle.glob_tree.specs.Followed.{look_found, look_through, look_followed, is_found_directory, IsLookSaid}
+use Rattle.glob_tree.specs.FileSystems.{stat_found, IsStatAnswer, has_directory_links, has_hidden, is_direct}
+use Rattle.glob_tree.specs.Followed.{look_found, look_through, look_followed, is_found_directory}
 use Rattle.glob_tree.specs.Looks.{is_directory}
 use Rattle.glob_tree.specs.Private.Looking.{has_places, IsSeen, IsFoundAs, IsWay, HasWay, LeadsOn, IsOnWay}
-use Rattle.glob_tree.specs.Private.Listing.{IsSaid}
-use Rattle.glob_tree.specs.Strays.{Grows}
 use Rattle.glob_tree.specs.declared.kind.Kind.{Kind}
 use Rattle.glob_tree.specs.declared.kind.Kind.TheVariants.{Dir, Shut, Other}
 use Rattle.glob_tree.specs.declared.physical.Links.{Links}
 use Rattle.glob_tree.specs.declared.physical.Links.TheVariants.{Kept, Followed}
-use Rattle.glob_tree.specs.declared.tree.Look.{Look}
 use Rattle.glob_tree.specs.declared.tree.Look.TheVariants as look
-use Rattle.glob_tree.proofs.ContentLemmas.Membership.{Contains-head}
-use Rattle.glob_tree.proofs.SystemLemmas.Finding.{missing_other, no_target, lstat_look, answer_directory, answer_other, answer_symlink}
+use Rattle.glob_tree.proofs.SystemLemmas.Finding.{no_target, lstat_look, answer_directory, answer_other, answer_symlink}
+use Rattle.glob_tree.proofs.SystemLemmas.Losing.{found_seen, lstat_seen, stat_seen}
 use Rattle.glob_tree.proofs.SystemLemmas.Ways.{direct_one, direct_below, nothing_below, said_no, way_above}
 
--- the known content is that of a known file system
+-- the known content is the content of a known file system
 pub record Sees (links : Links) (files : Option FileSystem) (c : Content) : Type 0 where
   pub f : FileSystem
   pub seen : IsSeen links files f
@@ -39,19 +36,26 @@ pub record Sees (links : Links) (files : Option FileSystem) (c : Content) : Type
 pub Sees-from_told : (links : Links) (files : Option FileSystem) (c : Content) → IsTold (option_and_then
     (content_with_links links) files) c → Sees links files c
 Sees-from_told links None c told = absurd (none-some c told.0)
-Sees-from_told Kept (Some f) c told =
-    let same = same_Some f.content c told.0 in
-    record { f = f; seen = ((refl, ap is_content same ∙ told.1), refl); same = same }
-Sees-from_told Followed (Some f) c told = by_test (has_directory_links f) refl told.0
+Sees-from_told Kept (Some f) c told = by_test (has_hidden f.hidden) refl told.0
   where
-    by_test : (b : Bool) → has_directory_links f ≡ b → cond b None (Some f.content) ≡ Some c → Sees Followed (Some f) c
+    by_test : (b : Bool) → has_hidden f.hidden ≡ b → cond b None (Some f.content) ≡ Some c → Sees Kept (Some f) c
     by_test true e h = absurd (none-some c h)
     by_test false e h =
         let same = same_Some f.content c h in
         record { f = f; seen = ((refl, ap is_content same ∙ told.1), ap (λ b. is_some (cond b None (Some f.content))) e); same = same }
+Sees-from_told Followed (Some f) c told = by_test (has_directory_links f) (has_hidden f.hidden) refl refl told.0
+  where
+    by_test : (b d : Bool) → has_directory_links f ≡ b → has_hidden f.hidden ≡ d → cond b None (cond d None (Some f.content)) ≡ Some c
+        → Sees Followed (Some f) c
+    by_test true d e g h = absurd (none-some c h)
+    by_test false true e g h = absurd (none-some c h)
+    by_test false false e g h =
+        let same = same_Some f.content c h in
+        let places : has_places Followed f ≡ true = λ i. is_some (cond (e i) None (cond (g i) None (Some f.content))) in
+        record { f = f; seen = ((refl, ap is_content same ∙ told.1), places); same = same }
 
 -- metadata of what was found is an answer
-as_answer : (found : Option Found) (m : Metadata) → IsFoundAs found (Some m) → IsStatAnswer found (Ok m)
+pub as_answer : (found : Option Found) (m : Metadata) → IsFoundAs found (Some m) → IsStatAnswer found (Ok m)
 as_answer None m h = absurd h
 as_answer (Some t) m h = h
 
@@ -59,38 +63,57 @@ none_found : (found : Option Found) → IsFoundAs found None → look.Missing �
 none_found None h = refl
 none_found (Some t) h = absurd h
 
+-- if the content is known, no file is hidden
+pub no_hidden_files : (links : Links) (f : FileSystem) → has_places links f ≡ true → has_hidden f.hidden ≡ false
+no_hidden_files links f places = by_links links places
+  where
+    by_hidden : (b : Bool) → is_some (cond b None (Some f.content)) ≡ true → b ≡ false
+    by_hidden true h = absurd (both_ways false refl h)
+    by_hidden false h = refl
+
+    by_test : (b : Bool) → is_some (cond b None (visible_content f)) ≡ true → has_hidden f.hidden ≡ false
+    by_test true h = absurd (both_ways false refl h)
+    by_test false h = by_hidden (has_hidden f.hidden) h
+
+    by_links : (l : Links) → has_places l f ≡ true → has_hidden f.hidden ≡ false
+    by_links Kept h = by_hidden (has_hidden f.hidden) h
+    by_links Followed h = by_test (has_directory_links f) h
+
 -- nothing was found at a path
-pub look_nothing : (f : FileSystem) (path : Text) → IsFoundAs (lstat_found f path) None → look.Missing ≡ look_result f.content path
-look_nothing f path h = none_found (lstat_found f path) h ∙ lstat_look f path
+pub look_nothing : (links : Links) (f : FileSystem) → has_places links f ≡ true → (path : Text) → IsFoundAs (lstat_found f path) None
+    → look.Missing ≡ look_result f.content path
+look_nothing links f places path h = none_found (lstat_found f path) h ∙ lstat_look f (no_hidden_files links f places) path
 
 -- something was found that is not a followed link
-pub look_something : (f : FileSystem) (path : Text) (m : Metadata) (d : Bool) → IsFoundAs (lstat_found f path) (Some m)
-    → (d ≡ true → IsDir (file_type m)) → (IsDir (file_type m) → d ≡ true)
+pub look_something : (links : Links) (f : FileSystem) → has_places links f ≡ true → (path : Text) (m : Metadata) (d : Bool)
+    → IsFoundAs (lstat_found f path) (Some m) → (d ≡ true → IsDir (file_type m)) → (IsDir (file_type m) → d ≡ true)
     → cond d look.Dir look.Other ≡ look_result f.content path
-look_something f path m true h is back = answer_directory look.Missing (lstat_found f path) m
-    (as_answer (lstat_found f path) m h) (is refl) ∙ lstat_look f path
-look_something f path m false h is back = answer_other look.Missing (lstat_found f path) m
-    (as_answer (lstat_found f path) m h) (λ d. both_ways false refl (back d)) ∙ lstat_look f path
+look_something links f places path m true h is back = answer_directory look.Missing (lstat_found f path) m
+    (as_answer (lstat_found f path) m h) (is refl) ∙ lstat_look f (no_hidden_files links f places) path
+look_something links f places path m false h is back = answer_other look.Missing (lstat_found f path) m
+    (as_answer (lstat_found f path) m h) (λ d. both_ways false refl (back d)) ∙ lstat_look f (no_hidden_files links f places) path
 
--- if the content has every followed link, none points to a directory
+-- if the content has every followed link, no such link points to a directory
 pub no_directory_links : (f : FileSystem) → has_places Followed f ≡ true → has_directory_links f ≡ false
 no_directory_links f places = by_test (has_directory_links f) places
   where
-    by_test : (b : Bool) → is_some (cond b None (Some f.content)) ≡ true → b ≡ false
+    by_test : (b : Bool) → is_some (cond b None (visible_content f)) ≡ true → b ≡ false
     by_test true h = absurd (both_ways false refl h)
     by_test false h = refl
 
 -- such a link points to no directory
 pub no_directory_there : (f : FileSystem) (path : Text) → has_places Followed f ≡ true → lstat_found f path ≡ Some
     Symlink → stat_found f path ≢ Some Directory
-unfolding lstat_found stat_found
-no_directory_there f path places h is = at_key (resolve f.content path) h is
+no_directory_there f path places h is =
+    let seen = found_seen f path Symlink h in
+    at_key (resolve f.content path) (sym (lstat_seen f path seen) ∙ h) (sym (stat_seen f path seen) ∙ is)
   where
     at_target : (k : Key) (t : Option Target) → target_at f k ≡ t → stat_reports Other t ≡ Some Directory → ⊥
     at_target k None e is = both_ways false refl (ap is_found_directory is)
     at_target k (Some Nowhere) e is = both_ways false refl (ap is_found_directory is)
     at_target k (Some AFile) e is = both_ways false refl (ap is_found_directory is)
     at_target k (Some ADirectory) e is = no_target k f.links (no_directory_links f places) e
+    at_target k (Some Unknown) e is = both_ways false refl (ap is_found_directory is)
 
     at_kind : (k : Key) (o : Option Kind) → option_map (λ kind. lstat_reports kind (target_at f k)) o ≡ Some Symlink
         → option_and_then (λ kind. stat_reports kind (target_at f k)) o ≡ Some Directory → ⊥
@@ -108,8 +131,9 @@ pub link_found : (f : FileSystem) (path : Text) (m : Metadata) → IsFoundAs (ls
 link_found f path m h s = answer_symlink (lstat_found f path) m (as_answer (lstat_found f path) m h) s
 
 -- the content has a link as a non-directory
-pub look_link : (f : FileSystem) (path : Text) → lstat_found f path ≡ Some Symlink → look.Other ≡ look_result f.content path
-look_link f path is = ap (look_found look.Missing) (sym is) ∙ lstat_look f path
+pub look_link : (links : Links) (f : FileSystem) → has_places links f ≡ true → (path : Text) → lstat_found f path ≡ Some Symlink
+    → look.Other ≡ look_result f.content path
+look_link links f places path is = ap (look_found look.Missing) (sym is) ∙ lstat_look f (no_hidden_files links f places) path
 
 pub no_found : (o : Option Found) → o ≢ Some Directory → is_found_directory o ≡ false
 no_found None non = refl
@@ -117,28 +141,7 @@ no_found (Some Directory) non = absurd (non refl)
 no_found (Some Symlink) non = refl
 no_found (Some File) non = refl
 
--- metadata of a directory means that a directory was found
-pub found_directory : (o : Option Found) (m : Metadata) (d : Bool) → IsFoundAs o (Some m) → (d ≡ true → IsDir (file_type m))
-    → (IsDir (file_type m) → d ≡ true) → d ≡ is_found_directory o
-found_directory None m d h is back = absurd h
-found_directory (Some Directory) m d h is back = back h
-found_directory (Some Symlink) m true h is back = absurd (both_looks (answer_directory look.Missing (Some Symlink) m h (is refl)))
-  where
-    both_looks : look.Dir ≡ look.Other → ⊥
-    both_looks e = both_ways false refl (sym (ap is_directory e))
-found_directory (Some Symlink) m false h is back = refl
-found_directory (Some File) m true h is back = absurd (h.0 (is refl))
-found_directory (Some File) m false h is back = refl
-
--- looks with links followed: at nothing, at a link, and at anything else
-pub followed_nothing : (f : FileSystem) (path : Text) → IsFoundAs (lstat_found f path) None → look.Missing ≡ look_followed f path
-unfolding look_followed
-followed_nothing f path h = by_found (lstat_found f path) h
-  where
-    by_found : (o : Option Found) → IsFoundAs o None → look.Missing ≡ look_through o (stat_found f path)
-    by_found None h = refl
-    by_found (Some t) h = absurd h
-
+-- a look with links followed, at a link
 pub followed_link : (f : FileSystem) (path : Text) (d : Bool) → lstat_found f path ≡ Some Symlink
     → d ≡ is_found_directory (stat_found f path)
     → cond d look.Dir look.Other ≡ look_followed f path
@@ -151,92 +154,6 @@ followed_link f path d link is =
     by_target (Some Directory) = refl
     by_target (Some Symlink) = refl
     by_target (Some File) = refl
-
-pub followed_something : (f : FileSystem) (path : Text) (m : Metadata) (d : Bool) → IsFoundAs (lstat_found f path) (Some m)
-    → (IsSymlink (file_type m) → ⊥)
-    → (d ≡ true → IsDir (file_type m)) → (IsDir (file_type m) → d ≡ true) → cond d look.Dir look.Other ≡ look_followed f path
-unfolding look_followed
-followed_something f path m d h non is back =
-    ap (λ b. cond b look.Dir look.Other) (found_directory (lstat_found f path) m d h is back) ∙ by_found (lstat_found f path) h
-  where
-    by_found : (o : Option Found) → IsFoundAs o (Some m)
-        → cond (is_found_directory o) look.Dir look.Other ≡ look_through o (stat_found f path)
-    by_found None h = absurd h
-    by_found (Some Directory) h = refl
-    by_found (Some Symlink) h = absurd (non h)
-    by_found (Some File) h = refl
-
--- a look with links followed reports exactly the directories that `stat` finds
-pub directory_followed : (f : FileSystem) (path : Text) → is_directory (look_followed f path) ≡ is_found_directory (stat_found f path)
-unfolding look_followed lstat_found stat_found
-directory_followed f path = at_key (resolve f.content path)
-  where
-    at_target : (t : Option Target)
-        → is_directory (look_through (Some (lstat_reports Other t)) (stat_reports Other t)) ≡ is_found_directory (stat_reports Other t)
-    at_target None = refl
-    at_target (Some Nowhere) = refl
-    at_target (Some AFile) = refl
-    at_target (Some ADirectory) = refl
-
-    at_kind : (k : Key) (o : Option Kind)
-        → is_directory (look_through (option_map (λ kind. lstat_reports kind (target_at f k)) o)
-        (option_and_then (λ kind. stat_reports kind (target_at f k)) o))
-        ≡ is_found_directory (option_and_then (λ kind. stat_reports kind (target_at f k)) o)
-    at_kind k None = refl
-    at_kind k (Some Dir) = refl
-    at_kind k (Some (Shut kind)) = refl
-    at_kind k (Some Other) = at_target (target_at f k)
-
-    at_key : (o : Option Key)
-        → is_directory (look_through (option_and_then (lstat_at f) o) (option_and_then (stat_at f) o))
-        ≡ is_found_directory (option_and_then (stat_at f) o)
-    at_key None = refl
-    at_key (Some k) = at_kind k (kind_at f.content k)
-
--- if it reports no directory, the content has none
-pub no_directory_followed : (f : FileSystem) (path : Text) → is_directory (look_followed f path) ≡ false
-    → is_directory (look_result f.content path) ≡ false
-unfolding look_followed
-no_directory_followed f path h = ap is_directory (sym (lstat_look f path)) ∙ by_found (lstat_found f path) h
-  where
-    by_found : (o : Option Found) → is_directory (look_through o (stat_found f path)) ≡ false
-        → is_directory (look_found look.Missing o) ≡ false
-    by_found None h = refl
-    by_found (Some Directory) h = h
-    by_found (Some Symlink) h = refl
-    by_found (Some File) h = refl
-
--- if the content has nothing, it reports nothing
-pub missing_followed : (f : FileSystem) (path : Text) → look_result f.content path ≡ look.Missing → look.Missing ≡ look_followed f path
-unfolding look_followed
-missing_followed f path h = by_found (lstat_found f path) (lstat_look f path ∙ h)
-  where
-    by_found : (o : Option Found) → look_found look.Missing o ≡ look.Missing → look.Missing ≡ look_through o (stat_found f path)
-    by_found None h = refl
-    by_found (Some Directory) h = sym h
-    by_found (Some Symlink) h = absurd (missing_other (look_found look.Missing (Some Symlink)) h refl)
-    by_found (Some File) h = sym h
-
-pub directory_found : (o : Option Found) → is_found_directory o ≡ true → o ≡ Some Directory
-directory_found None is = absurd (both_ways false refl is)
-directory_found (Some Directory) is = refl
-directory_found (Some Symlink) is = absurd (both_ways false refl is)
-directory_found (Some File) is = absurd (both_ways false refl is)
-
--- what a look says about a directory
-pub kind_of_look : (f : FileSystem) (path : Text) (seen : Look) (told : Bool) → told ≡ is_directory seen
-    → (old new : Option (List Text)) → Grows old new → IsLookSaid f path seen old new → IsSaid f path told old new
-kind_of_look f path seen told is old new (more, grown) (inl same) =
-    (more, grown, inl (is ∙ ap is_directory same ∙ directory_followed f path))
-kind_of_look f path seen told is old new grows (inr (other, link, received)) =
-    (path ∷ [], received, inr (is ∙ ap is_directory other, link, Contains-head path []))
-
--- if no directory is reported, the content has none
-pub none_said : (f : FileSystem) (path : Text) (told : Bool) → told ≡ false → (old new : Option (List Text))
-    → IsSaid f path told old new → is_directory (look_result f.content path) ≡ false
-none_said f path told none old new (xs, grown, inl same) =
-    no_directory_followed f path (directory_followed f path ∙ sym same ∙ none)
-none_said f path told none old new (xs, grown, inr (not_one, link, in')) = ap is_directory (sym (look_link f path link.0))
 
 -- a path without a separator has a way
 pub way_of_one : (f : FileSystem) → is_content f.content ≡ true → (path : Text) → has_no_slash path ≡ true → HasWay f path true

@@ -91,7 +91,7 @@ module _ (names : List (Bor Text)) (i : ℕ) (d : Bor Text) (within : i < length
       list_all-contains is_text_name (map (λ n. n.now) names) (slice_index_or names i d).now all
       (contains_text names (slice_index_or names i d) (i, within, get_or_default names i (slice_index_or names i d) d within))
 
-  -- the error of one name is one of the whole listing
+  -- the error of one name is an error of the whole listing
   pub name_fault : (e : ListError) → IsNameError (is_text_name (slice_index_or names i d).now) e
       → IsNameError (are_text_names (map (λ n. n.now) names)) e
   name_fault (Read x) (none, kind) = (by_test (are_text_names (map (λ (n : Bor Text). n.now) names)) refl, kind)
@@ -162,7 +162,7 @@ module _ (names : List (Bor Text)) (i : ℕ) (d : Bor Text) (within : i < length
       ∙ (λ j. so_far j ++ is j ∷ [])
       ∙ sym (ap texts_of names_next ∙ text_listed (map (λ (n : Bor Text). n.now) (take i names)) (slice_index_or names i d).now utf8)
 
-  -- and its entry
+  -- one more UTF-8 name adds its entry
   pub text_said : {A : Type 0} (said : Text → Text → Bool) (path at : Text) → at ≡ path
       → (entries : List (Entry A)) (entry : Entry A) (name : Text)
       → entries_of entries ≡ said_entries (said path) (texts_of (map (λ n. n.now) (take i names))) → entry.name ≡ name

@@ -20,7 +20,7 @@ read_or : Error → ListError → Error
 read_or e (Read x) = x
 read_or e Memory = e
 
--- what holds of each error of the system holds of the error of the listing
+-- what holds for each error of the system holds for the error of the listing
 pub made_of : (Q : ListError → Type 0) (e : Error) → Q Memory → (error_kind e ≢ OutOfMemory → Q (Read e)) → (made : ListError)
     → IsListErrorOf e made → Q made
 unfolding is_memory read_or

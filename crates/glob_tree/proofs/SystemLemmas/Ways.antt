@@ -13,7 +13,7 @@ use Rattle.glob_text.specs.Pieces.{pieces}
 use Rattle.glob_text.specs.Text.{Text}
 use Rattle.glob_tree.specs.Content.{Content, Key, same_key, is_content, kind_at, is_dir_at, step, steps, origin}
 use Rattle.glob_tree.specs.Content.{resolve, look_of, look_result}
-use Rattle.glob_tree.specs.FileSystems.{FileSystem, is_a_directory, is_directory_link, passes_link, is_direct}
+use Rattle.glob_tree.specs.FileSystems.{FileSystem, may_be_directory, is_directory_link, passes_link, is_direct}
 use Rattle.glob_tree.specs.Looks.{is_directory}
 use Rattle.glob_tree.specs.Private.Looking.{IsWay}
 use Rattle.glob_tree.specs.declared.kind.Kind.{Kind}
@@ -33,14 +33,14 @@ passes_end f None = refl
 passes_end f (Some k) = refl
 
 -- pieces that lead somewhere start at a directory
-steps_from : (c : Content) (o : Key) (q : Text) (ps : List Text) (k : Key) → steps c (Some o) (q ∷ ps) ≡ Some k → is_dir_at c o ≡ true
+pub steps_from : (c : Content) (o : Key) (q : Text) (ps : List Text) (k : Key) → steps c (Some o) (q ∷ ps) ≡ Some k → is_dir_at c o ≡ true
 steps_from c o q ps k h = by_test (is_dir_at c o) refl
   where
     by_test : (b : Bool) → is_dir_at c o ≡ b → is_dir_at c o ≡ true
     by_test true d = d
     by_test false d = absurd (none-some k (sym (ap (λ a. steps c a ps) (step_none c o q d) ∙ steps_none c ps) ∙ h))
 
--- pieces that lead to a directory pass no link, nor do they with one more piece
+-- pieces that lead to a directory pass no link, not even with one more piece
 passes_below : (f : FileSystem) (at : Option Key) (ps : List Text) (k : Key) (p : Text) → steps f.content at ps ≡ Some
     k → is_dir_at f.content k ≡ true
     → passes_link f at (ps ++ p ∷ []) ≡ false
@@ -62,7 +62,7 @@ passed_none f (Some k) (p ∷ ps) h = by_test (is_directory_link f k) refl h (λ
         → (passes_link f (step f.content p k) ps ≡ true → steps f.content (step f.content p k) ps ≡ None)
         → steps f.content (step f.content p k) ps ≡ None
     by_test true e h further =
-        let non = (and_parts (not (is_dir_at f.content k)) (list_any (λ g. same_key k g.0 && is_a_directory g.1) f.links) e).0 in
+        let non = (and_parts (not (is_dir_at f.content k)) (list_any (λ g. same_key k g.0 && may_be_directory g.1) f.links) e).0 in
         ap (λ a. steps f.content a ps) (step_none f.content k p (not-true (is_dir_at f.content k) non)) ∙ steps_none f.content ps
     by_test false e h further = further h
 
@@ -128,7 +128,7 @@ direct_above f w (x ∷ xs) more direct =
     not_from_false (passes_link f (Some (origin f.content dir)) (pieces dir))
     (passes_front f (Some (origin f.content dir)) (pieces dir) (pieces more) whole)
 
--- nothing is below a non-directory, nor behind a link to a directory
+-- nothing is below a non-directory, or behind a link to a directory
 pub nothing_below : (c : Content) (dir more : Text) → (dir ≡ [] → ⊥) → is_directory (look_result c dir) ≡ false
     → look_result c (dir ++ slash ∷ more) ≡ look.Missing
 unfolding look_result
@@ -161,7 +161,7 @@ nothing_below c dir more some non = ap (λ o. look_of (option_and_then (kind_at 
         ∙ on_from (pieces more) (pieces_some more) (steps c (Some o) (pieces dir))
         (ap (λ a. is_directory (look_of (option_and_then (kind_at c) a))) (sym (resolve_steps c dir long)) ∙ non)
 
--- if no directory is reported, the content has none, even behind a link
+-- if no directory is reported, the content has no directory there, even behind a link
 pub said_no : (f : FileSystem) (path : Text) → (is_direct f path ≡ true → is_directory (look_result f.content path) ≡
     false) → is_directory (look_result f.content path) ≡ false
 unfolding is_direct look_result

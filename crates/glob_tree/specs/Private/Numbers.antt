@@ -1,5 +1,6 @@
 -- Nodes and their entries, by number.
-use Rattle.std.specs.Prelude.{◌≡◌, true, false, [], ◌∷◌, ◌++◌, ℕ, ◌<◌, Bool, ◌&&◌, ◌==◌, bytes_eq, List, length, Option, Some, None, if◌then◌else◌, option_map, IfSome, MatchOption}
+use Rattle.std.specs.Prelude.{◌≡◌, true, false, [], ◌∷◌, ◌++◌, ℕ, ◌<◌, Bool, ◌&&◌, ◌==◌, bytes_eq, List, length, Option}
+use Rattle.std.specs.Prelude.{Some, None, if◌then◌else◌, option_map, IfSome, MatchOption}
 use Rattle.std.specs.Borrow.{Bor}
 use Rattle.glob_text.specs.Text.{Text}
 use Rattle.glob_text.specs.Pieces.{pieces}
@@ -26,7 +27,7 @@ IsFree entries directory name = kind_at (rooted_content entries) (key_within ent
 abbrev pub entries_with : List (Key × Kind) → (directory : ℕ) → (name : Text) → Kind → List (Key × Kind)
 entries_with entries directory name kind = entries ++ (key_within entries directory name, kind) ∷ []
 
--- the number is that of the key, or there is neither
+-- the number belongs to the key, or there is no number and nothing at the key
 abbrev pub Leads : List (Key × Kind) → Option ℕ → Option Key → Type 0
 Leads entries number key = (option_map (key_numbered entries) number ≡ key) × IfSome number (λ n. n < length entries)
 
@@ -43,13 +44,13 @@ abbrev pub directory_names : Option (Bor Text) → Key
 directory_names None = []
 directory_names (Some names) = pieces names.now
 
--- the number is that of this key, or there is none, and no directory is at the key
+-- the number belongs to this key, or there is no number, and no directory is at the key
 abbrev pub IsFoundAt : List (Key × Kind) → Key → Option ℕ → Type 0
 IsFoundAt entries key number = MatchOption number
     (is_dir_at (rooted_content entries) key ≡ false)
     (λ n. (n < length entries) × (key_numbered entries n ≡ key))
 
--- the number is that of the directory at this key, or there is neither
+-- the number belongs to the directory at this key, or there is neither a number nor a directory
 abbrev pub IsDirectoryAt : List (Key × Kind) → Key → Option ℕ → Type 0
 IsDirectoryAt entries key number = MatchOption number
     (is_dir_at (rooted_content entries) key ≡ false)

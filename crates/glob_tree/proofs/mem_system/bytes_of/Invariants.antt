@@ -1,4 +1,4 @@
--- The bytes so far are those of the entries so far.
+-- The bytes so far are the bytes of the entries so far.
 use Rattle.std.proofs.Common.{◌≡◌, take}
 use Rattle.glob_tree.specs.Answers.{entries_of, names_of}
 use Rattle.glob_tree.specs.Private.Listing.{name_bytes}

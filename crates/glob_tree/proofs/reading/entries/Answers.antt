@@ -18,10 +18,11 @@ returns-clause-entries g c = λ f seen looked.
     (c.in_ok-directory.ensures.opened f seen.0))
     c.read_entries.result (λ direct. c.read_entries.ensures.kinds f seen direct looked) c.read_entries.ensures.whole
 
-pub returns-clause-followed : goal.returns-clause-followed
-returns-clause-followed g c = λ f held links looked.
-    read_said f held.1 c.args.path.now (string_bytes c.in_ok-path.path) c.in_ok-path.ensures _ _
-    c.read_entries.result (λ direct. c.read_entries.ensures.followed f held direct links looked)
+pub returns-clause-said : goal.returns-clause-said
+returns-clause-said g c = λ f held looked.
+    read_said (g.R.Reader.receives c.args.reader.now) (g.R.Reader.links c.args.reader.now) f held.1 c.args.path.now
+    (string_bytes c.in_ok-path.path) c.in_ok-path.ensures _ _
+    c.read_entries.result (λ direct. c.read_entries.ensures.said f held direct looked)
 
 pub returns-clause-named : goal.returns-clause-named
 returns-clause-named g c = λ f held.

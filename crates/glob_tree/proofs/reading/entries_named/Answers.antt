@@ -1,11 +1,11 @@
-use Rattle.std.proofs.Common.{◌≡◌, false, ◌∷◌, [], map, take, refl, ap, sym, subst, ◌∙◌}
+use Rattle.std.proofs.Common.{◌≡◌, false, ◌∷◌, [], ◌++◌, map, take, refl, ap, sym, subst, ◌∙◌}
 use Rattle.std.specs.Prelude.{All, slice_index_or}
 use Rattle.std.specs.String.{string_bytes}
 use Rattle.std.proofs.lemmas.List.Elements.{All-nil}
 use Rattle.glob_text.specs.Text.{Text}
 use Rattle.glob_tree.specs.Answers.{entries_of, names_of}
 use Rattle.glob_tree.specs.FileSystems.{IsHeld}
-use Rattle.glob_tree.specs.Private.Listing.{AreSaid, IsNameError, are_names_taken, is_dir_in, said_entries}
+use Rattle.glob_tree.specs.Private.Listing.{AreSaid, IsSaid, IsNameError, are_names_taken, is_dir_in, said_entries}
 use Rattle.glob_tree.specs.Private.Looking.{AreDirect, IsSeen}
 use Rattle.glob_tree.specs.Strays.{and_then, strays_of}
 use Rattle.glob_tree.proofs.MemoryLemmas.Refusing.{fails_by}
@@ -25,10 +25,12 @@ loop-name-init g c = record {
   names = ap (λ es. names_of (entries_of es)) c.new-entries.ensures.items;
   strays = sym (and_then-nil (g.R.Reader.names c.args.reader.now));
   kinds = λ f seen direct looked. ap entries_of c.new-entries.ensures.items ∙ sym (said_none _);
-  followed = λ f held direct links looked.
-      subst (λ es. AreSaid f (string_bytes c.args.path.now) (entries_of es) (g.R.Reader.paths c.args.reader.now)
-      (g.R.Reader.paths c.args.reader.now))
-      (sym c.new-entries.ensures.items) (said_nothing f (string_bytes c.args.path.now) (g.R.Reader.paths c.args.reader.now));
+  said = λ f held direct looked.
+      subst (λ es. AreSaid (g.R.Reader.receives c.args.reader.now) (g.R.Reader.links c.args.reader.now) f (string_bytes c.args.path.now)
+      (entries_of es) (g.R.Reader.paths c.args.reader.now) (g.R.Reader.paths c.args.reader.now))
+      (sym c.new-entries.ensures.items) (said_nothing (g.R.Reader.receives c.args.reader.now) (g.R.Reader.links c.args.reader.now) f
+      (string_bytes c.args.path.now) (g.R.Reader.paths c.args.reader.now));
+  unseen = λ is. refl;
   left_out = λ is. subst (λ es. All (λ e. e.1 ≡ false) (entries_of es)) (sym c.new-entries.ensures.items) (All-nil _);
 }
 
@@ -65,15 +67,23 @@ loop-name-preserved g c = elim c.match-from_utf8.branch [
         (subst (λ l. IsSeen l (g.R.Reader.files c.loop-name.reader) f) (sym c.loop-name.invariant.links)
         (subst (λ o. IsSeen (g.R.Reader.links c.args.reader.now) o f) (sym c.loop-name.invariant.files) seen))
         (subst (AreDirect f) (sym c.loop-name.invariant.path) direct) looked);
-    followed = λ f held direct links looked.
-        subst (λ es. AreSaid f (string_bytes c.args.path.now) (entries_of es) (g.R.Reader.paths c.args.reader.now)
-        (g.R.Reader.paths w.entry_named.new.reader))
+    said = λ f held direct looked.
+        subst (λ es. AreSaid (g.R.Reader.receives c.args.reader.now) (g.R.Reader.links c.args.reader.now) f (string_bytes c.args.path.now)
+        (entries_of es) (g.R.Reader.paths c.args.reader.now) (g.R.Reader.paths w.entry_named.new.reader))
         (sym w.in_ok-push-in-Ok.ensures.items)
-        (said_pushed f (string_bytes c.args.path.now) (string_bytes c.loop-name.path) w.in-Ok.name.now c.loop-name.invariant.path
+        (said_pushed (g.R.Reader.receives c.args.reader.now) (g.R.Reader.links c.args.reader.now) f (string_bytes c.args.path.now)
+        (string_bytes c.loop-name.path) w.in-Ok.name.now c.loop-name.invariant.path
         c.loop-name.entries.items w.in_ok-entry_named-in-Ok.field-0 w.in_ok-entry_named-in-Ok.ensures.name _ _ _
-        (c.loop-name.invariant.followed f held direct links looked)
-        (w.in_ok-entry_named-in-Ok.ensures.followed f (subst (λ o. IsHeld o f) (sym c.loop-name.invariant.files) held)
-        (subst (AreDirect f) (sym c.loop-name.invariant.path) direct) (c.loop-name.invariant.links ∙ links) looked));
+        (c.loop-name.invariant.said f held direct looked)
+        (subst (λ b. IsSaid b (g.R.Reader.links c.args.reader.now) f (string_bytes c.loop-name.path ++ w.in-Ok.name.now)
+        w.in_ok-entry_named-in-Ok.field-0.is_dir (g.R.Reader.paths c.loop-name.reader) (g.R.Reader.paths w.entry_named.new.reader))
+        c.loop-name.invariant.receives
+        (subst (λ l. IsSaid (g.R.Reader.receives c.loop-name.reader) l f (string_bytes c.loop-name.path ++ w.in-Ok.name.now)
+        w.in_ok-entry_named-in-Ok.field-0.is_dir (g.R.Reader.paths c.loop-name.reader) (g.R.Reader.paths w.entry_named.new.reader))
+        c.loop-name.invariant.links
+        (w.in_ok-entry_named-in-Ok.ensures.said f (subst (λ o. IsHeld o f) (sym c.loop-name.invariant.files) held)
+        (subst (AreDirect f) (sym c.loop-name.invariant.path) direct) looked))));
+    unseen = λ is. w.in_ok-entry_named-in-Ok.ensures.unseen is ∙ c.loop-name.invariant.unseen is;
     left_out = λ is. subst (λ es. All (λ e. e.1 ≡ false) (entries_of es)) (sym w.in_ok-push-in-Ok.ensures.items)
         (none_pushed c.loop-name.entries.items w.in_ok-entry_named-in-Ok.field-0 (c.loop-name.invariant.left_out is)
         (w.in_ok-entry_named-in-Ok.ensures.left_out is));
@@ -98,9 +108,11 @@ loop-name-preserved g c = elim c.match-from_utf8.branch [
             ∙ ap (said_entries (is_dir_in f.content (string_bytes c.args.path.now)))
             (sym (no_text_next c.args.names.now c.loop-name.name-index _ c.loop-name-test.true
             w.in-Err.ensures.cases.0));
-        followed = λ f held direct links looked.
-            subst (AreSaid f (string_bytes c.args.path.now) (entries_of c.loop-name.entries.items) (g.R.Reader.paths c.args.reader.now))
-            (sym w.in_ok-receive-in-Err.ensures.paths) (c.loop-name.invariant.followed f held direct links looked);
+        said = λ f held direct looked.
+            subst (AreSaid (g.R.Reader.receives c.args.reader.now) (g.R.Reader.links c.args.reader.now) f (string_bytes c.args.path.now)
+            (entries_of c.loop-name.entries.items) (g.R.Reader.paths c.args.reader.now))
+            (sym w.in_ok-receive-in-Err.ensures.paths) (c.loop-name.invariant.said f held direct looked);
+        unseen = λ is. w.in_ok-receive-in-Err.ensures.paths ∙ c.loop-name.invariant.unseen is;
         left_out = c.loop-name.invariant.left_out;
       })
 ]

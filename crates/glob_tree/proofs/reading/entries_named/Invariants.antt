@@ -7,7 +7,6 @@ use Rattle.glob_tree.specs.FileSystems.{FileSystem, IsHeld}
 use Rattle.glob_tree.specs.Private.Listing.{AreSaid, is_dir_in, said_entries}
 use Rattle.glob_tree.specs.Private.Looking.{AreDirect, IsSeen}
 use Rattle.glob_tree.specs.Strays.{and_then, texts_of, strays_of}
-use Rattle.glob_tree.specs.declared.physical.Links.TheVariants.{Followed}
 use Rattle.glob_tree.specs.declared.reading.Kinds.TheVariants.{LookedUp, LeftOut}
 use Rattle.glob_tree.proofs.reading.entries_named.Given as goal
 
@@ -24,9 +23,10 @@ invariant-loop-name g l = record {
       → AreDirect f (string_bytes l.initial.path) → l.kinds ≡ LookedUp
       → entries_of l.entries.items ≡ said_entries (is_dir_in f.content (string_bytes l.initial.path))
       (texts_of (map (λ n. n.now) (take l.name-index l.names)));
-  followed : (f : FileSystem) → IsHeld (g.R.Reader.files l.initial.reader) f → AreDirect f (string_bytes l.initial.path)
-      → g.R.Reader.links l.initial.reader ≡ Followed → l.kinds ≡ LookedUp
-      → AreSaid f (string_bytes l.initial.path) (entries_of l.entries.items) (g.R.Reader.paths l.initial.reader)
-      (g.R.Reader.paths l.reader);
+  said : (f : FileSystem) → IsHeld (g.R.Reader.files l.initial.reader) f → AreDirect f (string_bytes l.initial.path)
+      → l.kinds ≡ LookedUp
+      → AreSaid (g.R.Reader.receives l.initial.reader) (g.R.Reader.links l.initial.reader) f (string_bytes l.initial.path)
+      (entries_of l.entries.items) (g.R.Reader.paths l.initial.reader) (g.R.Reader.paths l.reader);
+  unseen : l.kinds ≡ LeftOut → g.R.Reader.paths l.reader ≡ g.R.Reader.paths l.initial.reader;
   left_out : l.kinds ≡ LeftOut → All (λ e. e.1 ≡ false) (entries_of l.entries.items);
 }

@@ -8,7 +8,7 @@ returns-clause-kind g c = λ f seen direct looked.
     let proper : is_proper c.args.name.now ≡ true = search rules in
     c.in_ok-is_dir.ensures.directory f seen (direct c.args.name.now (IsName-from_proper c.args.name.now proper).plain) looked
 
-pub returns-clause-followed : goal.returns-clause-followed
-returns-clause-followed g c = λ f held direct links looked.
+pub returns-clause-said : goal.returns-clause-said
+returns-clause-said g c = λ f held direct looked.
     let proper : is_proper c.args.name.now ≡ true = search rules in
-    c.in_ok-is_dir.ensures.followed f held (direct c.args.name.now (IsName-from_proper c.args.name.now proper).plain) links looked
+    c.in_ok-is_dir.ensures.said f held (direct c.args.name.now (IsName-from_proper c.args.name.now proper).plain) looked

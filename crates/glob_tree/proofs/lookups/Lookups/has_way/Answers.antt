@@ -1,7 +1,7 @@
 use Rattle.std.proofs.Common.{rules, ◌≡◌, true, false, inr, refl, subst}
 use Rattle.glob_tree.specs.FileSystems.{is_direct}
 use Rattle.glob_tree.specs.Private.Looking.{LeadsOn}
-use Rattle.glob_tree.proofs.ReceivedLemmas.{received_below}
+use Rattle.glob_tree.proofs.ReceivedLemmas.{above_trans, received_below}
 use Rattle.glob_tree.proofs.SystemLemmas.Looking.{way_of_one, way_below}
 use Rattle.glob_tree.proofs.SystemLemmas.Ways.{direct_above}
 use Rattle.glob_tree.proofs.lookups.Lookups.has_way.Goals as goal
@@ -26,13 +26,20 @@ returns-clause-way g c = λ f seen.
     way_below f seen.0.1 c.args.path.now c.in-Some.above.now c.in-Some.field-0-1.now c.in-Some.ensures.0 c.in-Some.ensures.1 true
     (subst (LeadsOn f c.in-Some.above.now) yes (c.in_ok-leads.ensures.leads f seen))
 
-pub returns-then-not-branch-clause-followed : goal.returns-then-not-branch-clause-followed
-returns-then-not-branch-clause-followed g c = λ f held direct links told.
+pub returns-then-not-branch-clause-said : goal.returns-then-not-branch-clause-said
+returns-then-not-branch-clause-said g c = λ f held direct told.
     let none : c.in_ok-leads.field-0 ≡ false = search rules in
     let above = direct_above f held.1 c.in-Some.above.now c.in-Some.field-0-1.now
     (subst (λ p. is_direct f p ≡ true) c.in-Some.ensures.0 direct) in
-    way_below f held.1 c.args.path.now c.in-Some.above.now c.in-Some.field-0-1.now c.in-Some.ensures.0 c.in-Some.ensures.1 false
-    (c.in_ok-leads.ensures.followed f held above links none)
+    let (way, (last, over, non, more)) = c.in_ok-leads.ensures.said f held above none in (
+      way_below f held.1 c.args.path.now c.in-Some.above.now c.in-Some.field-0-1.now c.in-Some.ensures.0 c.in-Some.ensures.1 false way,
+      (
+        last,
+        above_trans last c.in-Some.above.now c.args.path.now over (inr (c.in-Some.field-0-1.now, c.in-Some.ensures.0)),
+        inr non,
+        more,
+      ),
+    )
 
 pub returns-then-not-branch-clause-received : goal.returns-then-not-branch-clause-received
 returns-then-not-branch-clause-received g c =

@@ -1,8 +1,10 @@
-use Rattle.std.proofs.Common.{rules, ◌≡◌, true, false, inr, refl, sym, subst, ◌∙◌}
+use Rattle.std.proofs.Common.{rules, ◌≡◌, ◌∷◌, [], true, false, inr, refl, sym, subst, ◌∙◌}
 use Rattle.glob_tree.specs.FileSystems.{IsHeld, is_direct}
+use Rattle.glob_tree.specs.Followed.{AreReported}
 use Rattle.glob_tree.specs.Private.Looking.{IsSeen}
 use Rattle.glob_tree.proofs.ReceivedLemmas.{above_trans, received_above}
-use Rattle.glob_tree.proofs.SystemLemmas.Looking.{none_said, step_way, last_way, step_none, no_way}
+use Rattle.glob_tree.proofs.SystemLemmas.Looking.{step_way, last_way, step_none, no_way}
+use Rattle.glob_tree.proofs.SystemLemmas.Reporting.{none_said}
 use Rattle.glob_tree.proofs.SystemLemmas.Ways.{direct_above}
 use Rattle.glob_tree.proofs.lookups.Lookups.leads.Goals as goal
 
@@ -15,13 +17,23 @@ returns-then-not-branch-clause-leads g c = λ f seen.
     kept.4 f (c.loop-directory-test.ensures.some refl)
     (no_way f c.loop-directory.directory.now c.in_ok-is_dir.field-0 none (λ direct. c.in_ok-is_dir.ensures.directory f still direct))
 
-pub returns-then-not-branch-clause-followed : goal.returns-then-not-branch-clause-followed
-returns-then-not-branch-clause-followed g c = λ f held direct links told.
+pub returns-then-not-branch-clause-said : goal.returns-then-not-branch-clause-said
+returns-then-not-branch-clause-said g c = λ f held direct told.
     let kept = c.loop-directory.invariant in
     let none : c.in_ok-is_dir.field-0 ≡ false = search rules in
-    kept.4 f (c.loop-directory-test.ensures.some refl)
-    (none_said f c.loop-directory.directory.now c.in_ok-is_dir.field-0 none _ _
-    (c.in_ok-is_dir.ensures.followed f (subst (λ o. IsHeld o f) (sym kept.1) held) (kept.5 f held direct) (kept.2 ∙ links)))
+    let said = c.in_ok-is_dir.ensures.said f (subst (λ o. IsHeld o f) (sym kept.1) held) (kept.5 f held direct) in
+    let non = none_said c.loop-directory.self.links f c.loop-directory.directory.now c.in_ok-is_dir.field-0 none _ _ said in (
+      kept.4 f (c.loop-directory-test.ensures.some refl) non,
+      (
+        c.loop-directory.directory.now,
+        kept.8,
+        non,
+        subst (λ l. AreReported l f (c.loop-directory.directory.now ∷ []) (g.S.Strays.paths c.args.self.now.strays)
+            (g.S.Strays.paths c.is_dir.new.self.strays)) kept.2
+            (subst (λ o. AreReported c.loop-directory.self.links f (c.loop-directory.directory.now ∷ []) o
+            (g.S.Strays.paths c.is_dir.new.self.strays)) kept.6 said.0),
+      ),
+    )
 
 pub returns-then-not-branch-clause-received : goal.returns-then-not-branch-clause-received
 returns-then-not-branch-clause-received g c =

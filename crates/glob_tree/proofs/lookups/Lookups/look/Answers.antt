@@ -1,8 +1,9 @@
-use Rattle.std.proofs.Common.{rules, ◌≡◌, false, inl}
-use Rattle.glob_tree.proofs.SystemLemmas.Looking.{missing_followed}
+use Rattle.std.proofs.Common.{rules, ◌≡◌, false}
+use Rattle.glob_tree.proofs.SystemLemmas.Reporting.{said_below}
 use Rattle.glob_tree.proofs.lookups.Lookups.look.Goals as goal
 
-pub returns-else-branch-clause-followed : goal.returns-else-branch-clause-followed
-returns-else-branch-clause-followed g c = λ f held direct links.
+pub returns-else-branch-clause-said : goal.returns-else-branch-clause-said
+returns-else-branch-clause-said g c = λ f held direct.
     let none : c.in_ok-has_way.field-0 ≡ false = search rules in
-    inl (missing_followed f c.args.path.now (c.in_ok-has_way.ensures.followed f held direct links none))
+    let (way, reported) = c.in_ok-has_way.ensures.said f held direct none in
+    said_below c.args.self.now.links f c.args.path.now _ _ way reported

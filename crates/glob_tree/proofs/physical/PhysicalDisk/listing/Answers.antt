@@ -5,7 +5,6 @@ use Rattle.glob_tree.specs.Content.{list_result}
 use Rattle.glob_tree.specs.Disks.{PhysicalModel, content_with_links}
 use Rattle.glob_tree.specs.FileSystems.{IsHeld}
 use Rattle.glob_tree.specs.Followed.{AreKindsSaid}
-use Rattle.glob_tree.specs.declared.physical.Links.TheVariants.{Followed}
 use Rattle.glob_tree.specs.declared.reading.Kinds.TheVariants.{LookedUp}
 use Rattle.glob_tree.proofs.MemoryLemmas.Refusing.{fails_by}
 use Rattle.glob_tree.proofs.SystemLemmas.Looking.{Sees-from_told}
@@ -25,9 +24,9 @@ returns-in_err-entries-clause-unread g c = λ f held.
     c.from_residual.ensures.1
     (c.in_err-entries.ensures.fails f (subst (λ (d : PhysicalModel _). IsHeld d.files f) (sym c.self.view_is) held))
 
-pub returns-clause-followed : goal.returns-clause-followed
-returns-clause-followed g c = λ f.
-    subst (λ (d : PhysicalModel _). IsHeld d.files f → d.links ≡ Followed → c.args.kinds ≡ LookedUp
-    → AreKindsSaid f c.args.path.now (list_result f.content c.args.path.now) (entries_of c.in_ok-entries.entries.items)
+pub returns-clause-said : goal.returns-clause-said
+returns-clause-said g c = λ f.
+    subst (λ (d : PhysicalModel _). IsHeld d.files f → c.args.kinds ≡ LookedUp
+    → AreKindsSaid d.links f c.args.path.now (list_result f.content c.args.path.now) (entries_of c.in_ok-entries.entries.items)
     (g.S.Strays.paths d.strays) (g.S.Strays.paths c.list.new.self.strays)) c.self.view_is
-    (λ held links looked. c.in_ok-entries.ensures.followed f held links looked)
+    (λ held looked. c.in_ok-entries.ensures.said f held looked)
