@@ -58,7 +58,7 @@ AtMost-other e f h = by_answer (slice_cmp nat_cmp e.0 f.0) refl
     by_answer Equal is = absurd (both_ways (is_before e f) h (ap is_le is))
     by_answer Greater is = ap is_le (nat_list_cmp_total.antisymm f.0 e.0 ∙ ap ordering_reverse is)
 
--- no name is after those that follow
+-- no name is after the names that follow
 abbrev Rises : List DirEntry → Type 0
 Rises [] = Unit {0}
 Rises (e ∷ es) = All (AtMost e) es × Rises es

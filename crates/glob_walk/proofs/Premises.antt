@@ -17,9 +17,8 @@ use Rattle.glob_pattern.specs.Matching.Options.{new_options, default_options}
 use Rattle.glob_pattern.specs.declared.options.MatchOptions.{MatchOptions}
 use Rattle.glob_walk.specs.Components.{components, walk_fault}
 use Rattle.glob_walk.specs.Goal.{goal, is_plain, is_readable, matches_undivided, text_below, walk_takes}
-use Rattle.glob_walk.specs.Goal.{has_one_recursive, keeps_order}
-use Rattle.glob_walk.specs.Listing.{listing, descent, enter, meet}
-use Rattle.glob_walk.specs.Marks.{Found, Unread, items, front, paths}
+use Rattle.glob_walk.specs.Goal.{after_first_recursive, has_one_recursive}
+use Rattle.glob_walk.specs.Walks.{listing, descent, enter, meet, Found, Unread, items, front, paths}
 
 -- makes the definitions compute in the rows
 unfoldable computed : Unit {0}
@@ -111,8 +110,9 @@ rooted_counts = (refl, refl, refl, refl)
 -- `**` in two places gives a path twice, and two components after it break the order
 runs_count :
     (has_one_recursive (codes "**/a/**/b") ≡ false) × IsGiven nested new "**/a/**/b" ("a/a/b" ∷ "a/a/b" ∷ [])
-    × (has_one_recursive (codes "**/*/*") ≡ true) × (keeps_order (codes "**/*/*") ≡ false) × IsGiven crossed new
-    "**/*/*" ("a/c" ∷ "a/x" ∷ "a/c/d" ∷ [])
+    × (has_one_recursive (codes "**/*/*") ≡ true)
+    × (after_first_recursive (components (codes "**/*/*")) ≡ codes "*" ∷ codes "*" ∷ [])
+    × IsGiven crossed new "**/*/*" ("a/c" ∷ "a/x" ∷ "a/c/d" ∷ [])
 unfolding computed
 runs_count = (refl, refl, refl, refl, refl)
 
@@ -134,7 +134,7 @@ whole_counts :
 unfolding computed
 whole_counts = (refl, refl)
 
--- over keys that are no content, since `a` is missing, a walk does not find what the pattern matches
+-- over keys that are not a content, since `a` is missing, a walk does not find what the pattern matches
 abbrev no_content : Content
 no_content = at_root (file "a/b" ∷ [])
 

@@ -15,7 +15,7 @@ IsAnswer q answer.Nothing = q ≡ None
 IsAnswer q (answer.Look r) = IsLook q
 IsAnswer q (answer.List r) = IsList q
 
--- it is the answer of this content
+-- it is this content's answer
 abbrev pub IsAnswered : {A : Type 0} → Option Question → Answer A → Content → Type 0
 IsAnswered q answer.Nothing c = IsSomeContent c
 IsAnswered q (answer.Look r) c = IsSeenIn q r c

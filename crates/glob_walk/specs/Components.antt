@@ -15,15 +15,12 @@ use Rattle.glob_pattern.specs.Computing.Reading.{reading_of}
 use Rattle.glob_pattern.specs.Computing.Deciding.{is_match}
 use Rattle.glob_pattern.specs.declared.options.MatchOptions.{MatchOptions}
 
-abbrev pub has_root : Text → Bool
-has_root pattern = begins_with slash pattern
-
 -- the path where the walk starts
 abbrev pub start : Text → Text
-start pattern = if has_root pattern then root_dir else cur_dir
+start pattern = if begins_with slash pattern then root_dir else cur_dir
 
 abbrev pub without_root : Text → Text
-without_root pattern = if has_root pattern then drop 1 pattern else pattern
+without_root pattern = if begins_with slash pattern then drop 1 pattern else pattern
 
 abbrev pub without_end_separator : Text → Text
 without_end_separator text = if ends_with slash text then take (length text - 1) text else text
@@ -31,10 +28,6 @@ without_end_separator text = if ends_with slash text then take (length text - 1)
 -- the pieces after the root, without one separator at the end
 abbrev pub components : Text → List Text
 components pattern = pieces (without_end_separator (without_root pattern))
-
--- a pattern that ends in a separator wants only directories
-abbrev pub wants_directories : Text → Bool
-wants_directories pattern = ends_with slash pattern
 
 -- the component has no wildcard
 abbrev pub is_literal : Text → Bool
@@ -64,6 +57,6 @@ abbrev pub first_fault : List Text → Option Fault
 first_fault [] = None
 first_fault (t ∷ ts) = option_or (result_err (reading_of (chars t))) (first_fault ts)
 
--- the fault of a walk's pattern: that of the whole text or, if that has none, of the first component that has one
+-- the fault of a walk's pattern: the fault of the whole text or, if that has none, of the first component with a fault
 unfoldable pub walk_fault : Text → Option Fault
 walk_fault pattern = first_fault (pattern ∷ components pattern)

@@ -2,7 +2,7 @@
 use Rattle.std.specs.Prelude.{ℕ, List, []}
 use Rattle.glob_tree.specs.Content.{Content}
 use Rattle.glob_walk.specs.Machines.{MachineState, Progress, IsFresh, HasGiven, listing_of}
-use Rattle.glob_walk.specs.Marks.{Mark, Item, items, IsBeginning}
+use Rattle.glob_walk.specs.Walks.{Mark, Item, items, IsBeginning}
 
 -- A new walk has given nothing of its listing, and what a walk has given is a prefix of the listing's items. So a
 -- caller's proof keeps `HasGiven` from step to step, for a content whose answers it gives.

@@ -3,23 +3,22 @@ use Rattle.std.specs.Prelude.{◌≡◌, ℕ, ◌+◌, ◌≤◌, true, false, L
 use Rattle.glob_tree.specs.Content.{Content}
 use Rattle.glob_tree.specs.Answers.{IsTold}
 use Rattle.glob_walk.specs.Machines.{MachineState, Progress, Saying, Says, Counts, HasGiven, GivesNext, listing_of}
-use Rattle.glob_walk.specs.Marks.{Mark, Item}
-use Rattle.glob_walk.specs.Walks.{LimitAt}
+use Rattle.glob_walk.specs.Walks.{Mark, Item, LimitAt}
 
 -- what contracts see of a walk over a tree of the type X: the tree, and the machine that asks it
 pub record Walking (X : Type 0) (P : Progress) : Type 0 where
   pub tree : X
   pub machine : MachineState P
 
--- the tree was asked what was charged; at a limit refusal at least that, and the limit is spent
+-- the tree was asked as much as was charged; at a limit refusal at least as much, and the limit is spent
 abbrev pub IsAsked : {X : Type 0} {P : Progress} → (X → ℕ) → Walking X P → Saying → Walking X P → Type 0
 IsAsked asks old (Says (LimitAt path)) new =
     (new.machine.spent ≡ new.machine.limit)
     × (asks old.tree + new.machine.spent ≤ asks new.tree + old.machine.spent)
 IsAsked asks old _ new = asks new.tree + old.machine.spent ≡ asks old.tree + new.machine.spent
 
--- What one call of `next` does: the counts, over every tree. Over a tree with known content, some items of the written
--- listing were given before, and this call returns the next.
+-- What one call of `next` does: over every tree, to the counts; over a tree with known content, some items of the
+-- written listing were given before, and this call returns the next one.
 pub record Goes {X : Type 0} {P : Progress} (asks : X → ℕ) (tells : X → Option Content) (old : Walking X P) (s : Saying)
     (new : Walking X P) : Type 0 where
   pub counts : Counts old.machine s new.machine

@@ -1,14 +1,15 @@
 -- Laws of walks, as statements.
-use Rattle.std.specs.Prelude.{◌≡◌, ℕ, ◌+◌, ◌*◌, ◌≤◌, false, not, if◌then◌else◌, List, [], ◌∷◌, length, Some, IsTrue, ◌&&◌, Bool, IsPermutation, AllPairs}
+use Rattle.std.specs.Prelude.{◌≡◌, ℕ, ◌+◌, ◌*◌, ◌≤◌, false, not, if◌then◌else◌, List, [], ◌∷◌, length, Some, IsTrue}
+use Rattle.std.specs.Prelude.{◌&&◌, Bool, IsPermutation, AllPairs}
 use Rattle.std.specs.Str.{IsUtf8, is_utf8}
 use Rattle.std.specs.List.{list_all}
 use Rattle.glob_text.specs.Text.{Text}
 use Rattle.glob_tree.specs.Paths.{is_proper}
 use Rattle.glob_tree.specs.Content.{Content, Key, DirEntry, is_content, is_dir_at, is_before, resolve, sorted_entries}
 use Rattle.glob_walk.specs.Components.{begins_recursive, components, is_recursive}
-use Rattle.glob_walk.specs.Marks.{Mark, Item, items, cost, paths, IsBeginning}
-use Rattle.glob_walk.specs.Listing.{descent, levels, listing}
-use Rattle.glob_walk.specs.Goal.{is_plain, matches_undivided, text_below, is_readable, goal, taken_goal, walk_takes, ReachesTexts, GivesTexts, IsOrderly}
+use Rattle.glob_walk.specs.Walks.{Mark, Item, items, cost, paths, IsBeginning, descent, levels, listing}
+use Rattle.glob_walk.specs.Goal.{is_plain, matches_undivided, text_below, is_readable, goal, taken_goal, walk_takes}
+use Rattle.glob_walk.specs.Goal.{ReachesTexts, GivesTexts, IsOrderly}
 use Rattle.glob_pattern.specs.declared.options.MatchOptions.{MatchOptions}
 
 -- a plain walk: of a plain pattern over a content
@@ -66,10 +67,11 @@ PlainWalkOrderly =
 
 -- case-sensitively, these are the keys whose texts the undivided pattern matches
 abbrev pub TakenGoalIsGoal : Type 0
-TakenGoalIsGoal = (c : Content) (o : MatchOptions) (pattern : Text) → IsSensitiveWalk c o pattern → taken_goal c o pattern ≡ goal c o pattern
+TakenGoalIsGoal = (c : Content) (o : MatchOptions) (pattern : Text) → IsSensitiveWalk c o pattern →
+    taken_goal c o pattern ≡ goal c o pattern
 
--- What components cost at most for each of n keys: a polynomial in n. Its degree is at most the number of places with
--- `**`; `**/**` is one place.
+-- How much components cost at most for each of n keys: a polynomial in n, whose degree is at most the number of places
+-- with `**` (`**/**` is one place).
 abbrev pub cost_per_key : (n : ℕ) → (components : List Text) → ℕ
 cost_per_key n [] = 0
 cost_per_key n (t ∷ ts) =
@@ -83,7 +85,7 @@ PlainWalkCosts =
     (c : Content) (o : MatchOptions) (pattern : Text) → IsPlainWalk c pattern
     → cost (listing c o pattern) ≤ 1 + cost_per_key (length c.kinds) (components pattern) * length c.kinds
 
--- `levels` levels, and any greater number, give the same marks of a descent below a directory
+-- a descent below a directory gives the same marks for `levels` levels and for any greater number
 abbrev pub EnoughLevelsAgree : Type 0
 EnoughLevelsAgree =
     (c : Content) (o : MatchOptions) (each : Text → Text → Bool → List Mark) (path : Text) (k : Key)

@@ -6,9 +6,7 @@ pub mod GlobErrors
 pub mod Goal
 pub mod Iterating
 pub mod Laws
-pub mod Listing
 pub mod Machines
-pub mod Marks
 pub mod Private
 pub mod Questions
 pub mod Walks

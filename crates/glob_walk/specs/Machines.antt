@@ -7,16 +7,15 @@ use Rattle.glob_tree.specs.Content.{Content}
 use Rattle.glob_pattern.specs.declared.options.MatchOptions.{MatchOptions}
 use Rattle.glob_tree.specs.declared.tree.ListError.{ListError}
 use Rattle.glob_tree.specs.declared.tree.ListError.TheVariants.{Read, Memory}
-use Rattle.glob_walk.specs.Listing.{listing_from}
-use Rattle.glob_walk.specs.Marks.{Mark, Item, Work, Unread, IsUpTo}
+use Rattle.glob_walk.specs.Walks.{listing_from, Mark, Item, Work, Unread, IsUpTo, Outcome, Gives, LimitAt, NoMemory}
+use Rattle.glob_walk.specs.Walks.{outcome, refusal_end}
 use Rattle.glob_walk.specs.Questions.{Question, IsLook, IsListWith, question_path}
-use Rattle.glob_walk.specs.Walks.{Outcome, Gives, LimitAt, NoMemory, outcome, refusal_end}
 use Rattle.glob_walk.specs.declared.error.GlobError.{GlobError}
 use Rattle.glob_walk.specs.declared.machine.Step.{Step}
 use Rattle.glob_walk.specs.declared.machine.Step.TheVariants as step
 
--- How far a walk has come is private, and has a type of its own. A caller knows three things of it: what is left of the
--- written listing over a content, where the unit of an open question is charged, and whether the answers so far agree
+-- How far a walk has come is private, and has a type of its own. A caller knows two things about it: what is left of
+-- the written listing over a content (the unit of an open question is charged), and whether the answers so far agree
 -- with a content. This crate's type is `Walk A`; no statement depends on what it is.
 pub record Progress : Type 1 where
   pub State : Type 0
@@ -26,7 +25,7 @@ pub record Progress : Type 1 where
 -- what a walk looks for; it never changes
 pub record Aim : Type 0 where
   pub options : MatchOptions
-  -- it starts at the root, and not in the current directory
+  -- it starts at the root, instead of in the current directory
   pub rooted : Bool
   pub components : List Text
   -- only directories are given
@@ -39,7 +38,7 @@ listing_of c aim = listing_from c aim.options aim.rooted aim.directories aim.com
 -- what contracts see of a walk that asks its caller
 pub record MachineState (P : Progress) : Type 0 where
   pub limit : ℕ
-  -- the units of work that were charged, including that of an open question
+  -- the units of work that were charged, including the unit of an open question
   pub spent : ℕ
   -- the items that were given, including a refusal
   pub given : ℕ
@@ -58,8 +57,8 @@ pub record MachineState (P : Progress) : Type 0 where
 abbrev pub left_of : {P : Progress} → Content → MachineState P → List Mark
 left_of {P} c walk = P.left c walk.state
 
--- The answers so far agree with the content. At first they do with each content, and an answer of that content keeps it
--- so.
+-- The answers so far agree with the content. At first they agree with every content, and each answer that comes from
+-- the content keeps it so.
 abbrev pub Agrees : {P : Progress} → Content → MachineState P → Type 0
 Agrees {P} c walk = P.Agrees c walk.state
 
@@ -127,7 +126,7 @@ IsAskedAfter (Says o) q = q ≡ None
 IsAskedAfter Ends q = q ≡ None
 
 -- What is charged for n entries in the answer: one unit each, and one for the next question. At a limit refusal the
--- whole limit is spent, and does not pay for the entries and one unit more.
+-- whole limit is spent, which is less than the entries and one more unit.
 abbrev pub IsCharged : {P : Progress} → ℕ → MachineState P → Saying → MachineState P → Type 0
 IsCharged n old (Says (LimitAt path)) new = (new.spent ≡ new.limit) × (new.limit ≤ old.spent + n)
 IsCharged n old s new = new.spent ≡ old.spent + n + step_units s
@@ -156,8 +155,9 @@ pub record HasGiven {P : Progress} (listing : List Mark) (c : Content) (given : 
   pub going : walk.over ≡ false
   pub upto : IsUpTo listing walk.spent given (left_of c walk)
 
--- What the next step does to it: a question keeps it, an item is the next one, `Done` means that it was all, a limit
--- refusal that the next unit does not fit, and an allocation failure that what was charged is a prefix of the listing.
+-- What each step says about the listing. A question leaves the items given as they are. An item is the next item of the
+-- listing. `Done` comes after the last item. If the limit is reached, the next unit does not fit. If an allocation
+-- fails, what was charged is a prefix of the listing.
 abbrev pub GivesNext : {P : Progress} → List Mark → Content → List Item → Saying → MachineState P → Type 0
 GivesNext listing c given AsksLook walk = HasGiven listing c given walk
 GivesNext listing c given (AsksList kinds) walk = HasGiven listing c given walk
@@ -167,13 +167,14 @@ GivesNext listing c given (Says (LimitAt path)) walk =
 GivesNext listing c given (Says NoMemory) walk = (rest : List Mark) × IsUpTo listing walk.spent given rest
 GivesNext listing c given Ends walk = IsUpTo listing walk.spent given []
 
--- the last charged unit is that of a question at the path
+-- the last charged unit is for a question at the path
 pub record AsksNext (listing : List Mark) (given : List Item) (path : Text) (spent : ℕ) (left : List Mark) : Type 0 where
   pub before : ℕ
   pub unit : spent ≡ before + 1
   pub upto : IsUpTo listing before given (Work path ∷ left)
 
--- What one step does: the counts, whatever the answer, and the rest for each content that gave the caller's answers.
+-- What one step does: to the counts, whatever the answer; and to the rest, for each content that gave the caller's
+-- answers.
 pub record StepGoes {P : Progress} (Fits : Content → Type 0) (n : ℕ) (old : MachineState P) (s : Saying) (new : MachineState P)
     : Type 0 where
   pub counts : StepCounts n old s new

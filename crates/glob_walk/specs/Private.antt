@@ -1,3 +1,4 @@
+-- Definitions that only private contracts cite.
 pub mod Depths
 pub mod Forms
 pub mod Frames

@@ -10,8 +10,8 @@ use glob_pattern::{MatchOptions, Pattern, PatternRefusal};
 use std::alloc::{AllocError, Allocator};
 use std::marker::Model;
 
-/// What is kept of a component: the text of a literal one, the pattern of one with wildcards, and for `**` nothing,
-/// since no name is matched against it.
+/// What is kept of a component: the text of a literal component, the pattern of a component with wildcards, and nothing
+/// for `**`, since no name is matched against it.
 #[derive(Drop)]
 enum Form<A: Allocator> {
     Literal(String<A>),
@@ -86,8 +86,7 @@ impl<A: Allocator + Copy> Component<A> {
         Ok(Component { form })
     }
 
-    /// Checks a text for a fault, and keeps nothing of it. The error is that fault, or `Memory` if an allocation
-    /// failed.
+    /// Checks a text for a fault, and keeps nothing. The error is the fault, or `Memory` if an allocation failed.
     pub fn check(alloc: A, text: &str) -> Result<(), PatternRefusal>
         ensures accepted { IfOk result (λ _. text_fault text.now ≡ None) }
         ensures refused { IfErr result (RefusesWith (text_fault text.now)) }
@@ -99,7 +98,7 @@ impl<A: Allocator + Copy> Component<A> {
         Ok(())
     }
 
-    /// Whether it matches the name; `**` matches none.
+    /// Whether it matches the name; `**` matches no name.
     pub fn matches(&self, name: &str, options: MatchOptions) -> Result<bool, AllocError>
         ensures { IfOk result (λ yes. yes ≡ takes_name options self.now name.now) }
     {

@@ -17,7 +17,7 @@ pub enum GlobCause {
     /// Out of memory: an allocation failed, and the walk has ended. Nothing is promised for the error's path; in this
     /// version it is empty.
     Memory,
-    /// The next unit of work does not fit the walk's limit. It is for this path. The walk has ended.
+    /// The next unit of work, which is for this path, does not fit the walk's limit. The walk has ended.
     Limit,
 }
 
@@ -123,7 +123,7 @@ impl<A: Allocator> From<GlobError<A>> for io::Error {
 }
 
 /// The path, and why it could not be read. If the cause is `Read`, the text ends with what the I/O error prints, and
-/// nothing is promised for any of it.
+/// nothing is promised about the text.
 impl<A: Allocator> fmt::Display for GlobError<A> {
     ghost use Rattle.glob_walk.specs.GlobErrors.{glob_error_words};
 

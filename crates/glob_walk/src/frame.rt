@@ -4,8 +4,8 @@
 //! It is read from the tree once, as a whole. Each step moves the cursor once, and makes at most one task, so a child's
 //! path is built only if the child is met or entered.
 //!
-//! Under `**` each entry takes two steps. First the component after the `**` meets it, or at the pattern's end it is
-//! given; then, if it is a directory, the `**` enters it.
+//! Under `**` each entry takes two steps. First the component after the `**` meets the entry, or, at the pattern's end,
+//! the entry is given. Then, if it is a directory, the `**` enters it.
 ghost use Rattle.std.specs.Prelude.{◌≡◌, ◌+◌, ◌<◌, ◌≤◌, ◌++◌, ℕ, false, IfOk, None, OnOk, vec_len};
 ghost use Rattle.glob_tree.specs.Content.{Content};
 ghost use Rattle.glob_walk.specs.Private.Tasks.{next_marks, next_ready, IsNextSound};
@@ -49,7 +49,7 @@ pub struct Frame<A: Allocator> {
 }
 
 impl<A: Allocator + Copy> Frame<A> {
-    /// Whether nothing is left in it, as the cursor is past the last entry.
+    /// Whether nothing is left in it: the cursor is past the last entry.
     pub fn is_done(&self) -> bool
         ensures { result ≡ is_done_frame self.now }
     {
@@ -59,8 +59,8 @@ impl<A: Allocator + Copy> Frame<A> {
         }
     }
 
-    /// Moves to the next cursor, and returns the task that follows from the last one, if any. The steps that are left
-    /// get fewer: at most two for each entry, and one each for `..` and `.`.
+    /// Moves the cursor one step, and returns the task that follows from where it was, if any. Each call leaves fewer
+    /// steps: there are at most two for each entry, and one each for `..` and `.`.
     pub fn step(&mut self, plan: &Plan<A>) -> Result<Option<Task<A>>, AllocError>
         requires going { is_done_frame self.old ≡ false }
         requires within { self.old.component < vec_len plan.now.components }

@@ -4,10 +4,9 @@ ghost use Rattle.std.specs.Path.{root_dir, cur_dir};
 ghost use Rattle.glob_tree.specs.Answers.{IsTold, entry_count};
 ghost use Rattle.glob_tree.specs.Content.{Content, is_content};
 ghost use Rattle.glob_walk.specs.Goal.{are_plain, is_plain};
-ghost use Rattle.glob_walk.specs.Listing.{levels, listing};
+ghost use Rattle.glob_walk.specs.Walks.{levels, listing, NoMemory, RefusesWith};
 ghost use Rattle.glob_walk.specs.Machines.{Agrees, IsAskedAfter, IsFresh, Says, StepGoes, list_error_outcome, left_of, saying, listing_of};
 ghost use Rattle.glob_walk.specs.Components.{walk_fault};
-ghost use Rattle.glob_walk.specs.Walks.{NoMemory, RefusesWith};
 ghost use Rattle.glob_walk.specs.Private.Stacks.{aim_of};
 ghost use Rattle.glob_walk.specs.Answers.{IfFailed, IsAnswer, IsAnswered, answer_count};
 ghost use Rattle.glob_walk.specs.Questions.{IsLook, IsList, IsListedIn, IsSeenIn, IsSomeContent, question_path, question_units};
@@ -66,10 +65,10 @@ pub enum Answer<A: Allocator = Global> {
 /// machine.next()                  // Step::Done; machine.spent() is 4
 /// ```
 ///
-/// As long as all answers are those of one content, its questions and items are those of the written listing, in order:
-/// the items so far are a prefix of the listing's, and at `Done` they are all. Whatever the answers are, it charges one
-/// unit for each question, before it asks it, and one for each entry in an answer; it gives at most one item more than
-/// it charged units; and it never charges more than its limit, so it comes to an end.
+/// As long as all answers come from one content, its questions and items are those of the written listing, in order:
+/// the items so far are a prefix of the listing's, and at `Done` they are all of them. Whatever the answers are, it
+/// charges one unit for each question, before it asks it, and one for each entry in an answer. It gives at most one
+/// more item than it charged units. It never charges more than its limit, so it comes to an end.
 #[derive(Drop)]
 pub struct WalkMachine<A: Allocator = Global> {
     walker: Walker<A>,
@@ -223,9 +222,9 @@ impl<A: Allocator + Copy> WalkMachine<A> {
         self.resume(Answer::List(listed))
     }
 
-    /// Takes the answer to the open question, if there is one, and returns the next step, as
-    /// [`looked`](WalkMachine::looked), [`listed`](WalkMachine::listed) and [`next`](WalkMachine::next) do:
-    /// `Answer::Look(seen)` does what `looked(seen)` does. If no question is open, the answer does not matter. An
+    /// Takes the answer to the open question, if there is one, and returns the next step, like
+    /// [`looked`](WalkMachine::looked), [`listed`](WalkMachine::listed) and [`next`](WalkMachine::next):
+    /// `Answer::Look(seen)` has the effect of `looked(seen)`. If no question is open, the answer does not matter. An
     /// answer to another question leaves the walk as it is: the question is asked again, at no cost.
     pub fn resume(&mut self, answer: Answer<A>) -> Step<A>
         ensures failed { IsAnswer self.old.asked answer
@@ -259,8 +258,8 @@ impl<A: Allocator> WalkMachine<A> {
         }
     }
 
-    /// How many units of work were charged, including that of an open question: never more than the limit. It is 1 at
-    /// the first question, and 4 after `*` has looked at a directory and listed it with two entries.
+    /// How many units of work were charged, including the unit of an open question: never more than the limit. It is 1
+    /// at the first question, and 4 after `*` has looked at a directory and listed it with two entries.
     pub fn spent(&self) -> u64
         ensures spent { result ≡ self.now.spent }
         ensures within { result ≤ self.now.limit }
@@ -277,9 +276,10 @@ impl<A: Allocator> WalkMachine<A> {
         self.given
     }
 
-    /// How many directories it keeps with their entries: those that it listed and has not gone through. The last step
-    /// in a directory drops it. With a plain pattern each is below the one before it, so over a content they are at most
-    /// as many as the longest key has names. It is 1 after `*` has given the first of two files, and 0 after the second.
+    /// How many directories it keeps with their entries: directories that it listed and has not finished. The last step
+    /// in a directory drops it. With a plain pattern each kept directory is below the one before it, so over a content
+    /// there are at most as many as the longest key has names. It is 1 after `*` has given the first of two files, and
+    /// 0 after the second.
     pub fn kept(&self) -> usize
         ensures kept { result ≡ self.now.kept }
         ensures few { (c : Content) → IsTrue (is_content c) → Agrees c self.now

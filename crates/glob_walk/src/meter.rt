@@ -1,7 +1,7 @@
 //! The limit of a walk, and what is charged against it.
 //!
 //! Each unit is charged before the question that it pays for, and a question that does not fit the limit is not asked.
-//! Only the entries of a listing are charged afterwards, since they cannot be counted before.
+//! Only the entries of a listing are charged afterwards, since they cannot be counted before that.
 ghost use Rattle.std.specs.Prelude.{◌≡◌, ◌+◌, ◌<◌, ◌≤◌, true, false, vec_len, IsPermutation};
 ghost use Rattle.std.specs.List.Sorted.{IsSortedByKey};
 ghost use Rattle.std.specs.Cmp.Lexicographic.{slice_cmp};

@@ -13,8 +13,8 @@ use std::alloc::Allocator;
 
 /// Whether the pattern is plain, so that its walk finds what the undivided pattern matches: no component is empty, `.`
 /// or `..`, and each that has a wildcard and begins with a dot is right after a `**`. A `/` at the start or at the end
-/// makes no component, but `/` by itself has an empty one, as the empty pattern has. The errors are those of
-/// [`WalkMachine::new`](crate::WalkMachine::new).
+/// makes no component, but the pattern `/` has an empty component, and so does the empty pattern. The errors are those
+/// of [`WalkMachine::new`](crate::WalkMachine::new).
 ///
 /// For example, `src/**/*.rs` is plain, `src/./*.rs` and `.*` are not, and `a**` is refused.
 #[tactic(auto, unfolding(crate::specs::Goal::is_plain))]
@@ -27,7 +27,7 @@ pub fn is_plain<A: Allocator + Copy>(alloc: A, pattern: &str) -> Result<bool, Pa
     Ok(are_plain(past_root(pattern)))
 }
 
-/// Whether the components of a text, which are between its separators, are plain.
+/// Whether the components of a text, which are the parts between separators, are plain.
 fn are_plain(text: &str) -> bool
     ensures { result ≡ are_plain false (pieces text.now) }
 {

@@ -6,8 +6,9 @@
 ghost use Rattle.std.specs.Prelude.{◌≡◌, ◌+◌, ◌<◌, ◌≤◌, [], ◌∷◌, true, false, None, IfOk, IfErr, MatchOption, OnSome, IfNone, drop, vec_len, if◌then◌else◌};
 ghost use Rattle.std.specs.List.{list_all};
 ghost use Rattle.std.specs.Path.{cur_dir, has_no_slash, root_dir};
-ghost use Rattle.glob_text.specs.Pieces.{pieces};
-ghost use Rattle.glob_walk.specs.Components.{components, first_fault, has_root, walk_fault, wants_directories, without_root, without_end_separator};
+ghost use Rattle.glob_text.specs.Pieces.{pieces, begins_with, ends_with};
+ghost use Rattle.glob_text.specs.Characters.{slash};
+ghost use Rattle.glob_walk.specs.Components.{components, first_fault, walk_fault, without_root, without_end_separator};
 ghost use Rattle.glob_walk.specs.Private.Merging.{merged, are_merged};
 ghost use Rattle.glob_walk.specs.Walks.{RefusesWith};
 
@@ -19,11 +20,11 @@ use std::alloc::Allocator;
 /// What a walk looks for: the components of a pattern, in order.
 #[derive(Drop)]
 pub struct Plan<A: Allocator> {
-    /// The components, in which no character is a separator. No two adjacent ones are `**`.
+    /// The components. None has a separator in it, and no two adjacent ones are `**`.
     pub components: Vec<Component<A>, A>,
     /// How names are matched.
     pub options: MatchOptions,
-    /// Whether it starts at the root, and not in the current directory.
+    /// Whether it starts at the root, instead of in the current directory.
     pub rooted: bool,
     /// Whether only directories are given.
     pub directories: bool,
@@ -40,13 +41,13 @@ impl<A: Allocator + Copy> Plan<A> {
         ensures components { IfOk result
             (λ plan. plan.components.items ≡ merged (components pattern.now)) }
         ensures options { IfOk result (λ plan. plan.options ≡ options) }
-        ensures rooted { IfOk result (λ plan. plan.rooted ≡ has_root pattern.now) }
+        ensures rooted { IfOk result (λ plan. plan.rooted ≡ begins_with slash pattern.now) }
         ensures directories { IfOk result
-            (λ plan. plan.directories ≡ wants_directories pattern.now) }
+            (λ plan. plan.directories ≡ ends_with slash pattern.now) }
         ensures accepted { IfOk result (λ _. walk_fault pattern.now ≡ None) }
         ensures refused { IfErr result (RefusesWith (walk_fault pattern.now)) }
     {
-        // The whole text first, so that the place of its fault is counted from the start of the pattern.
+        // The whole text comes first, so that the place of its fault is counted from the start of the pattern.
         Component::check(alloc, pattern)?;
         let components = read_components(alloc, past_root(pattern))?;
         Ok(Plan {
@@ -90,8 +91,8 @@ impl<A: Allocator> Plan<A> {
         }
     }
 
-    /// Whether the kinds of a directory's entries matter for the component of this number, which is `**` or has
-    /// wildcards. They do not if it is the last, is not `**`, and not only directories are wanted.
+    /// Whether the kinds of a directory's entries matter for the component with this number, which is `**` or has
+    /// wildcards. They do not matter if it is the last component, is not `**`, and files are wanted too.
     pub fn needs_kinds(&self, number: usize, recursive: bool) -> bool
         requires { number < vec_len self.now.components }
         ensures { result ≡ false → IgnoresKinds self.now number recursive }
@@ -100,7 +101,7 @@ impl<A: Allocator> Plan<A> {
     }
 }
 
-/// Reads the components of a text, which are between its separators. A `**` right after a `**` is left out.
+/// Reads the components of a text, which are the parts between separators. A `**` right after a `**` is left out.
 fn read_components<A: Allocator + Copy>(
     alloc: A,
     text: &str,
@@ -122,7 +123,7 @@ fn read_components<A: Allocator + Copy>(
     Ok(components)
 }
 
-/// The text of the components: the pattern without a separator at its start and one at its end.
+/// The text of the components: the pattern without a separator at its start and without one at its end.
 pub fn past_root(pattern: &str) -> &str
     ensures { result.now ≡ without_end_separator (without_root pattern.now) }
 {
@@ -131,14 +132,14 @@ pub fn past_root(pattern: &str) -> &str
 
 /// Whether the first character is a separator.
 fn begins_with_separator(text: &str) -> bool
-    ensures { result ≡ has_root text.now }
+    ensures { result ≡ begins_with slash text.now }
 {
     text.starts_with('/')
 }
 
 /// Whether the last character is a separator.
 fn ends_in_separator(text: &str) -> bool
-    ensures { result ≡ wants_directories text.now }
+    ensures { result ≡ ends_with slash text.now }
 {
     text.ends_with('/')
 }

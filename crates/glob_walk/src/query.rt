@@ -1,4 +1,4 @@
-//! An open question.
+//! A question of a walk, from when it is charged until it is answered.
 use crate::task::Accepted;
 use std::alloc::Allocator;
 
@@ -20,9 +20,9 @@ pub enum QueryKind {
     Look(Accepted),
     /// The entries of the directory that it leads to.
     List {
-        /// Whether the listing is for `**`, and not for a component with wildcards.
+        /// Whether the listing is for `**`, rather than for a component with wildcards.
         recursive: bool,
-        /// Whether the kinds of the entries are asked for, and not only their names.
+        /// Whether the kinds of the entries are asked for, rather than only their names.
         kinds: bool,
     },
 }

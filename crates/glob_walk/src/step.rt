@@ -2,8 +2,7 @@
 ghost use Rattle.std.specs.Prelude.{◌≡◌, string_bytes};
 ghost use Rattle.std.specs.IoError.{error_kind};
 ghost use Rattle.glob_walk.specs.Machines.{Says, is_last, item_number, saying};
-ghost use Rattle.glob_walk.specs.Marks.{Found, Unread};
-ghost use Rattle.glob_walk.specs.Walks.{Gives, LimitAt, NoMemory};
+ghost use Rattle.glob_walk.specs.Walks.{Found, Unread, Gives, LimitAt, NoMemory};
 ghost use Rattle.glob_walk.specs.Private.Turns.{asking};
 
 use crate::ending::end_of;

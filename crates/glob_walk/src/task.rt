@@ -4,7 +4,7 @@ ghost use Rattle.std.specs.Prelude.{◌≡◌, ◌≤◌, ◌∷◌, ℕ, None, 
 ghost use Rattle.glob_tree.specs.Content.{Content, look_result};
 ghost use Rattle.glob_tree.specs.Looks.{is_there};
 ghost use Rattle.glob_tree.specs.declared.tree.Look.{Look as LookOf};
-ghost use Rattle.glob_walk.specs.Marks.{Work};
+ghost use Rattle.glob_walk.specs.Walks.{Work};
 ghost use Rattle.glob_walk.specs.declared.plan.Plan.{Plan as PlanOf};
 ghost use Rattle.glob_walk.specs.Private.Depths.{IsNextDeep, IsTaskDeep};
 ghost use Rattle.glob_walk.specs.Private.Stacks.{next_weight};
@@ -20,12 +20,12 @@ pub enum Accepted {
     Any,
     /// `Dir` and `Other`: something is there.
     Present,
-    /// None of them. The path is still looked up, so that the written listing costs the same whether `.` and `..` come
-    /// after a directory or after a file.
+    /// None of them. The path is still looked up, so that `.` and `..` cost the same in the written listing after a
+    /// directory and after a file.
     Nothing,
 }
 
-/// What is known of a task's path, which decides the task: ask for a look, or go on at the path.
+/// What is known about a task's path. It decides what the task is: to ask for a look, or to go on at the path.
 #[derive(Clone, Copy)]
 pub enum TaskState {
     /// Nothing: look it up.
@@ -42,7 +42,7 @@ pub struct Task<A: Allocator> {
     pub path: String<A>,
     /// The index of the component.
     pub component: usize,
-    /// What is known of the path.
+    /// What is known about the path.
     pub state: TaskState,
 }
 
@@ -78,6 +78,7 @@ impl Accepted {
 }
 
 /// The task after a look: to go on at the path with the same component, or none if the look is not accepted.
+#[tactic(auto, using(crate::proofs::WalkLemmas::Naming::looked_marks))]
 pub fn task_after_look<A: Allocator>(
     path: String<A>,
     component: usize,

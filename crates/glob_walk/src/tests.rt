@@ -12,7 +12,7 @@ const BRANCHED: &str = "/a/ /a/c/ /a/c/e/ /a/c/e/g /a/c/e/h /a/c/f /a/d /b";
 /// A key of four names, and nothing else.
 const CHAIN: &str = "/a/ /a/b/ /a/b/c/ /a/b/c/d";
 
-/// The keys of a tree, a pattern, and the most directories that its walk keeps. The last one is not plain.
+/// The keys of a tree, a pattern, and how many directories its walk keeps at most. The last pattern is not plain.
 const ROWS: [(&str, &str, usize); 9] = [
     ("", "*", 0),
     ("/x /y", "*", 1),

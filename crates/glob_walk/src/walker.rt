@@ -6,8 +6,8 @@
 //! turn asks anything. A task that asks is replaced by a [`Query`], which is open until it is answered; turns are taken
 //! only while none is open.
 //!
-//! Nothing here reads a file: the caller answers. And nothing is recursive: a walk is a loop of turns. It comes to a
-//! question or an item, because a turn that does neither lowers the weight of the stack.
+//! Nothing here reads a file: the caller answers. And nothing is recursive: a walk is a loop of turns. It reaches a
+//! question or an item, because a turn with neither lowers the weight of the stack.
 //!
 //! ```text
 //! proceed               takes an answer, goes on to the next question or item, and clears a walk that is over
@@ -19,9 +19,9 @@
 //!                       none: Stack::step, to the next task
 //! ```
 //!
-//! The written listing is what a walk does, mark by mark. All methods of [`Walker`] have one contract, `TurnsTo`: what
-//! was left of the listing begins with what the turn charged and gave, and the rest is what is then left of the walk.
-//! After a turn without a [`Step`] the walk just goes on.
+//! The written listing says what a walk does, mark by mark. All methods of [`Walker`] have one contract, `TurnsTo`:
+//! what was left of the listing before a turn begins with what the turn charged and gave, and continues with what is
+//! left after it. After a turn without a [`Step`] the walk just goes on.
 ghost use Rattle.std.specs.Prelude.{◌≡◌, ◌≢◌, ◌+◌, ◌<◌, ◌≤◌, ◌∷◌, ℕ, IsTrue, true, false, [], None, string_bytes, vec_len, drop, not, ◌||◌, IfOk, IfErr, IfSome, Some, if◌then◌else◌};
 ghost use Rattle.glob_tree.specs.Content.{Content, is_content};
 ghost use Rattle.glob_walk.specs.Machines.{Ends, Says, is_last, list_error_outcome, saying};
@@ -131,8 +131,8 @@ impl<A: Allocator + Copy> Walker<A> {
     }
 
     /// Goes on at an existing path with the components from this number on. If none is left, the path is given: always
-    /// for a directory, and for anything else unless the pattern ends in a separator. That takes no memory. A literal
-    /// component is joined to the path, and the next task is to look that up. For `**` and for a component with
+    /// for a directory, and for anything else unless the pattern ends in a separator. This takes no memory. A literal
+    /// component is joined to the path, and the next task is to look up the result. For `**` and for a component with
     /// wildcards, a directory is listed; for anything else nothing follows.
     fn enter(&mut self, path: String<A>, number: usize, is_dir: bool) -> Option<Step<A>>
         requires idle { IsIdle self.old }
@@ -164,8 +164,8 @@ impl<A: Allocator + Copy> Walker<A> {
         Some(self.list(path, number, recursive))
     }
 
-    /// One turn: does the task, if there is one, and otherwise takes one step in the directory on top. If there is none
-    /// either, the walk is done. There is no recursion.
+    /// One turn: does the task, if there is one, and otherwise takes one step in the directory on top. If there is no
+    /// directory either, the walk is done. There is no recursion.
     fn turn(&mut self) -> Option<Step<A>>
         requires free { self.old.query ≡ None }
         ensures falls { result ≡ None → weight self.new.stack < weight self.old.stack }
@@ -307,7 +307,7 @@ impl<A: Allocator + Copy> Walker<A> {
     }
 
     /// The step of [`take_turns`](Walker::take_turns). If no item can follow it, for example after a refusal, the stack
-    /// is cleared, since a finished walk may be kept for long.
+    /// is cleared, since callers may keep a finished walk for long.
     pub fn proceed(&mut self, answer: Answer<A>) -> Step<A>
         requires opened { IsQueryOpened self.old.stack self.old.query }
         ensures failed { IsAnswer (question_of self.old.query) answer
@@ -331,8 +331,8 @@ impl<A: Allocator + Copy> Walker<A> {
     }
 }
 
-/// The task of a literal component at a path: to look up the two joined. `.` and `..` are there only in a directory,
-/// any other name if something is there.
+/// The task of a literal component at a path: to look up the path joined with the component. `.` and `..` exist only in
+/// a directory; any other name exists if the look finds something.
 #[tactic(auto, using(crate::proofs::WalkLemmas::Naming::literal_marks))]
 fn literal_task<A: Allocator + Copy>(
     plan: &Plan<A>,

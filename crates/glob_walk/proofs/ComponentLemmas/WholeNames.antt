@@ -42,7 +42,7 @@ is_open-begins o (c ∷ cs) = by_rule o.require_literal_leading_dot
     by_rule true = refl
     by_rule false = refl
 
--- up to a separator, a closed piece is a name and the separator, or that and more
+-- up to a separator, a closed piece is a name and the separator, perhaps followed by more
 pub closed-cut : (o : MatchOptions) (next : After) (b : Bool) (n r : Text) → has_no_slash n ≡ true
     → closed_then (with_separator_rule o) Recursive next b (n ++ slash ∷ r) ≡ (admits o b n &&
     (next true r || closed_then (with_separator_rule o) Recursive next true r))

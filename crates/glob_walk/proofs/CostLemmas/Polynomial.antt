@@ -8,6 +8,9 @@ use Rattle.std.specs.Path.{has_no_slash}
 use Rattle.std.specs.declared.io.ErrorKind.{ErrorKind}
 use Rattle.std.proofs.lemmas.Bool.{false≢true, and_parts}
 use Rattle.glob_text.specs.Text.{Text}
+use Rattle.glob_text.specs.Pieces.{ends_with}
+use Rattle.glob_text.specs.Characters.{slash}
+use Rattle.glob_tree.specs.Content.{origin}
 use Rattle.glob_pattern.specs.declared.options.MatchOptions.{MatchOptions}
 use Rattle.glob_tree.specs.Paths.{child}
 use Rattle.glob_tree.specs.Content.{Content, Key, DirEntry, kind_at, is_dir, children, list_result, sorted_entries}
@@ -15,25 +18,25 @@ use Rattle.glob_tree.specs.declared.kind.Kind.{Kind}
 use Rattle.glob_tree.proofs.ContentLemmas.Membership.{Contains-head, Contains-tail}
 use Rattle.glob_tree.proofs.ContentLemmas.Contents.{IsContent, IsContent-from_test, IsChild-list_result}
 use Rattle.glob_tree.proofs.ContentLemmas.Directories.{LeadsTo, ListsAs, Read, Unreadable, ListsAs-from_leads}
-use Rattle.glob_tree.proofs.ContentLemmas.Directories.{is_dir_at-kind, is_directory-look_result, directory_kind}
+use Rattle.glob_tree.proofs.ContentLemmas.Directories.{is_dir_at-kind, directory_kind}
 use Rattle.glob_tree.proofs.ContentLemmas.Sorting.{Contains-sorted_entries}
 use Rattle.glob_walk.specs.Components.{Literal, Recursive, Wild, component_kind, ComponentKind, begins_recursive}
-use Rattle.glob_walk.specs.Components.{is_recursive, components, matches_name, start, wants_directories}
-use Rattle.glob_walk.specs.Goal.{are_plain, is_plain, is_plain_component, start_key}
+use Rattle.glob_walk.specs.Components.{is_recursive, components, matches_name, start}
+use Rattle.glob_walk.specs.Goal.{are_plain, is_plain, is_plain_component}
 use Rattle.glob_walk.specs.Laws.{cost_per_key, IsPlainWalk}
-use Rattle.glob_walk.specs.Listing.{Next, after_listing, by_name, descent, enter, is_entered, levels, list_directory}
-use Rattle.glob_walk.specs.Listing.{listing, match_at, meet}
-use Rattle.glob_walk.specs.Marks.{Mark, Work, Give, Found, Unread, cost}
+use Rattle.glob_walk.specs.Walks.{Next, after_listing, by_name, descent, enter, is_entered, levels, list_directory}
+use Rattle.glob_walk.specs.Walks.{listing, match_at, meet, Mark, Work, Give, Found, Unread, cost}
 use Rattle.glob_walk.proofs.CostLemmas.Sizes.{size, size-all, size-child, size-deeper, size-some, sizes_of_children}
 use Rattle.glob_walk.proofs.CostLemmas.Totals.{total, total-mul, total-sorted_entries}
 use Rattle.glob_walk.proofs.GoalLemmas.ListingFinds.{Leads, Leads-entry, IsOwnName, own_name, resolve-own}
-use Rattle.glob_walk.proofs.GoalLemmas.ListingFinds.{look_result-own, look_of-there, look_of-directory, no_specials}
+use Rattle.glob_walk.proofs.GoalLemmas.ListingFinds.{kind_found-own, no_specials}
 use Rattle.glob_walk.proofs.GoalLemmas.ListingFinds.{plain-after}
 use Rattle.glob_walk.proofs.GoalLemmas.NamedPaths.{LeadsTo-start}
 use Rattle.glob_walk.proofs.GoalLemmas.PatternParts.{components-flat}
 use Rattle.glob_walk.proofs.ListingLemmas.ComponentKinds.{kind-Literal, kind-Recursive, kind-Wild, literal_not_recursive}
 use Rattle.glob_walk.proofs.ListingLemmas.Descending.{enter-literal, enter-wild, enter_none, enter-run}
 use Rattle.glob_walk.proofs.ListingLemmas.Descending.{enter-recursive_none, enter-levels, is_entered-directory}
+use Rattle.glob_walk.proofs.ListingLemmas.Looking.{directory_found}
 use Rattle.glob_walk.proofs.ListingLemmas.Marks.{cost-append}
 
 cost-replicate : (n : ℕ) (path : Text) → cost (replicate n (Work path)) ≡ n
@@ -172,8 +175,8 @@ module _ (c : Content) (w : IsContent c) (o : MatchOptions) (directories : Bool)
     where
       by_kind : (found : Option Kind) → kind_at c (k ++ t ∷ []) ≡ found
           → cost (by_name c (enter c o directories ts) t path d) ≤ 1 + cost_per_key keys ts * size c k
-      by_kind None e = rw (is.special, look_result-own c path k t w is at.resolved, e) (omega arith)
-      by_kind (Some found) e = rw (is.special, look_result-own c path k t w is at.resolved, e, look_of-there found, look_of-directory found)
+      by_kind None e = rw (is.special, kind_found-own c path k t w is at.resolved, e) (omega arith)
+      by_kind (Some found) e = rw (is.special, kind_found-own c path k t w is at.resolved, e)
           (omega (
             arith,
             next (child path t) (k ++ t ∷ []) (is_dir found) (record {
@@ -220,7 +223,7 @@ module _ (c : Content) (w : IsContent c) (o : MatchOptions) (directories : Bool)
   run_at ts n path name d = meet c o directories ts (child path name) name d ++ (cond (is_entered o name d)
       (descent c o (meet c o directories ts) n (child path name)) [])
 
-  -- the cost of a descent, for its rate less one
+  -- the cost of a descent, for one less than its rate
   abbrev Descends : List Text → ℕ → Type 0
   Descends ts n = (path : Text) (k : Key) (kind : Kind) → kind_at c k ≡ Some kind → LeadsTo c path k
       → cost (descent c o (meet c o directories ts) n path) + run_rate ts ≤ run_rate ts * size c k + 1
@@ -335,14 +338,14 @@ unfolding listing is_plain
 plain_walk_costs c o pattern p =
     let w = IsContent-from_test c p.content in
     let at = LeadsTo-start c w pattern in
-    let found = directory_kind c (start_key c pattern) at.directory in
+    let found = directory_kind c (origin c pattern) at.directory in
     let plain = (and_parts _ (are_plain false (components pattern)) p.plain).1 in
     let n = length c.kinds in
-    rw (is_directory-look_result c (start pattern) (start_key c pattern) at)
+    rw (directory_found c (start pattern) (origin c pattern) at)
     (omega (
       arith,
-      (each_costs c w o (wants_directories pattern) (components pattern) (components-flat pattern)).entered plain
-          (start pattern) (start_key c pattern) true
+      (each_costs c w o (ends_with slash pattern) (components pattern) (components-flat pattern)).entered plain
+          (start pattern) (origin c pattern) true
           (record { resolved = at.resolved; is = at.directory }) found.0 found.1,
-      mul-le-mul_left (cost_per_key n (components pattern)) (size-all c (start_key c pattern)),
+      mul-le-mul_left (cost_per_key n (components pattern)) (size-all c (origin c pattern)),
     ))

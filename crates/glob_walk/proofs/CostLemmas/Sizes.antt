@@ -103,7 +103,7 @@ counts k (e ∷ es) kind in' = ⊎_elim
     (Contains-cases e es (k, kind) in')
 
 module _ (c : Content) (w : IsContent c) where
-  -- the keys below a key are those at or below its children
+  -- the keys below a key are the keys at or below its children
   pub sizes_of_children : (k : Key) (kind : Kind) → kind_at c k ≡ Some kind → 1 + total (λ e. size c (k ++ e.0 ∷ []))
       (children c k) ≤ size c k
   sizes_of_children k kind held =
@@ -115,7 +115,7 @@ module _ (c : Content) (w : IsContent c) where
   pub size-child : (k : Key) (e : DirEntry) → Contains (children c k) e → 1 ≤ size c (k ++ e.0 ∷ [])
   size-child k e in' = let is = IsChild-list_result c w k e in' in size-some (k ++ e.0 ∷ []) is.kind is.held
 
--- and they are at most all keys
+-- there are at most as many as keys in all
 pub size-all : (c : Content) (k : Key) → size c k ≤ length c.kinds
 size-all c k = total-length (λ e. goes_on (names_past k e.0)) c.kinds (λ e. at_most (names_past k e.0))
   where

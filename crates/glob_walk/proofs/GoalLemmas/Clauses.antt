@@ -6,8 +6,7 @@ use Rattle.std.proofs.lemmas.List.{append-nil}
 use Rattle.glob_text.specs.Text.{Text}
 use Rattle.glob_tree.specs.Content.{Content}
 use Rattle.glob_tree.specs.Answers.{IsTold}
-use Rattle.glob_walk.specs.Marks.{Item, items, front, paths, IsBeginning}
-use Rattle.glob_walk.specs.Listing.{listing}
+use Rattle.glob_walk.specs.Walks.{Item, items, front, paths, IsBeginning, listing}
 use Rattle.glob_walk.specs.Goal.{is_plain, is_readable, taken_goal, ReachesTexts, GivesTexts, IsOrderly, goal}
 use Rattle.glob_walk.specs.Laws.{IsPlainWalk, IsSensitiveWalk}
 use Rattle.glob_pattern.specs.declared.options.MatchOptions.{MatchOptions}
@@ -28,7 +27,7 @@ plain_walk known c o pattern tells utf8 plain case = record {
   case = case;
 }
 
--- all the items are a prefix of themselves, and so are those within a limit
+-- all the items are a prefix of themselves, and the items within a limit are a prefix of all
 pub IsBeginning-whole : (given all : List Item) → given ≡ all → IsBeginning given all
 IsBeginning-whole given all whole = ([], sym (append-nil all) ∙ ap (λ is. is ++ []) (sym whole))
 

@@ -2,13 +2,13 @@
 use Rattle.std.specs.Prelude.{ℕ, zero, suc, Bool, true, ◌||◌, not, if◌then◌else◌, List, [], ◌∷◌, ◌++◌, map, flat_map, Option, Some, None}
 use Rattle.std.specs.declared.io.ErrorKind.{ErrorKind}
 use Rattle.glob_text.specs.Text.{Text}
-use Rattle.glob_walk.specs.Marks.{Item, Found, Unread}
+use Rattle.glob_text.specs.Pieces.{ends_with}
+use Rattle.glob_text.specs.Characters.{slash}
+use Rattle.glob_walk.specs.Walks.{Item, Found, Unread, is_entered, levels}
 use Rattle.glob_tree.specs.Paths.{child}
-use Rattle.glob_tree.specs.Content.{Content, Key, DirEntry, kind_at, is_dir, children, sorted_entries}
-use Rattle.glob_walk.specs.Components.{components, wants_directories, Literal, Recursive, Wild, component_kind}
+use Rattle.glob_tree.specs.Content.{Content, Key, DirEntry, kind_at, is_dir, children, sorted_entries, origin}
+use Rattle.glob_walk.specs.Components.{components, Literal, Recursive, Wild, component_kind}
 use Rattle.glob_walk.specs.Components.{begins_recursive, matches_name}
-use Rattle.glob_walk.specs.Goal.{start_key}
-use Rattle.glob_walk.specs.Listing.{is_entered, levels}
 use Rattle.glob_pattern.specs.declared.options.MatchOptions.{MatchOptions}
 use Rattle.glob_tree.specs.declared.kind.Kind.{Kind}
 use Rattle.glob_tree.specs.declared.kind.Kind.TheVariants.{Dir, Shut, Other}
@@ -92,4 +92,4 @@ module _ (c : Content) (o : MatchOptions) (directories : Bool) where
 
 -- what a walk of the pattern finds, as names after its start
 abbrev pub finds : Content → MatchOptions → (pattern : Text) → List Find
-finds c o pattern = enter_names c o (wants_directories pattern) (components pattern) (start_key c pattern) true
+finds c o pattern = enter_names c o (ends_with slash pattern) (components pattern) (origin c pattern) true

@@ -12,7 +12,7 @@ use Rattle.glob_text.specs.Text.{Text}
 use Rattle.glob_tree.specs.Content.{Content, Key, DirEntry, kind_at, is_dir, children, sorted_entries}
 use Rattle.glob_walk.specs.Components.{Literal, Recursive, Wild, component_kind, ComponentKind, begins_recursive}
 use Rattle.glob_walk.specs.Components.{is_recursive, matches_name}
-use Rattle.glob_walk.specs.Listing.{is_entered, levels}
+use Rattle.glob_walk.specs.Walks.{is_entered, levels}
 use Rattle.glob_pattern.specs.declared.options.MatchOptions.{MatchOptions}
 use Rattle.glob_tree.specs.declared.kind.Kind.{Kind}
 use Rattle.glob_tree.specs.declared.kind.Kind.TheVariants.{Dir, Shut, Other}
@@ -27,7 +27,7 @@ use Rattle.glob_walk.proofs.GoalLemmas.ListingFinds.{names-literal, names-wild, 
 use Rattle.glob_walk.proofs.GoalLemmas.ListingFinds.{names-recursive_none, names-levels}
 use Rattle.glob_walk.proofs.GoalLemmas.FoundParts.{Contains-flat_map, hit-below, hit-cond, hit-one, hit-listed}
 
--- each element is related to those after it
+-- each element is related to the elements after it
 abbrev pub Pairs : {X : Type 0} → (X → X → Type 0) → List X → Type 0
 Pairs Q [] = Unit {0}
 Pairs Q (x ∷ xs) = ((y : _) → Contains xs y → Q x y) × Pairs Q xs
@@ -251,6 +251,6 @@ module _ (c : Content) (w : IsContent c) (R : Key → Key → Type 0) (order : I
         by_kind next Recursive kind = pairs-recursive t ts kind at.0 next.entered next.after (begins_recursive ts) refl
         by_kind next Wild kind = pairs-wild t ts kind next.entered
 
-    -- the names that are found, each related to those after it
+    -- the names that are found, each related to the names after it
     pub ordered_finds : (ts : List Text) → AtRuns R ts → (k : Key) (d : Bool) → Pairs (OfHits R) (enter_names c o directories ts k d)
     ordered_finds ts at = (both_ordered ts at).entered

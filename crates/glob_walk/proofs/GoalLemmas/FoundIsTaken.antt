@@ -1,4 +1,4 @@
--- The names found at a key are those of keys below it that the components take.
+-- The names found at a key are the names of keys below it that the components take.
 use Rattle.std.proofs.Common.{◌≡◌, ℕ, zero, suc, ◌⊎◌, inl, inr, Bool, true, false, not, ◌||◌, List, [], ◌∷◌, ◌++◌}
 use Rattle.std.proofs.Common.{Option, Some, None, refl, sym, ap, subst, ◌∙◌}
 use Rattle.std.specs.Prelude.{Contains}
@@ -10,7 +10,7 @@ use Rattle.glob_text.specs.Text.{Text}
 use Rattle.glob_tree.specs.Content.{Content, Key, DirEntry, kind_at, is_dir, children}
 use Rattle.glob_walk.specs.Components.{Literal, Recursive, Wild, component_kind, ComponentKind, begins_recursive}
 use Rattle.glob_walk.specs.Components.{is_recursive, is_literal, matches_name}
-use Rattle.glob_walk.specs.Listing.{is_entered, levels}
+use Rattle.glob_walk.specs.Walks.{is_entered, levels}
 use Rattle.glob_walk.specs.Goal.{ends_recursive, walk_takes, walk_takes_name}
 use Rattle.glob_pattern.specs.declared.options.MatchOptions.{MatchOptions}
 use Rattle.glob_tree.specs.declared.kind.Kind.{Kind}
@@ -44,7 +44,7 @@ pub record IsMet (c : Content) (o : MatchOptions) (directories : Bool) (t : Text
   pub met : MetBy o ts name names
   pub allowed : allows directories (t ∷ ts) kind ≡ true
 
--- a literal component takes its own name, and one with wildcards takes what it matches
+-- a literal component takes its own name, and a component with wildcards takes what it matches
 literal_takes : (o : MatchOptions) (t : Text) → is_literal t ≡ true → walk_takes_name o false t t ≡ true
 literal_takes o t literal = rw literal ((bytes_eq-Decides t t).1 refl)
 
@@ -61,7 +61,7 @@ module _ (c : Content) (w : IsContent c) (o : MatchOptions) (directories : Bool)
   Entered ts = (k : Key) (d : Bool) → Here c k d → (names : Key) → Contains (enter_names c o directories ts k d)
       (Hit names) → IsTakenAt c o directories ts k names
 
-  -- and so is what is found at an entry that is met under `**`
+  -- the same for what is found at an entry that is met under `**`
   abbrev Met : Text → List Text → Type 0
   Met t ts = (k : Key) (name : Text) (d : Bool) → Here c k d → (names : Key) → Contains (meet_names c o directories ts
       k name d) (Hit names) → IsMet c o directories t ts k name names

@@ -10,7 +10,7 @@ use Rattle.glob_tree.specs.declared.kind.Kind.{Kind}
 use Rattle.glob_tree.specs.declared.kind.Kind.TheVariants.{Dir, Shut, Other}
 use Rattle.glob_tree.proofs.ContentLemmas.Membership.{Contains-head, Contains-tail, Contains-cases, Contains-nil}
 use Rattle.glob_tree.proofs.ContentLemmas.Sorting.{Contains-sorted_entries}
-use Rattle.glob_walk.specs.Marks.{Unread, paths}
+use Rattle.glob_walk.specs.Walks.{Unread, paths}
 use Rattle.glob_walk.proofs.GoalLemmas.Finds.{Find, Hit, Miss, deepen, item_under, under, below, list_kind, list_names}
 
 -- an element of a list made part by part is in one of the parts
@@ -90,7 +90,7 @@ no_miss true names kind h = ⊎_elim (λ same. differ same) (λ later. Contains-
     differ e = cc
 no_miss false names kind h = Contains-nil (Miss names kind) h
 
--- each path among the items is that of a hit
+-- each path among the items is the path of a hit
 pub hit_of_path : (path : Text) (fs : List Find) (text : Text) → Contains (paths (map (item_under path) fs)) text →
     (names : Key) × (text ≡ under path names) × Contains fs (Hit names)
 hit_of_path path [] text h = absurd (Contains-nil text h)
@@ -115,7 +115,7 @@ path_of_hit path (f ∷ fs) names h = ⊎_elim (first f) (λ later. rest f (path
     rest (Hit ns) in' = Contains-tail (under path ns) (paths (map (item_under path) fs)) (under path names) in'
     rest (Miss ns kind) in' = in'
 
--- each error among the items is that of a miss
+-- each error among the items is the error of a miss
 pub miss_of_error : (path other : Text) (kind : ErrorKind) (fs : List Find) → Contains (map (item_under path) fs)
     (Unread other kind) → (names : Key) × Contains fs (Miss names kind)
 miss_of_error path other kind [] h = absurd (Contains-nil (Unread other kind) h)

@@ -7,13 +7,14 @@ use Rattle.std.proofs.lemmas.List.Splits.{length-slice_split}
 use Rattle.std.proofs.lemmas.Option.{none-some, same_Some, option_and_then_some}
 use Rattle.glob_text.specs.Text.{Text}
 use Rattle.glob_text.specs.Characters.{slash}
-use Rattle.glob_tree.specs.Content.{Content, Key, kind_at, names_past}
+use Rattle.glob_text.specs.Pieces.{ends_with}
+use Rattle.glob_tree.specs.Content.{Content, Key, kind_at, names_past, origin}
 use Rattle.glob_tree.specs.declared.kind.Kind.{Kind}
 use Rattle.glob_tree.proofs.ContentLemmas.Membership.{Contains-filter_map, filter_map-contains}
 use Rattle.glob_tree.proofs.ContentLemmas.Contents.{IsContent, IsContent-from_test, contains_kind_at, kind_at-entry}
 use Rattle.glob_tree.proofs.ContentLemmas.Contents.{names_past-append, names_past_is}
-use Rattle.glob_walk.specs.Components.{without_root, without_end_separator, components, wants_directories, is_recursive}
-use Rattle.glob_walk.specs.Goal.{start_key, text_below, matches_kind, wanted_text, taken_goal, walk_takes}
+use Rattle.glob_walk.specs.Components.{without_root, without_end_separator, components, is_recursive}
+use Rattle.glob_walk.specs.Goal.{text_below, matches_kind, wanted_text, taken_goal, walk_takes}
 use Rattle.glob_walk.specs.Laws.{are_names, IsPlainWalk}
 use Rattle.glob_pattern.specs.declared.options.MatchOptions.{MatchOptions}
 use Rattle.glob_walk.proofs.GoalLemmas.KeysBelow.{names_at}
@@ -34,9 +35,9 @@ takes_some o pattern h = no_names (components pattern) (omega (
 
 -- these are the names of a key below the start that the components take, and its kind is wanted
 abbrev pub IsTaken : Content → MatchOptions → (pattern : Text) → Key → Type 0
-IsTaken c o pattern names = IsTakenAt c o (wants_directories pattern) (components pattern) (start_key c pattern) names
+IsTaken c o pattern names = IsTakenAt c o (ends_with slash pattern) (components pattern) (origin c pattern) names
 
--- the text is that of such names
+-- the text of such names
 pub record IsGoal (c : Content) (o : MatchOptions) (pattern text : Text) : Type 0 where
   pub name : Text
   pub names : Key
@@ -59,13 +60,13 @@ module _ (c : Content) (o : MatchOptions) (pattern : Text) (p : IsPlainWalk c pa
   unfolding taken_goal is_wanted
   goal_of_taken n ns is =
       let test : is_wanted is.kind n ns ≡ true = and_from (matches_kind pattern is.kind) _ is.allowed is.taken in
-      filter_map-contains (λ e. option_and_then (wanted_text pattern taken e.1) (names_past (start_key c pattern) e.0))
-      c.kinds (start_key c pattern ++ n ∷ ns, is.kind) (text_below pattern (n ∷ ns))
-      (contains_kind_at c (start_key c pattern ++ n ∷ ns) is.kind is.held)
-      (ap (option_and_then (wanted_text pattern taken is.kind)) (names_past-append (start_key c pattern) (n ∷ ns))
+      filter_map-contains (λ e. option_and_then (wanted_text pattern taken e.1) (names_past (origin c pattern) e.0))
+      c.kinds (origin c pattern ++ n ∷ ns, is.kind) (text_below pattern (n ∷ ns))
+      (contains_kind_at c (origin c pattern ++ n ∷ ns) is.kind is.held)
+      (ap (option_and_then (wanted_text pattern taken is.kind)) (names_past-append (origin c pattern) (n ∷ ns))
       ∙ cond-true (is_wanted is.kind n ns) (Some (text_below pattern (n ∷ ns))) None test)
 
-  taken_text_is : (kind : Kind) (names : Key) (text : Text) → kind_at c (start_key c pattern ++ names) ≡ Some kind
+  taken_text_is : (kind : Kind) (names : Key) (text : Text) → kind_at c (origin c pattern ++ names) ≡ Some kind
       → wanted_text pattern taken kind names ≡ Some text → IsGoal c o pattern text
   unfolding is_wanted
   taken_text_is kind [] text held h = absurd (none-some text h)
@@ -80,7 +81,7 @@ module _ (c : Content) (o : MatchOptions) (pattern : Text) (p : IsPlainWalk c pa
             names = ns;
             same = sym (same_Some (text_below pattern (n ∷ ns)) text g);
             taken = record { kind = kind; held = held; taken = both.1; allowed = both.0 };
-            proper = names_at c w (start_key c pattern) (n ∷ ns) kind held;
+            proper = names_at c w (origin c pattern) (n ∷ ns) kind held;
           }
       by_test false e g = absurd (none-some text g)
 
@@ -88,7 +89,7 @@ module _ (c : Content) (o : MatchOptions) (pattern : Text) (p : IsPlainWalk c pa
   unfolding taken_goal
   taken_of_goal text h =
       let (e, in', gives) = Contains-filter_map (λ e. option_and_then (wanted_text pattern taken e.1)
-      (names_past (start_key c pattern) e.0)) c.kinds text h in
-      option_and_then_some (wanted_text pattern taken e.1) (names_past (start_key c pattern) e.0) text gives
-      (λ names past is. taken_text_is e.1 names text (ap (kind_at c) (sym (names_past_is (start_key c pattern) e.0
+      (names_past (origin c pattern) e.0)) c.kinds text h in
+      option_and_then_some (wanted_text pattern taken e.1) (names_past (origin c pattern) e.0) text gives
+      (λ names past is. taken_text_is e.1 names text (ap (kind_at c) (sym (names_past_is (origin c pattern) e.0
       names past)) ∙ kind_at-entry c w e in') is)

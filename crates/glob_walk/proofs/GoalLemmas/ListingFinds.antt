@@ -1,4 +1,4 @@
--- The paths of the written listing are those of the names that it finds.
+-- The paths of the written listing are the paths of the names that it finds.
 use Rattle.std.proofs.Common.{◌≡◌, ℕ, zero, suc, ◌<◌, Bool, true, false, cond, not, ◌&&◌, ◌||◌, List, [], ◌∷◌, ◌++◌}
 use Rattle.std.proofs.Common.{length, map, flat_map, replicate, Option, Some, None, refl, sym, ap, ap₂, subst, ◌∙◌}
 use Rattle.std.proofs.Common.{arith}
@@ -13,16 +13,13 @@ use Rattle.glob_text.specs.Pieces.{is_empty, begins_with}
 use Rattle.glob_tree.specs.Paths.{stays, child}
 use Rattle.glob_tree.specs.Content.{Content, Key, DirEntry, kind_at, is_dir, is_dir_at, children, sorted_entries}
 use Rattle.glob_tree.specs.Content.{resolve, look_result, look_of, list_result, kind_found, step}
-use Rattle.glob_walk.specs.Marks.{Mark, Work, Give, Found, items}
+use Rattle.glob_walk.specs.Walks.{Mark, Work, Give, Found, items, Next, by_name, match_at, special_names}
+use Rattle.glob_walk.specs.Walks.{after_listing, list_directory, is_entered, descent, levels, enter, meet}
 use Rattle.glob_walk.specs.Components.{Literal, Recursive, Wild, component_kind, ComponentKind, begins_recursive}
 use Rattle.glob_walk.specs.Components.{is_recursive, is_literal, is_current_or_parent, matches_name}
-use Rattle.glob_walk.specs.Listing.{Next, by_name, match_at, special_names, after_listing, list_directory, is_entered}
-use Rattle.glob_walk.specs.Listing.{descent, levels, enter, meet}
-use Rattle.glob_tree.specs.Looks.{is_there, is_directory}
 use Rattle.glob_walk.specs.Goal.{is_plain_component, are_plain}
 use Rattle.glob_pattern.specs.declared.options.MatchOptions.{MatchOptions}
 use Rattle.glob_tree.specs.declared.kind.Kind.{Kind}
-use Rattle.glob_tree.specs.declared.kind.Kind.TheVariants.{Dir, Shut, Other}
 use Rattle.glob_tree.proofs.ContentLemmas.Membership.{Contains-head, Contains-tail}
 use Rattle.glob_tree.proofs.ContentLemmas.Contents.{IsContent, IsChild-list_result}
 use Rattle.glob_tree.proofs.ContentLemmas.Directories.{LeadsTo, ListsAs, Read, Unreadable, ListsAs-from_leads}
@@ -183,29 +180,22 @@ pub resolve-own : (c : Content) (path : Text) (k : Key) (t : Text) (kind : Kind)
 resolve-own c path k t kind w is leads held =
     resolve_child c path t k leads is.some is.plain ∙ rw (held_above c w k t kind held, is.leads, is.down, held) refl
 
-pub look_result-own : (c : Content) (path : Text) (k : Key) (t : Text) → IsContent c → IsOwnName t → resolve c path ≡
-    Some k → look_result c (child path t) ≡ look_of (kind_at c (k ++ t ∷ []))
-unfolding look_result
-look_result-own c path k t w is leads = by_kind (kind_at c (k ++ t ∷ [])) refl
+pub kind_found-own : (c : Content) (path : Text) (k : Key) (t : Text) → IsContent c → IsOwnName t → resolve c path ≡
+    Some k → kind_found c (child path t) ≡ kind_at c (k ++ t ∷ [])
+kind_found-own c path k t w is leads = by_kind (kind_at c (k ++ t ∷ [])) refl
   where
     by_dir : (b : Bool) → is_dir_at c k ≡ b → kind_at c (k ++ t ∷ []) ≡ None → step c t k ≡ None
     by_dir true d none = rw (d, is.leads, is.down, none) refl
     by_dir false d none = rw d refl
 
-    by_kind : (found : Option Kind) → kind_at c (k ++ t ∷ []) ≡ found → look_of (kind_found c (child path t)) ≡ look_of
-        (kind_at c (k ++ t ∷ []))
+    by_kind : (found : Option Kind) → kind_at c (k ++ t ∷ []) ≡ found → kind_found c (child path t) ≡ kind_at c (k ++ t ∷ [])
     by_kind None e = rw (resolve_child c path t k leads is.some is.plain ∙ by_dir (is_dir_at c k) refl e, e) refl
     by_kind (Some kind) e = rw (resolve-own c path k t kind w is leads e) refl
 
-pub look_of-there : (kind : Kind) → is_there (look_of (Some kind)) ≡ true
-look_of-there Dir = refl
-look_of-there (Shut kind) = refl
-look_of-there Other = refl
-
-pub look_of-directory : (kind : Kind) → is_directory (look_of (Some kind)) ≡ is_dir kind
-look_of-directory Dir = refl
-look_of-directory (Shut kind) = refl
-look_of-directory Other = refl
+pub look_result-own : (c : Content) (path : Text) (k : Key) (t : Text) → IsContent c → IsOwnName t → resolve c path ≡
+    Some k → look_result c (child path t) ≡ look_of (kind_at c (k ++ t ∷ []))
+unfolding look_result
+look_result-own c path k t w is leads = ap look_of (kind_found-own c path k t w is leads)
 
 -- right after `**`, another `**` is as plain as elsewhere
 pub plain-after : (t : Text) (ts : List Text) → is_recursive t ≡ true → are_plain true (t ∷ ts) ≡ true → are_plain false (t ∷ ts) ≡ true
@@ -243,8 +233,8 @@ module _ (c : Content) (w : IsContent c) (o : MatchOptions) (directories : Bool)
     where
       by_kind : (found : Option Kind) → kind_at c (k ++ t ∷ []) ≡ found
           → items (by_name c (enter c o directories ts) t path d) ≡ map (item_under path) (below t (at_name c o directories t ts k))
-      by_kind None e = rw (is.special, look_result-own c path k t w is at.resolved, e) refl
-      by_kind (Some kind) e = rw (is.special, look_result-own c path k t w is at.resolved, e, look_of-there kind, look_of-directory kind)
+      by_kind None e = rw (is.special, kind_found-own c path k t w is at.resolved, e) refl
+      by_kind (Some kind) e = rw (is.special, kind_found-own c path k t w is at.resolved, e)
           (next (child path t) (k ++ t ∷ []) (is_dir kind) (record {
             resolved = resolve-own c path k t kind w is
                 at.resolved e;
@@ -339,7 +329,7 @@ module _ (c : Content) (w : IsContent c) (o : MatchOptions) (directories : Bool)
       let flat = and_parts (has_no_slash t) (list_all has_no_slash ts) slashless in
       both_same-cons t ts flat.0 (both_same ts flat.1)
 
-  -- With components of a plain pattern, the items at a path are those of the names found at its key.
+  -- With components of a plain pattern, the items at a path are the items of the names found at its key.
   pub same_enter : (ts : List Text) → are_plain false ts ≡ true → list_all has_no_slash ts ≡ true → (path : Text)
       (k : Key) (d : Bool) → Leads c path k d
       → items (enter c o directories ts path d) ≡ map (item_under path) (enter_names c o directories ts k d)

@@ -12,13 +12,13 @@ use Rattle.glob_text.specs.Text.{Text}
 use Rattle.glob_text.specs.Characters.{slash, dot}
 use Rattle.glob_text.specs.Pieces.{is_empty, begins_with, ends_with, pieces}
 use Rattle.glob_tree.specs.Paths.{join, stays, is_here, child, is_proper}
-use Rattle.glob_tree.specs.Content.{Content, Key, kind_at, resolve}
+use Rattle.glob_tree.specs.Content.{Content, Key, kind_at, resolve, origin}
 use Rattle.glob_tree.specs.declared.kind.Kind.{Kind}
 use Rattle.glob_tree.proofs.ContentLemmas.Contents.{IsContent}
 use Rattle.glob_tree.proofs.ContentLemmas.Directories.{LeadsTo, IsName, IsName-from_proper, step_name}
 use Rattle.glob_tree.proofs.ContentLemmas.Resolving.{resolve_child, pieces-append, pieces_one}
-use Rattle.glob_walk.specs.Components.{has_root, start}
-use Rattle.glob_walk.specs.Goal.{start_key, text_below, names_of}
+use Rattle.glob_walk.specs.Components.{start}
+use Rattle.glob_walk.specs.Goal.{text_below, names_of}
 use Rattle.glob_walk.specs.Laws.{are_names}
 use Rattle.glob_walk.proofs.GoalLemmas.Characters.{AllUtf8}
 use Rattle.glob_walk.proofs.GoalLemmas.Finds.{under}
@@ -103,7 +103,7 @@ child-root n = refl
 
 -- the path of names after the start is their text
 pub under-start : (pattern : Text) (n : Text) (ns : Key) → AreNames (n ∷ ns) → under (start pattern) (n ∷ ns) ≡ text_below pattern (n ∷ ns)
-under-start pattern n ns names = by_root (has_root pattern)
+under-start pattern n ns names = by_root (begins_with slash pattern)
   where
     by_root : (b : Bool) → under (cond b root_dir cur_dir) (n ∷ ns) ≡ cond b (slash ∷ join_with_byte slash (n ∷ ns))
         (join_with_byte slash (n ∷ ns))
@@ -126,7 +126,7 @@ pub flat-from : (ns : Key) → AreNames ns → list_all has_no_slash ns ≡ true
 flat-from [] names = refl
 flat-from (n ∷ ns) names = and_from (has_no_slash n) (list_all has_no_slash ns) names.0.plain (flat-from ns names.1)
 
--- the names of a path are those that it was made of
+-- a path has the names that it was made from
 pieces-joined : (n : Text) (ns : Key) → AreNames (n ∷ ns) → pieces (join_with_byte slash (n ∷ ns)) ≡ n ∷ ns
 pieces-joined n [] names = pieces_one n names.0.plain
 pieces-joined n (m ∷ ns) names =
@@ -141,7 +141,7 @@ kept_names (n ∷ ns) names = cond-true (not (is_empty n)) _ _ (some n names.0.s
     some (x ∷ xs) l = refl
 
 pub names_of-below : (pattern : Text) (n : Text) (ns : Key) → AreNames (n ∷ ns) → names_of (text_below pattern (n ∷ ns)) ≡ n ∷ ns
-names_of-below pattern n ns names = by_root (has_root pattern)
+names_of-below pattern n ns names = by_root (begins_with slash pattern)
   where
     by_root : (b : Bool) → names_of (cond b (slash ∷ join_with_byte slash (n ∷ ns)) (join_with_byte slash (n ∷ ns))) ≡ n ∷ ns
     by_root true = ap (filter (λ piece. not (is_empty piece))) (pieces-append [] (join_with_byte slash (n ∷ ns)) ∙ ap
@@ -149,9 +149,9 @@ names_of-below pattern n ns names = by_root (has_root pattern)
     by_root false = ap (filter (λ piece. not (is_empty piece))) (pieces-joined n ns names) ∙ kept_names (n ∷ ns) names
 
 -- the start leads to its key
-pub LeadsTo-start : (c : Content) → IsContent c → (pattern : Text) → LeadsTo c (start pattern) (start_key c pattern)
+pub LeadsTo-start : (c : Content) → IsContent c → (pattern : Text) → LeadsTo c (start pattern) (origin c pattern)
 unfolding resolve
-LeadsTo-start c w pattern = by_root (has_root pattern)
+LeadsTo-start c w pattern = by_root (begins_with slash pattern)
   where
     by_root : (b : Bool) → LeadsTo c (cond b root_dir cur_dir) (cond b [] c.current)
     by_root true = record { resolved = rw (w.root) (rw (w.root) refl); directory = w.root }

@@ -7,12 +7,14 @@ use Rattle.std.proofs.lemmas.Bool.{false≢true}
 use Rattle.std.proofs.lemmas.List.{append_assoc, append-nil}
 use Rattle.std.proofs.lemmas.List.Elements.{Contains-append_cases}
 use Rattle.glob_text.specs.Text.{Text}
+use Rattle.glob_text.specs.Pieces.{ends_with}
+use Rattle.glob_text.specs.Characters.{slash}
+use Rattle.glob_tree.specs.Content.{origin}
 use Rattle.glob_tree.specs.Content.{Content, Key, DirEntry, kind_at, is_dir, children, sorted_entries, names_past}
 use Rattle.glob_walk.specs.Components.{Literal, Recursive, Wild, component_kind, ComponentKind, begins_recursive}
-use Rattle.glob_walk.specs.Components.{matches_name, start, components, wants_directories}
-use Rattle.glob_walk.specs.Listing.{is_entered, levels, listing}
-use Rattle.glob_walk.specs.Marks.{Unread, items}
-use Rattle.glob_walk.specs.Goal.{is_readable, is_shut, start_key}
+use Rattle.glob_walk.specs.Components.{matches_name, start, components}
+use Rattle.glob_walk.specs.Walks.{is_entered, levels, listing, Unread, items}
+use Rattle.glob_walk.specs.Goal.{is_readable, is_shut}
 use Rattle.glob_walk.specs.Laws.{IsPlainWalk}
 use Rattle.glob_pattern.specs.declared.options.MatchOptions.{MatchOptions}
 use Rattle.glob_tree.specs.declared.kind.Kind.{Kind}
@@ -134,12 +136,12 @@ module _ (c : Content) where
 
   -- nothing at or below the start of a readable content is shut
   readable-none : IsContent c → (pattern : Text) → is_readable c pattern ≡ true → (names : Key) (kind : ErrorKind)
-      → ShutAt (start_key c pattern) names kind → ⊥
+      → ShutAt (origin c pattern) names kind → ⊥
   unfolding is_readable
   readable-none w pattern readable names kind shut =
-      false≢true (ap is_none (sym (names_past-append (start_key c pattern) names))
-      ∙ list_all-contains (λ e. not (is_shut e.1) || is_none (names_past (start_key c pattern) e.0)) c.kinds
-      (start_key c pattern ++ names, Shut kind) readable (contains_kind_at c (start_key c pattern ++ names)
+      false≢true (ap is_none (sym (names_past-append (origin c pattern) names))
+      ∙ list_all-contains (λ e. not (is_shut e.1) || is_none (names_past (origin c pattern) e.0)) c.kinds
+      (origin c pattern ++ names, Shut kind) readable (contains_kind_at c (origin c pattern ++ names)
       (Shut kind) shut))
 
 -- the written listing of a plain walk over a readable content has no error
@@ -149,4 +151,4 @@ no_error c o pattern p readable path kind h =
     let (names, in') = miss_of_error (start pattern) path kind (finds c o pattern)
     (subst (λ is. Contains is (Unread path kind)) (items-finds c o pattern p) h) in
     readable-none c (IsContent-from_test c p.content) pattern readable names kind
-    ((both_missed c o (wants_directories pattern) (components pattern)).0 (start_key c pattern) true names kind in')
+    ((both_missed c o (ends_with slash pattern) (components pattern)).0 (origin c pattern) true names kind in')

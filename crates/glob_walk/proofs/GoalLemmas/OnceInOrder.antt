@@ -1,24 +1,25 @@
 -- The paths of the written listing come once, and in order.
-use Rattle.std.proofs.Common.{◌≡◌, ◌≢◌, ℕ, suc, ◌+◌, ◌-◌, ◌<◌, ◌≤◌, Bool, true, false, cond, not, List, [], ◌∷◌, ◌++◌}
-use Rattle.std.proofs.Common.{length, drop, map, refl, sym, ap, subst, ◌∙◌, arith}
-use Rattle.std.specs.Prelude.{Contains, AllPairs, nat_le}
-use Rattle.std.specs.List.{list_any, prefix_len}
+use Rattle.std.proofs.Common.{◌≡◌, ◌≢◌, ℕ, ◌+◌, ◌-◌, ◌<◌, ◌≤◌, Bool, true, false, List, [], ◌∷◌, ◌++◌}
+use Rattle.std.proofs.Common.{length, map, refl, sym, ap, subst, ◌∙◌, arith}
+use Rattle.std.specs.Prelude.{Contains, AllPairs}
+use Rattle.std.specs.List.{list_any}
 use Rattle.std.specs.Cmp.Lexicographic.{slice_cmp}
 use Rattle.std.specs.Ordering.{nat_cmp, is_eq}
 use Rattle.std.specs.declared.cmp.Ordering.{Ordering}
 use Rattle.std.specs.declared.cmp.Ordering.TheVariants.{Less, Equal, Greater}
-use Rattle.std.proofs.lemmas.Bool.{false≢true, both_ways, or_parts, and_parts, cond-true, cond-false, not-true, not_from_false, leb-true}
+use Rattle.std.proofs.lemmas.Bool.{false≢true, both_ways, or_parts, not-true}
 use Rattle.std.proofs.lemmas.List.Elements.{Contains-append_left}
 use Rattle.std.proofs.lemmas.List.Kept.{AllPairs-cons}
 use Rattle.std.proofs.lemmas.Map.Text.{is_eq-slice_cmp}
 use Rattle.std.proofs.lemmas.Slice.Eq.{bytes_eq-Decides}
 use Rattle.glob_text.specs.Text.{Text}
-use Rattle.glob_tree.specs.Content.{Content, Key}
-use Rattle.glob_walk.specs.Marks.{Item, items, paths, IsBeginning}
-use Rattle.glob_walk.specs.Components.{start, components, wants_directories, begins_recursive, is_recursive}
-use Rattle.glob_walk.specs.Listing.{listing}
-use Rattle.glob_walk.specs.Goal.{start_key, from_first_recursive, after_first_recursive, has_one_recursive}
-use Rattle.glob_walk.specs.Goal.{keeps_order, names_of, path_cmp, IsOrderly}
+use Rattle.glob_text.specs.Pieces.{ends_with}
+use Rattle.glob_text.specs.Characters.{slash}
+use Rattle.glob_tree.specs.Content.{Content, Key, origin}
+use Rattle.glob_walk.specs.Walks.{Item, items, paths, IsBeginning, listing}
+use Rattle.glob_walk.specs.Components.{start, components, begins_recursive, is_recursive}
+use Rattle.glob_walk.specs.Goal.{after_first_recursive, has_one_recursive}
+use Rattle.glob_walk.specs.Goal.{names_of, path_cmp, IsOrderly}
 use Rattle.glob_walk.specs.Laws.{IsPlainWalk}
 use Rattle.glob_pattern.specs.declared.options.MatchOptions.{MatchOptions}
 use Rattle.glob_tree.proofs.ContentLemmas.Membership.{Contains-head, Contains-tail, All-from_contains}
@@ -75,42 +76,6 @@ rises-shorter m z [] [] l h = absurd (omega arith)
 rises-shorter m z [] (n ∷ b) l h = refl
 rises-shorter m z (x ∷ a) b l h = absurd (omega arith)
 
--- the components after the first `**`
-from_first_recursive-other : (t : Text) (ts : List Text) → is_recursive t ≡ false → from_first_recursive (t ∷ ts) ≡ from_first_recursive ts
-from_first_recursive-other t ts e =
-    let one : 1 + prefix_len (λ u. not (is_recursive u)) ts ≡ suc (prefix_len (λ u. not (is_recursive u)) ts) = omega arith in
-    ap (λ k. drop k (t ∷ ts)) (cond-true (not (is_recursive t)) _ 0 (not_from_false (is_recursive t) e) ∙ one)
-
-from_first_recursive-run : (t : Text) (ts : List Text) → is_recursive t ≡ true → from_first_recursive (t ∷ ts) ≡ t ∷ ts
-from_first_recursive-run t ts e = ap (λ b. drop (cond (not b) (1 + prefix_len (λ u. not (is_recursive u)) ts) 0) (t ∷ ts)) e
-
-after_first_recursive-other : (t : Text) (ts : List Text) → is_recursive t ≡ false → after_first_recursive
-    (t ∷ ts) ≡ after_first_recursive ts
-after_first_recursive-other t ts e = ap (λ us. drop (prefix_len is_recursive us) us) (from_first_recursive-other t ts e)
-
-past : List Text → List Text
-past ts = drop (prefix_len is_recursive ts) ts
-
-past-run : (t : Text) (ts : List Text) → is_recursive t ≡ true → past (t ∷ ts) ≡ past ts
-unfolding past
-past-run t ts e =
-    let one : 1 + prefix_len is_recursive ts ≡ suc (prefix_len is_recursive ts) = omega arith in
-    ap (λ k. drop k (t ∷ ts)) (cond-true (is_recursive t) _ 0 e ∙ one)
-
-past-other : (ts : List Text) → begins_recursive ts ≡ false → past ts ≡ ts
-unfolding past
-past-other [] e = refl
-past-other (t ∷ ts) e = ap (λ k. drop k (t ∷ ts)) (cond-false (is_recursive t) _ 0 e)
-
-after_first_recursive-run : (t : Text) (ts : List Text) → is_recursive t ≡ true → after_first_recursive (t ∷ ts) ≡ past ts
-unfolding past
-after_first_recursive-run t ts e = ap (λ us. drop (prefix_len is_recursive us) us) (from_first_recursive-run t ts e) ∙ past-run t ts e
-
-after_first_recursive-more : (ts : List Text) → begins_recursive ts ≡ true → after_first_recursive ts ≡ past ts
-unfolding past
-after_first_recursive-more [] e = absurd (false≢true e)
-after_first_recursive-more (t ∷ ts) e = after_first_recursive-run t ts e ∙ sym (past-run t ts e)
-
 -- if no `**` is left
 at_no_run : (R : Key → Key → Type 0) (ts : List Text) → list_any is_recursive ts ≡ false → AtRuns R ts
 at_no_run R [] h = tt
@@ -128,18 +93,17 @@ at_runs R (t ∷ ts) h shorter = by_test (is_recursive t) refl
         (t ∷ ts) ≡ after_first_recursive ts → AtRuns R ts) → AtRuns R (t ∷ ts)
     by_next r true more further = (
       (λ q last. absurd (both_ways (begins_recursive ts) last more)),
-      further
-          (after_first_recursive-run t ts r ∙ sym (after_first_recursive-more ts more)),
+      further (rw (r, more) refl),
     )
     by_next r false last further =
-        let e : after_first_recursive (t ∷ ts) ≡ ts = after_first_recursive-run t ts r ∙ past-other ts last in
+        let e : after_first_recursive (t ∷ ts) ≡ ts = rw (r, last) refl in
         let plain = subst (λ us. list_any is_recursive us ≡ false) e h in
         ((λ q l. (plain, subst (λ us. Shorter R (length us - 1)) e shorter)), at_no_run R ts plain)
 
     by_test : (b : Bool) → is_recursive t ≡ b → (after_first_recursive (t ∷ ts) ≡ after_first_recursive ts
         → AtRuns R ts) → AtRuns R (t ∷ ts)
     by_test true r further = by_next r (begins_recursive ts) refl further
-    by_test false r further = ((λ q last. absurd (both_ways (is_recursive t) r q)), further (after_first_recursive-other t ts r))
+    by_test false r further = ((λ q last. absurd (both_ways (is_recursive t) r q)), further (rw r refl))
 
 -- the paths of what is found
 Pairs-paths : (R : Key → Key → Type 0) (S : Text → Text → Type 0) (path : Text) (fs : List Find)
@@ -171,14 +135,14 @@ module _ (c : Content) (o : MatchOptions) (pattern : Text) (p : IsPlainWalk c pa
   w : IsContent c
   w = IsContent-from_test c p.content
 
-  -- the names of a hit are those of its path
+  -- the names of a hit are the names of its path
   hit_names : (names : Key) → Contains (finds c o pattern) (Hit names) → names_of (under (start pattern) names) ≡ names
   hit_names names in' = of_hit names (found_is_taken c o pattern p names in')
     where
       of_hit : (names : Key) → IsTaken c o pattern names → names_of (under (start pattern) names) ≡ names
       of_hit [] is = absurd (takes_some o pattern is.taken)
       of_hit (n ∷ ns) is =
-          let all = AreNames-from (n ∷ ns) (names_at c w (start_key c pattern) (n ∷ ns) is.kind is.held) in
+          let all = AreNames-from (n ∷ ns) (names_at c w (origin c pattern) (n ∷ ns) is.kind is.held) in
           ap names_of (under-start pattern n ns all) ∙ names_of-below pattern n ns all
 
   given_pairs : (R : Key → Key → Type 0) (S : Text → Text → Type 0) → Pairs (OfHits R) (finds c o pattern)
@@ -198,17 +162,15 @@ module _ (c : Content) (o : MatchOptions) (pattern : Text) (p : IsPlainWalk c pa
       once : has_one_recursive pattern ≡ true → AllPairs (λ p q. p ≢ q) (paths given)
       once h = given_pairs Differ (λ p q. p ≢ q)
           (ordered_finds c w Differ (record { under = differ-under; first = differ-first }) o
-          (wants_directories pattern) (components pattern)
+          (ends_with slash pattern) (components pattern)
           (at_runs Differ (components pattern) (not-true _ h) (differ-shorter (length (after_first_recursive
-          (components pattern)) - 1))) (start_key c pattern) true)
+          (components pattern)) - 1))) (origin c pattern) true)
           (λ p q r e. r (ap names_of e)) given begins
 
-      ascending : keeps_order pattern ≡ true → AllPairs (λ p q. path_cmp p q ≡ Less) (paths given)
-      ascending h =
-          let both = and_parts (has_one_recursive pattern) (nat_le (length (after_first_recursive (components pattern))) 1) h in
-          let few : length (after_first_recursive (components pattern)) ≤ 1 = leb-true _ 1 both.1 in
-          given_pairs Rises (λ p q. path_cmp p q ≡ Less)
-          (ordered_finds c w Rises (record { under = rises-under; first = rises-first }) o (wants_directories pattern) (components pattern)
-          (at_runs Rises (components pattern) (not-true _ both.0) (rises-shorter (length (after_first_recursive
-          (components pattern)) - 1) (omega arith))) (start_key c pattern) true)
+      ascending : has_one_recursive pattern ≡ true → length (after_first_recursive (components pattern)) ≤ 1
+          → AllPairs (λ p q. path_cmp p q ≡ Less) (paths given)
+      ascending h few = given_pairs Rises (λ p q. path_cmp p q ≡ Less)
+          (ordered_finds c w Rises (record { under = rises-under; first = rises-first }) o (ends_with slash pattern) (components pattern)
+          (at_runs Rises (components pattern) (not-true _ h) (rises-shorter (length (after_first_recursive
+          (components pattern)) - 1) (omega arith))) (origin c pattern) true)
           (λ p q r. r) given begins

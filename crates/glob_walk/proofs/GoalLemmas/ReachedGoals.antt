@@ -4,13 +4,12 @@ use Rattle.std.specs.Prelude.{Contains}
 use Rattle.std.proofs.lemmas.List.{append_assoc}
 use Rattle.std.proofs.lemmas.List.Elements.{Contains-append_left}
 use Rattle.glob_text.specs.Text.{Text}
-use Rattle.glob_tree.specs.Content.{Content, Key}
+use Rattle.glob_tree.specs.Content.{Content, Key, origin}
 use Rattle.glob_tree.specs.declared.kind.Kind.TheVariants.{Shut}
 use Rattle.glob_tree.proofs.ContentLemmas.Contents.{IsContent, IsContent-from_test}
-use Rattle.glob_walk.specs.Marks.{Item, Unread, items, paths, IsBeginning}
+use Rattle.glob_walk.specs.Walks.{Item, Unread, items, paths, IsBeginning, listing}
 use Rattle.glob_walk.specs.Components.{start}
-use Rattle.glob_walk.specs.Listing.{listing}
-use Rattle.glob_walk.specs.Goal.{start_key, is_readable, taken_goal, IsHidden, ReachesTexts, GivesTexts, goal}
+use Rattle.glob_walk.specs.Goal.{is_readable, taken_goal, IsHidden, ReachesTexts, GivesTexts, goal}
 use Rattle.glob_walk.specs.Laws.{IsPlainWalk, IsSensitiveWalk}
 use Rattle.glob_pattern.specs.declared.options.MatchOptions.{MatchOptions}
 use Rattle.glob_walk.proofs.ListingLemmas.Marks.{paths-append}
@@ -34,7 +33,7 @@ module _ (c : Content) (o : MatchOptions) (pattern : Text) (p : IsPlainWalk c pa
   path_is_goal [] is = absurd (takes_some o pattern is.taken)
   path_is_goal (n ∷ ns) is =
       subst (Contains (taken_goal c o pattern)) (sym (under-start pattern n ns (AreNames-from (n ∷ ns)
-      (names_at c w (start_key c pattern) (n ∷ ns) is.kind is.held))))
+      (names_at c w (origin c pattern) (n ∷ ns) is.kind is.held))))
       (goal_of_taken c o pattern p n ns is)
 
   -- each path of the written listing is a goal
@@ -45,22 +44,22 @@ module _ (c : Content) (o : MatchOptions) (pattern : Text) (p : IsPlainWalk c pa
       subst (Contains (taken_goal c o pattern)) (sym e) (path_is_goal names (found_is_taken c o pattern p names in'))
 
   -- a goal below a directory that cannot be listed is hidden
-  hidden : (text : Text) (is : IsGoal c o pattern text) → IsCovered c (finds c o pattern) (start_key c pattern)
+  hidden : (text : Text) (is : IsGoal c o pattern text) → IsCovered c (finds c o pattern) (origin c pattern)
       (is.name ∷ is.names) → IsHidden c pattern (items (listing c o pattern)) text
   hidden text is covered = record {
     path = under (start pattern) covered.upper;
     kind = covered.kind;
-    above = start_key c pattern ++ covered.upper;
+    above = origin c pattern ++ covered.upper;
     below = covered.lower;
     names = is.name ∷ is.names;
     unread = subst (λ x. Contains x (Unread (under (start pattern) covered.upper) covered.kind)) (sym (items-finds c o pattern p))
         (map-contains (item_under (start pattern)) (finds c o pattern) (Miss covered.upper covered.kind) covered.miss);
-    leads = resolve-under c w (start pattern) (start_key c pattern) covered.upper (Shut covered.kind)
+    leads = resolve-under c w (start pattern) (origin c pattern) covered.upper (Shut covered.kind)
         (LeadsTo-start c w pattern).resolved covered.shut
-        (AreNames-from covered.upper (names_at c w (start_key c pattern) covered.upper (Shut covered.kind) covered.shut));
+        (AreNames-from covered.upper (names_at c w (origin c pattern) covered.upper (Shut covered.kind) covered.shut));
     shut = covered.shut;
     longer = covered.longer;
-    extends = ap (λ ns. start_key c pattern ++ ns) covered.split ∙ sym (append_assoc (start_key c pattern) covered.upper covered.lower);
+    extends = ap (λ ns. origin c pattern ++ ns) covered.split ∙ sym (append_assoc (origin c pattern) covered.upper covered.lower);
     same = is.same;
   }
 

@@ -14,7 +14,7 @@ use Rattle.glob_tree.specs.Content.{Content, Key, DirEntry, kind_at, is_dir, is_
 use Rattle.glob_walk.specs.Components.{Literal, Recursive, Wild, component_kind, ComponentKind, begins_recursive}
 use Rattle.glob_walk.specs.Components.{is_recursive, is_literal, matches_name}
 use Rattle.glob_walk.specs.Goal.{walk_takes, walk_takes_name}
-use Rattle.glob_walk.specs.Listing.{is_entered, levels}
+use Rattle.glob_walk.specs.Walks.{is_entered, levels}
 use Rattle.glob_pattern.specs.declared.options.MatchOptions.{MatchOptions}
 use Rattle.glob_tree.specs.declared.kind.Kind.{Kind}
 use Rattle.glob_tree.specs.declared.kind.Kind.TheVariants.{Dir, Shut, Other}
@@ -164,7 +164,7 @@ module _ (c : Content) (w : IsContent c) where
               (λ x. is_dir is.kind || not (directories || x)) (sym (ends-cons u us plain)) ∙ is.allowed;
         }))
 
-    -- a hit of the component and of those after it
+    -- a hit of the component and of the components after it
     record IsStep (t : Text) (ts : List Text) (k : Key) (n : Text) (ns : Key) : Type 0 where
       matched : walk_takes_name o false t n ≡ true
       found : Kind

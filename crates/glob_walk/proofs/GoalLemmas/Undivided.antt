@@ -19,7 +19,7 @@ use Rattle.glob_pattern.specs.Grammar.Units.{IsAccepted}
 use Rattle.glob_pattern.specs.Grammar.Faults.{Fault}
 use Rattle.glob_pattern.specs.Computing.Reading.{reading_of}
 use Rattle.glob_pattern.specs.Computing.Deciding.{is_match}
-use Rattle.glob_walk.specs.Components.{has_root, without_root, without_end_separator, components, is_literal}
+use Rattle.glob_walk.specs.Components.{without_root, without_end_separator, components, is_literal}
 use Rattle.glob_walk.specs.Components.{is_recursive, is_current_or_parent, matches_name, first_fault, walk_fault}
 use Rattle.glob_walk.specs.Goal.{is_plain_component, are_plain, is_plain, text_below, matches_undivided}
 use Rattle.glob_pattern.specs.declared.options.MatchOptions.{MatchOptions}
@@ -141,7 +141,7 @@ undivided_takes o case pattern utf8 plain n ns names flat =
         (flat-chars ms utf8.1 both.1)
 
     by_root : (t : Text) (ts : List Text) → components pattern ≡ t ∷ ts → AllUtf8 (t ∷ ts) → AreComponents
-        (map chars (t ∷ ts)) → (b : Bool) → has_root pattern ≡ b
+        (map chars (t ∷ ts)) → (b : Bool) → begins_with slash pattern ≡ b
         → is_match (goal_rules o) (chars (without_end_separator pattern))
         (chars (cond b (slash ∷ join_with_byte slash (n ∷ ns)) (join_with_byte slash (n ∷ ns)))) ≡ takes_names o
         (is_match o) (map chars (t ∷ ts)) (map chars (n ∷ ns))
@@ -158,7 +158,8 @@ undivided_takes o case pattern utf8 plain n ns names flat =
             nothing : AreComponents (map chars ([] ∷ [])) → ⊥
             nothing ((accepted, flat, some), all) = true≢false (ap is_empty (sym chars-nil) ∙ some)
 
-        whole : (p : Text) → has_root p ≡ true → components p ≡ t ∷ ts → without_end_separator p ≡ slash ∷ join_with_byte slash (t ∷ ts)
+        whole : (p : Text) → begins_with slash p ≡ true → components p ≡ t ∷ ts
+            → without_end_separator p ≡ slash ∷ join_with_byte slash (t ∷ ts)
         whole [] r f = absurd (false≢true r)
         whole (x ∷ []) r f = absurd (some (t ∷ ts) are (sym f ∙ alone))
           where
@@ -166,11 +167,11 @@ undivided_takes o case pattern utf8 plain n ns names flat =
             alone = rw r refl
         whole (x ∷ y ∷ xs) r f =
             ap (λ z. without_end_separator (z ∷ y ∷ xs)) (eqb-true x slash r) ∙ without_end-rooted y xs
-            ∙ ap (λ cs. slash ∷ cs) (ap without_end_separator (sym (cond-true (has_root (x ∷ y ∷ xs)) (y ∷ xs)
+            ∙ ap (λ cs. slash ∷ cs) (ap without_end_separator (sym (cond-true (begins_with slash (x ∷ y ∷ xs)) (y ∷ xs)
             (x ∷ y ∷ xs) r)) ∙ sym (components-joined (x ∷ y ∷ xs)) ∙ ap (join_with_byte slash) f)
     by_root t ts e all are false root =
         ap₂ (is_match (goal_rules o))
-        (ap chars (ap without_end_separator (sym (cond-false (has_root pattern) (drop 1 pattern) pattern root)) ∙ sym
+        (ap chars (ap without_end_separator (sym (cond-false (begins_with slash pattern) (drop 1 pattern) pattern root)) ∙ sym
         (components-joined pattern) ∙ ap (join_with_byte slash) e) ∙ chars-joined (t ∷ ts) all)
         (chars-joined (n ∷ ns) names)
         ∙ ap (λ p. is_match p (join_with_byte slash (map chars (t ∷ ts))) (join_with_byte slash (map chars (n ∷ ns)))) ruled
@@ -184,4 +185,5 @@ undivided_takes o case pattern utf8 plain n ns names flat =
           (without_root pattern)),
       ap length e,
     ))
-    by_components (t ∷ ts) e all are = by_root t ts e all are (has_root pattern) refl ∙ takes_names-chars o (t ∷ ts) all (n ∷ ns) names
+    by_components (t ∷ ts) e all are = by_root t ts e all are (begins_with slash pattern) refl
+        ∙ takes_names-chars o (t ∷ ts) all (n ∷ ns) names

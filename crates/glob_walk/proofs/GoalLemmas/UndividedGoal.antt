@@ -7,14 +7,14 @@ use Rattle.std.proofs.lemmas.Bool.{and_parts, and_from}
 use Rattle.std.proofs.lemmas.Slice.Eq.{bytes_eq-Decides}
 use Rattle.std.proofs.lemmas.Str.{is_utf8-from_IsUtf8}
 use Rattle.glob_text.specs.Text.{Text}
-use Rattle.glob_tree.specs.Content.{Content, Key, kind_at, names_past}
+use Rattle.glob_tree.specs.Content.{Content, Key, kind_at, names_past, origin}
 use Rattle.glob_tree.specs.declared.kind.Kind.{Kind}
 use Rattle.glob_tree.proofs.ContentLemmas.Membership.{Contains-head, Contains-tail}
 use Rattle.glob_tree.proofs.ContentLemmas.Contents.{IsContent, IsContent-from_test, kind_at-entry, names_past_is}
 use Rattle.glob_pattern.specs.declared.options.MatchOptions.{MatchOptions}
 use Rattle.glob_pattern.specs.Matching.Components.{is_open, name_before, run_before, run_to_end, takes_names}
 use Rattle.glob_walk.specs.Components.{components, is_literal, is_recursive, matches_name}
-use Rattle.glob_walk.specs.Goal.{is_plain, start_key, text_below, matches_undivided, matches_kind, wanted_text, goal}
+use Rattle.glob_walk.specs.Goal.{is_plain, text_below, matches_undivided, matches_kind, wanted_text, goal}
 use Rattle.glob_walk.specs.Goal.{taken_goal, walk_takes, walk_takes_name}
 use Rattle.glob_walk.specs.Laws.{are_names, IsSensitiveWalk}
 use Rattle.glob_walk.proofs.GoalLemmas.Characters.{AllUtf8}
@@ -46,7 +46,7 @@ module _ (o : MatchOptions) (a : Bool) where
       takes-run o a t [] n (m ∷ ns) r
       ∙ ap (λ x. is_open o n && x) (or_none (walk_takes o a (t ∷ []) (m ∷ ns)) ∙ run_last t r (m ∷ ns))
 
-  -- any other takes names before those that the components after it take
+  -- any other `**` takes names before the names that the components after it take
   run_same : (t u : Text) (us : List Text) → is_recursive t ≡ true → (follows : Key → Bool)
       → ((ms : Key) → list_all is_utf8 ms ≡ true → walk_takes o true (u ∷ us) ms ≡ follows ms)
       → (names : Key) → list_all is_utf8 names ≡ true → walk_takes o a (t ∷ u ∷ us) names ≡ run_before o follows names
@@ -77,7 +77,7 @@ module _ (o : MatchOptions) (case : o.case_sensitive ≡ true) where
               f ∙ sym (ap (matches_name o t) (sym ((bytes_eq-Decides t n).0 f)) ∙ own_name o case t e utf8)
           by_answers false true f g = (bytes_eq-Decides t n).1 (own_only o case t n e utf8 name g) ∙ sym g
 
-  -- and so do all components
+  -- all components take exactly the names that they match
   takes_same : (a : Bool) (ts : List Text) → list_all is_utf8 ts ≡ true → (names : Key) → list_all is_utf8 names ≡ true
       → walk_takes o a ts names ≡ takes_names o (matches_name o) ts names
   takes_same a [] utf8 [] ok = refl
@@ -140,20 +140,20 @@ goal_is_taken c o pattern p = by_entries c.kinds (λ e in'. in')
     w : IsContent c
     w = IsContent-from_test c p.plain.content
 
-    by_names : (e : Key × Kind) → Contains c.kinds e → (past : Option Key) → names_past (start_key c pattern) e.0 ≡ past
+    by_names : (e : Key × Kind) → Contains c.kinds e → (past : Option Key) → names_past (origin c pattern) e.0 ≡ past
         → option_and_then (taken_text o pattern e.1) past ≡ option_and_then (goal_text o pattern e.1) past
     by_names e in' None is = refl
     by_names e in' (Some []) is = refl
     by_names e in' (Some (n ∷ ns)) is =
-        let proper = names_at c w (start_key c pattern) (n ∷ ns) e.1 (ap (kind_at c)
-        (sym (names_past_is (start_key c pattern) e.0 (n ∷ ns) is)) ∙ kind_at-entry c w e in') in
+        let proper = names_at c w (origin c pattern) (n ∷ ns) e.1 (ap (kind_at c)
+        (sym (names_past_is (origin c pattern) e.0 (n ∷ ns) is)) ∙ kind_at-entry c w e in') in
         ap (λ b. cond (matches_kind pattern e.1 && b) (Some (text_below pattern (n ∷ ns))) None)
         (sym (plain_matches_levels o pattern p.plain.text p.plain.plain p.case n ns proper))
 
     by_entries : (es : List (Key × Kind)) → ((e : Key × Kind) → Contains es e → Contains c.kinds e)
-        → filter_map (λ e. option_and_then (taken_text o pattern e.1) (names_past (start_key c pattern) e.0)) es ≡
-        filter_map (λ e. option_and_then (goal_text o pattern e.1) (names_past (start_key c pattern) e.0)) es
+        → filter_map (λ e. option_and_then (taken_text o pattern e.1) (names_past (origin c pattern) e.0)) es ≡
+        filter_map (λ e. option_and_then (goal_text o pattern e.1) (names_past (origin c pattern) e.0)) es
     by_entries [] held = refl
     by_entries (e ∷ es) held =
-        ap₂ cons_option (by_names e (held e (Contains-head e es)) (names_past (start_key c pattern) e.0) refl)
+        ap₂ cons_option (by_names e (held e (Contains-head e es)) (names_past (origin c pattern) e.0) refl)
         (by_entries es (λ f in'. held f (Contains-tail e es f in')))

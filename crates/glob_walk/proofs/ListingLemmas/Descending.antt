@@ -7,10 +7,9 @@ use Rattle.std.proofs.lemmas.List.{length-append}
 use Rattle.glob_text.specs.Text.{Text}
 use Rattle.glob_tree.specs.Paths.{child}
 use Rattle.glob_tree.specs.Content.{Content, Key, DirEntry, children, list_result, sorted_entries, is_dir, is_dir_at, kind_at}
-use Rattle.glob_walk.specs.Marks.{Mark, Work}
+use Rattle.glob_walk.specs.Walks.{Mark, Work, Next, after_listing, by_name, by_match, list_directory, is_entered}
+use Rattle.glob_walk.specs.Walks.{descent, levels, enter, meet}
 use Rattle.glob_walk.specs.Components.{Recursive, Literal, Wild, component_kind, begins_recursive}
-use Rattle.glob_walk.specs.Listing.{Next, after_listing, by_name, by_match, list_directory, is_entered, descent}
-use Rattle.glob_walk.specs.Listing.{levels, enter, meet}
 use Rattle.glob_pattern.specs.Matching.Components.{is_open}
 use Rattle.glob_pattern.specs.declared.options.MatchOptions.{MatchOptions}
 use Rattle.glob_tree.specs.declared.kind.Kind.{Kind}
@@ -59,7 +58,7 @@ deepest c = fold (λ n e. max n (length e.0)) 0 c.kinds
 pub key_depth : (c : Content) (k : Key) (kind : Kind) → kind_at c k ≡ Some kind → length k < levels c
 key_depth c k kind held = omega (arith, longest 0 c.kinds (k, kind) (contains_kind_at c k kind held))
 
--- nor is a directory
+-- no directory is deeper than the levels of its content
 pub depth : (c : Content) (k : Key) → is_dir_at c k ≡ true → length k < levels c
 depth c k d = of_kind (kind_at c k) refl d
   where

@@ -1,7 +1,7 @@
 -- What a limit leaves of a walk.
 use Rattle.std.proofs.Common.{append_assoc, ◌≡◌, ◌∙◌, ℕ, zero, suc, ◌+◌, ◌-◌, ◌≤◌, List, [], ◌∷◌, ◌++◌, replicate, refl, ap, sym, arith}
 use Rattle.glob_text.specs.Text.{Text}
-use Rattle.glob_walk.specs.Marks.{Item, Found, Unread, Mark, Work, Give, items, cost, front, paths, IsBeginning}
+use Rattle.glob_walk.specs.Walks.{Item, Found, Unread, Mark, Work, Give, items, cost, front, paths, IsBeginning}
 use Rattle.glob_walk.specs.Walks.{IsCutShort}
 
 pub items-append : (ms ns : List Mark) → items (ms ++ ns) ≡ items ms ++ items ns
@@ -43,7 +43,7 @@ paths-append [] js = refl
 paths-append (Found path ∷ is) js = ap (λ ps. path ∷ ps) (paths-append is js)
 paths-append (Unread path kind ∷ is) js = paths-append is js
 
--- items of which the last may have been lost are a prefix
+-- items without the last one, which may have been lost, are a prefix
 pub IsBeginning-cut : (ms : List Mark) (spent : ℕ) (is : List Item) → IsCutShort ms spent is → IsBeginning is (items ms)
 IsBeginning-cut ms spent is cut = (
   cut.lost ++ items cut.rest,

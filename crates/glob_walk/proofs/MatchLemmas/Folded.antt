@@ -20,7 +20,7 @@ AllowedAs o text ts us =
     (k : ℕ) (pieces : List Text) → AreAllowed o text k ts pieces
     → (others : List Text) × (concat others ≡ concat pieces) × AreAllowed o text k us others
 
--- a token that takes two adjacent pieces takes them as one
+-- a token that takes two adjacent pieces takes them as one piece
 TakesPiece-append : (o : MatchOptions) (text : Text) (t : Token) (k : ℕ) (xs ys : Text) → TakesPiece o text t k xs
     → TakesPiece o text t (k + length xs) ys → TakesPiece o text t k (xs ++ ys)
 TakesPiece-append o text t k xs ys first second i below =
@@ -146,7 +146,7 @@ two_deep-second o text t ts both =
     let found : (us : List Token) × (t ≡ Recursive) × (ts ≡ Recursive ∷ us) = two_deep t ts both in
     subst₂ (λ u us. AllowedAs o text (u ∷ us) us) (sym found.1) (sym found.2) (two_deep-one o text found.0)
 
--- and back
+-- from the second one only back to two adjacent `**`
 second-two_deep : (o : MatchOptions) (text : Text) (t : Token) (ts : List Token) → IsTrue
     (is_recursive t && begins_recursive ts) → AllowedAs o text ts (t ∷ ts)
 second-two_deep o text t ts both =

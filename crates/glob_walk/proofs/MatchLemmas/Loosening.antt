@@ -12,7 +12,7 @@ use Rattle.glob_pattern.specs.declared.options.MatchOptions.{MatchOptions}
 use Rattle.glob_pattern.specs.declared.token.Token.TheVariants.{Literal, AnyChar, AnySequence, Recursive, OneOf, NoneOf}
 use Rattle.glob_pattern.proofs.MatchingLemmas.Matched.{match_by_tokens, tokens_of_match}
 
--- if a test fails, so does one that passes less often
+-- if a test fails, a test that passes less often fails too
 not-from_less : (a b : Bool) → (IsTrue b → IsTrue a) → IsTrue (not a) → IsTrue (not b)
 not-from_less a false less h = refl
 not-from_less true true less h = h
@@ -22,7 +22,7 @@ not-from_less false true less h = absurd (false≢true (less refl))
 and-less : (a b c : Bool) → (IsTrue b → IsTrue a) → IsTrue (b && c) → IsTrue (a && c)
 and-less a b c less h = and_from a c (less (and_parts b c h).0) (and_parts b c h).1
 
--- what a looser separator rule excludes, a strict one excludes as well
+-- what a looser separator rule excludes, a strict one excludes, too
 kept_separator-less : (strict loose : MatchOptions) (c : ℕ) → IsLooser strict loose → IsTrue
     (is_excluded_separator loose c) → IsTrue (is_excluded_separator strict c)
 kept_separator-less strict loose c less = and-less strict.require_literal_separator loose.require_literal_separator (c == slash) less.1

@@ -6,7 +6,7 @@ use Rattle.std.specs.Prelude.{vec_len}
 use Rattle.std.specs.List.{All}
 use Rattle.std.proofs.lemmas.List.{append_assoc, length-append, map-append}
 use Rattle.glob_text.specs.Text.{Text}
-use Rattle.glob_walk.specs.Marks.{Mark, Work, Give}
+use Rattle.glob_walk.specs.Walks.{Mark, Work, Give, Gives, LimitAt, NoMemory}
 use Rattle.glob_walk.specs.declared.meter.Meter.{Meter}
 use Rattle.glob_tree.specs.Content.{Content}
 use Rattle.glob_walk.specs.declared.task.Task.{Task}
@@ -22,7 +22,6 @@ use Rattle.glob_walk.specs.Private.Walkers.{walk_left, walk_ready, IsWalkSound}
 use Rattle.glob_walk.specs.Answers.{IsAnswered}
 use Rattle.glob_walk.specs.Private.Turns.{works, Charges, ChargesNext, BreaksOff, TurnOf, TurnCounts, IfGoing, TurnsTo}
 use Rattle.glob_walk.specs.Private.Turns.{said_items, with_task}
-use Rattle.glob_walk.specs.Walks.{Gives, LimitAt, NoMemory}
 
 pub uncharged : (left new : List Mark) (spent : ℕ) → left ≡ new → Charges left spent new spent
 uncharged left new spent e = record { paths = []; front = e; units = omega arith }
@@ -110,7 +109,7 @@ TurnsTo-none Fits w free = record {
   takes = λ c f h. uncharged (walk_left c w) (walk_left c w) w.meter.spent refl;
 }
 
--- a turn, if more is known of the contents
+-- a turn, if more is known about the contents
 pub TurnsTo-fits : {A : Type 0} (Fits Fits' : Content → Type 0) (n : ℕ) (a b : Walker A) (t : Option Saying)
     → ((c : Content) → Fits' c → Fits c) → TurnsTo Fits n a t b → TurnsTo Fits' n a t b
 TurnsTo-fits Fits Fits' n a b t fit h = record {

@@ -25,7 +25,7 @@ use Rattle.glob_tree.proofs.ContentLemmas.Directories.{directory_kind, resolve_l
 use Rattle.glob_tree.proofs.ContentLemmas.Membership.{Contains-cases, Contains-head, Contains-nil, Contains-tail}
 use Rattle.glob_walk.specs.Components.{Wild, is_current_or_parent, is_literal, is_recursive}
 use Rattle.glob_walk.specs.Goal.{are_plain, is_plain_component}
-use Rattle.glob_walk.specs.Listing.{levels}
+use Rattle.glob_walk.specs.Walks.{levels}
 use Rattle.glob_walk.specs.Private.Depths.{AreDeep, IsDeepPath, IsFrameDeep, IsNextDeep, IsPlainAt, IsPlainFrom}
 use Rattle.glob_walk.specs.Private.Depths.{IsStateDeep, IsTaskDeep, is_special}
 use Rattle.glob_walk.specs.Private.Frames.{first_cursor, is_done, is_done_at}
@@ -46,7 +46,7 @@ use Rattle.glob_walk.proofs.WalkLemmas.Listings.{contains_moved}
 use Rattle.glob_walk.proofs.WalkLemmas.Literals.{undotted_kind}
 use Rattle.glob_walk.proofs.WalkLemmas.Stacking.{last_split, set_last, front_last}
 
--- the components after a plain one are plain, and so are those after `**` and one more
+-- the components after a plain one are plain, and so are the components after `**` and one more
 after_one : (t : Text) (ts : List Text) → is_recursive t ≡ false → are_plain false (t ∷ ts) ≡ true → are_plain false ts ≡ true
 after_one t ts other h =
     subst (λ r. are_plain r ts ≡ true) other (and_parts (is_plain_component false t) (are_plain (is_recursive t) ts) h).1
@@ -76,7 +76,8 @@ module _ {A : Type 0} (plan : Plan A) (number : ℕ) (within : number < length p
       (subst (λ ts. are_plain false ts ≡ true) here h.plain)
 
 -- a plain component looks for neither `..` nor `.`
-pub first_named : (recursive : Bool) (ts : List Text) → IsOpened recursive ts → are_plain false ts ≡ true → is_special (first_cursor ts) ≡ false
+pub first_named : (recursive : Bool) (ts : List Text) → IsOpened recursive ts → are_plain false ts ≡ true →
+    is_special (first_cursor ts) ≡ false
 first_named recursive [] opens plain = absurd opens
 first_named false (t ∷ ts) opens plain =
     let here = (and_parts (is_plain_component false t) (are_plain (is_recursive t) ts) plain).0 in
@@ -149,7 +150,7 @@ pub seen_deep : {A : Type 0} (c : Content) (plan : Plan A) (n number : ℕ) (pat
     → IsPlainFrom plan number → IsDeepPath c n other → IsTaskDeep c plan n number path (Seen d)
 seen_deep c plan n number path other d same plain deep = record { plain = plain; deep = subst (IsDeepPath c n) (sym same) deep }
 
--- an entry has one name more than its directory
+-- an entry has one more name than its directory
 pub entry_deep : (c : Content) → IsContent c → (n : ℕ) (path name : Text) → is_directory (look_result c path) ≡ true
     → IsNamed (list_result c path) name → IsDeepPath c n path → IsDeepPath c (n + 1) (child path name)
 entry_deep c w n path name directory in' p =
@@ -261,7 +262,7 @@ module _ {A : Type 0} (c : Content) (plan : Plan A) where
     deep_step p = subst (AreDeep c plan 0) (sym (set_last fs n g h))
         (deep_push (take n fs) g 0 n counted (deep_front (take n fs) (f ∷ []) 0 whole) p)
 
-    -- or its last one
+    -- it takes its last step
     pub deep_rest : (rest : List (Frame A)) → rest ≡ take n (set fs n g) → AreDeep c plan 0 rest
     deep_rest rest popped = subst (AreDeep c plan 0) (sym (popped ∙ front_last fs n g h)) (deep_front (take n fs) (f ∷ []) 0 whole)
 

@@ -6,9 +6,8 @@ use Rattle.std.proofs.lemmas.List.{drop_more}
 use Rattle.std.proofs.lemmas.Bool.{cond-true, or_right}
 use Rattle.glob_text.specs.Text.{Text}
 use Rattle.glob_tree.specs.Paths.{child}
-use Rattle.glob_walk.specs.Marks.{Give, Found}
+use Rattle.glob_walk.specs.Walks.{Give, Found, enter, meet, match_at, is_entered}
 use Rattle.glob_tree.specs.Content.{Content}
-use Rattle.glob_walk.specs.Listing.{enter, meet, match_at, is_entered}
 use Rattle.glob_pattern.specs.declared.options.MatchOptions.{MatchOptions}
 use Rattle.glob_walk.specs.declared.plan.Plan.{Plan}
 use Rattle.glob_walk.specs.Private.Forms.{takes_name}

@@ -3,12 +3,12 @@ use Rattle.std.proofs.Common.{◌≡◌, ℕ, suc, false, ◌+◌, ◌-◌, ◌<
 use Rattle.std.proofs.lemmas.List.{append-nil}
 use Rattle.glob_text.specs.Text.{Text}
 use Rattle.glob_tree.specs.Content.{Content}
-use Rattle.glob_walk.specs.Marks.{Mark, Work, Give, Item, IsUpTo, items, cost, front}
+use Rattle.glob_walk.specs.Walks.{Mark, Work, Give, Item, IsUpTo, items, cost, front, Gives, LimitAt, NoMemory}
+use Rattle.glob_walk.specs.Walks.{IsCutShort}
 use Rattle.glob_walk.specs.Questions.{question_path}
 use Rattle.glob_walk.specs.Machines.{MachineState, Progress, IsFresh, Saying, AsksLook, AsksList, Says, Ends, listing_of}
 use Rattle.glob_walk.specs.Machines.{StepCounts, HasGiven, GivesNext, AsksNext, Agrees, left_of, step_units}
 use Rattle.glob_walk.specs.Private.Turns.{Charges, TakesStep, works}
-use Rattle.glob_walk.specs.Walks.{Gives, LimitAt, NoMemory, IsCutShort}
 use Rattle.glob_walk.proofs.ListingLemmas.Marks.{items-append, cost-append, front-append}
 use Rattle.glob_walk.proofs.WalkLemmas.Charging.{Charges-asked}
 use Rattle.glob_walk.proofs.WalkLemmas.Works.{items-works, cost-works}

@@ -15,8 +15,7 @@ use Rattle.glob_tree.specs.Looks.{is_directory}
 use Rattle.glob_tree.specs.Paths.{child}
 use Rattle.glob_tree.specs.declared.tree.Entry.{Entry}
 use Rattle.glob_tree.proofs.ContentLemmas.Contents.{IsContent}
-use Rattle.glob_walk.specs.Listing.{enter}
-use Rattle.glob_walk.specs.Marks.{Mark, Give, Found}
+use Rattle.glob_walk.specs.Walks.{enter, Mark, Give, Found}
 use Rattle.glob_walk.specs.Private.Turns.{works}
 use Rattle.glob_walk.specs.declared.plan.Plan.{Plan}
 use Rattle.glob_walk.specs.declared.frame.Cursor.TheVariants.{Parent, At}
@@ -32,7 +31,7 @@ names_length : (es : List DirEntry) → length (names_of es) ≡ length es
 names_length [] = refl
 names_length (e ∷ es) = ap suc (names_length es)
 
--- the last component, matched against names, if not only directories are wanted
+-- the last component, matched against names, if files are wanted too
 module _ {A : Type 0} (c : Content) (plan : Plan A) (component : ℕ) (path : Text) (within : component < length
     plan.components.items) (ignores : IgnoresKinds plan component false) where
   t : Text

@@ -48,7 +48,7 @@ pub matches_name-result : {E : Type 0} (o : MatchOptions) (pattern name : Text) 
 matches_name-result o pattern name (Ok b) h = same_answer o pattern name b h
 matches_name-result o pattern name (Err e) h = h
 
--- and so does the comparison with a literal component
+-- the comparison with a literal component returns the same
 pub matches_name-literal : (o : MatchOptions) (component name : Text) → IsUtf8 component → IsUtf8 name → is_literal component ≡ true
     → same_texts o.case_sensitive name component ≡ matches_name o component name
 matches_name-literal o component name utf8 named literal =

@@ -10,11 +10,10 @@ use Rattle.glob_text.specs.Text.{Text}
 use Rattle.glob_tree.specs.Content.{Content, is_content}
 use Rattle.glob_tree.proofs.ContentLemmas.Contents.{IsContent-from_test}
 use Rattle.glob_walk.specs.Goal.{are_plain}
-use Rattle.glob_walk.specs.Listing.{look_up, enter, levels}
+use Rattle.glob_walk.specs.Walks.{look_up, enter, levels, Outcome, Gives, LimitAt, NoMemory}
 use Rattle.glob_walk.specs.Questions.{Question, LookAt, ListAt, IsSomeContent}
 use Rattle.glob_walk.specs.Machines.{Agrees, MachineState, Saying, AsksLook, AsksList, IsAskedAfter, IsCharged, StepCounts, listing_of}
 use Rattle.glob_walk.specs.Machines.{StepGoes, Says, Ends, is_last, item_number}
-use Rattle.glob_walk.specs.Walks.{Outcome, Gives, LimitAt, NoMemory}
 use Rattle.glob_walk.specs.declared.frame.Frame.{Frame}
 use Rattle.glob_walk.specs.declared.plan.Plan.{Plan}
 use Rattle.glob_walk.specs.declared.walker.Walker.{Walker}
@@ -160,7 +159,7 @@ module _ {A : Type 0} (Fits : Content → Type 0) (n : ℕ) (w w' : Walker A) (g
         asks = asks s r;
       }
 
--- a step, from what is known of its parts
+-- a step, from what is known about its parts
 pub goes_at : {A : Type 0} (F : Option Question → Content → Type 0) (n : ℕ) (w w' : Walker A) (given : ℕ)
     (over' : Bool) (v : MachineState (Walk A)) → view w given over' ≡ v → over' ≡ false → w.meter.limit < 2 ^ 64
     → IsUnderWay w given
@@ -260,11 +259,11 @@ pub none_open : {A : Type 0} (o : Option (Query A)) → question_of o ≡ None �
 none_open None e = refl
 none_open (Some q) e = absurd (cc)
 
--- and none waits
+-- no question waits
 pub none_waits : (q : Option Question) → q ≡ None → IsSome q → ⊥
 none_waits q free some = both_ways false refl (subst IsSome free some)
 
--- and none has failed
+-- no question has failed
 pub none_failed : {A : Type 0} (q : Option Question) (a : Answer A) (path : Text) (P : Outcome → Type 0) → q ≡ None
     → IsAnswer q a → IfFailed a path P
 none_failed q answer.Nothing path P free h = tt
@@ -322,8 +321,8 @@ left-fresh c plan t frames unseen component empty at =
     ap (λ fs. task_marks c plan t ++ frames_marks c plan fs) empty
     ∙ append-nil (task_marks c plan t)
     ∙ ap (λ x. state_marks c plan t.component (string_bytes t.path) x) unseen
-    ∙ ap (λ n. look_up c (λ seen. true) (enter_from c plan n) (string_bytes t.path)) component
-    ∙ ap (look_up c (λ seen. true) (enter c plan.options plan.directories plan.components.items)) at
+    ∙ ap (λ n. look_up c true (enter_from c plan n) (string_bytes t.path)) component
+    ∙ ap (look_up c true (enter c plan.options plan.directories plan.components.items)) at
 
 pub sound-fresh : {A : Type 0} (c : Content) (w : Walker A) (t : Task A) → w.query ≡ None → w.stack.next ≡ Some t
     → t.state ≡ Unseen Any → t.component ≡ 0 → string_bytes t.path ≡ cond w.stack.plan.rooted root_dir cur_dir

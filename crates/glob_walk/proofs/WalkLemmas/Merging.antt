@@ -9,10 +9,12 @@ use Rattle.glob_text.specs.Text.{Text}
 use Rattle.glob_pattern.specs.declared.options.MatchOptions.{MatchOptions}
 use Rattle.glob_tree.specs.Content.{Content}
 use Rattle.glob_walk.specs.Components.{ComponentKind, Literal, Recursive, Wild, component_kind, components, is_literal}
-use Rattle.glob_walk.specs.Components.{is_recursive, begins_recursive, has_root, start, walk_fault, wants_directories}
+use Rattle.glob_walk.specs.Components.{is_recursive, begins_recursive, start, walk_fault}
 use Rattle.std.specs.Path.{root_dir, cur_dir}
+use Rattle.glob_text.specs.Pieces.{begins_with, ends_with}
+use Rattle.glob_text.specs.Characters.{slash}
 use Rattle.glob_walk.specs.Goal.{are_plain, is_plain, is_plain_component}
-use Rattle.glob_walk.specs.Listing.{by_name, by_match, descent, levels, enter, meet, match_at, look_up, listing}
+use Rattle.glob_walk.specs.Walks.{by_name, by_match, descent, levels, enter, meet, match_at, look_up, listing}
 use Rattle.glob_walk.specs.Machines.{listing_of}
 use Rattle.glob_walk.specs.declared.plan.Plan.{Plan}
 use Rattle.glob_walk.specs.Private.Stacks.{aim_of}
@@ -53,7 +55,7 @@ are_merged-drop zero ts h = h
 are_merged-drop (suc n) [] h = ap are_merged (drop_of_length-le [] {i = suc n} (omega arith))
 are_merged-drop (suc n) (t ∷ ts) h = are_merged-drop n ts (and_parts (not (is_recursive t && begins_recursive ts)) (are_merged ts) h).1
 
--- what holds of each component still does
+-- what holds for each component still does
 pub list_all-merged : (p : Text → Bool) (run : Bool) (ts : List Text) → list_all p ts ≡ true → list_all p (merged_after run ts) ≡ true
 list_all-merged p run [] h = refl
 list_all-merged p run (t ∷ ts) h =
@@ -185,17 +187,17 @@ module _ (c : Content) (o : MatchOptions) (directories : Bool) where
 
 -- entering the merged components is what the listing does
 pub merged_listing : (c : Content) (o : MatchOptions) (pattern : Text)
-    → look_up c (λ seen. true) (enter c o (wants_directories pattern) (merged (components pattern))) (start pattern) ≡ listing c o pattern
+    → look_up c true (enter c o (ends_with slash pattern) (merged (components pattern))) (start pattern) ≡ listing c o pattern
 unfolding listing
-merged_listing c o pattern = ap (λ next. look_up c (λ seen. true) next (start pattern)) (enter-merged c o
-    (wants_directories pattern) (components pattern))
+merged_listing c o pattern = ap (λ next. look_up c true next (start pattern)) (enter-merged c o
+    (ends_with slash pattern) (components pattern))
 
 -- so the plan of a pattern looks for its listing
 pub aim_listing : {A : Type 0} (c : Content) (o : MatchOptions) (pattern : Text) (plan : Plan A) → plan.options ≡ o
-    → plan.rooted ≡ has_root pattern → plan.directories ≡ wants_directories pattern
+    → plan.rooted ≡ begins_with slash pattern → plan.directories ≡ ends_with slash pattern
     → plan.components.items ≡ merged (components pattern) → listing_of c (aim_of plan) ≡ listing c o pattern
 aim_listing c o pattern plan options rooted directories parts =
-    (λ i. look_up c (λ seen. true) (enter c (options i) (directories i) (parts i)) (cond (rooted i) root_dir cur_dir))
+    (λ i. look_up c true (enter c (options i) (directories i) (parts i)) (cond (rooted i) root_dir cur_dir))
     ∙ merged_listing c o pattern
 
 -- and is plain if the pattern is

@@ -1,5 +1,5 @@
 -- What follows at a directory that is listed.
-use Rattle.std.proofs.Common.{◌≡◌, ℕ, zero, suc, ◌+◌, ◌-◌, ◌<◌, ◌≤◌, Bool, true, false, cond, List, [], ◌∷◌, ◌++◌}
+use Rattle.std.proofs.Common.{◌≡◌, ℕ, zero, suc, ◌+◌, ◌-◌, ◌<◌, ◌≤◌, Bool, true, false, cond, not, List, [], ◌∷◌, ◌++◌}
 use Rattle.std.proofs.Common.{length, drop, replicate, refl, ap, sym, subst, ◌∙◌, arith, append_assoc}
 use Rattle.std.specs.Prelude.{flat_map}
 use Rattle.std.specs.Path.{cur_dir, parent_dir}
@@ -10,9 +10,9 @@ use Rattle.glob_text.specs.Text.{Text}
 use Rattle.glob_text.specs.Characters.{dot}
 use Rattle.glob_tree.specs.Paths.{child, join}
 use Rattle.glob_text.specs.Pieces.{begins_with}
-use Rattle.glob_walk.specs.Marks.{Mark, Work, Give, Unread}
+use Rattle.glob_walk.specs.Walks.{Mark, Work, Give, Unread, enter, meet, is_entered, list_directory, after_listing}
+use Rattle.glob_walk.specs.Walks.{Next, look_up, special_names}
 use Rattle.glob_tree.specs.Content.{Content, Key, DirEntry, ListAnswer, Entries, Fails, list_result, look_result, sorted_entries, children}
-use Rattle.glob_walk.specs.Listing.{enter, meet, is_entered, list_directory, after_listing, look_up, special_names, special_name}
 use Rattle.glob_tree.specs.Looks.{is_directory}
 use Rattle.glob_pattern.specs.declared.options.MatchOptions.{MatchOptions}
 use Rattle.glob_tree.proofs.ContentLemmas.Contents.{IsContent}
@@ -30,7 +30,7 @@ use Rattle.glob_walk.specs.Private.Frames.{cursor_unmet, first_cursor, IsEntrySo
 use Rattle.glob_tree.specs.Answers.{IsListFault}
 use Rattle.glob_walk.specs.Private.Turns.{works, Charges, StopsAt}
 use Rattle.glob_walk.proofs.WalkLemmas.Entering.{meet-next}
-use Rattle.glob_walk.specs.Components.{is_recursive, begins_recursive}
+use Rattle.glob_walk.specs.Components.{is_recursive, begins_recursive, matches_name}
 use Rattle.glob_walk.proofs.WalkLemmas.Literals.{undotted_kind, takes_same}
 use Rattle.glob_walk.proofs.WalkLemmas.Listings.{IsInOrder, IsHeld, IsCut}
 
@@ -41,6 +41,10 @@ works_replicate (suc n) path = ap (λ ms. Work path ∷ ms) (works_replicate n p
 second_of : Content → MatchOptions → Bool → Bool → List Text → Text → DirEntry → List Mark
 second_of c o dirs false ts path e = []
 second_of c o dirs true ts path e = cond (is_entered o e.0 e.1) (enter c o dirs ts (child path e.0) true) []
+
+-- the look at a special name
+abbrev special_at : Content → MatchOptions → Next → (t path name : Text) → List Mark
+special_at c o next t path name = cond (matches_name o t name) (look_up c true next (join path name)) []
 
 -- what comes before the entries
 before : Content → MatchOptions → Bool → Bool → List Text → Text → List Mark
@@ -109,7 +113,8 @@ module _ {A : Type 0} (c : Content) (w : IsContent c) (plan : Plan A) (recursive
     leading : List Mark
     leading = before c plan.options plan.directories recursive (drop component plan.components.items) path
 
-    lists : (a : ListAnswer) → list_result c path ≡ a → enter_from c plan component path true ≡ Work path ∷ after_listing path leading each a
+    lists : (a : ListAnswer) → list_result c path ≡ a → enter_from c plan component path true ≡ Work path ∷
+        after_listing path leading each a
     unfolding leading each
     lists a is = opened c w plan.options plan.directories recursive (drop component plan.components.items) path opens d
         ∙ ap (λ b. Work path ∷ after_listing path leading each b) is
@@ -125,24 +130,24 @@ module _ {A : Type 0} (c : Content) (w : IsContent c) (plan : Plan A) (recursive
             plan.options plan.directories r ts path e) es
 
         by_test : (b : Bool) (xs ys zs : List Mark) (t : Text) (ts : List Text)
-            → special_name c plan.options (enter c plan.options plan.directories ts) t path parent_dir ≡ special_marks c
+            → special_at c plan.options (enter c plan.options plan.directories ts) t path parent_dir ≡ special_marks c
             plan component path parent_dir
-            → special_name c plan.options (enter c plan.options plan.directories ts) t path cur_dir ≡ special_marks c
+            → special_at c plan.options (enter c plan.options plan.directories ts) t path cur_dir ≡ special_marks c
             plan component path cur_dir
             → zs ≡ entries_marks c plan false component path es
-            → cond b (special_name c plan.options (enter c plan.options plan.directories ts) t path parent_dir ++
-            special_name c plan.options (enter c plan.options plan.directories ts) t path cur_dir) [] ++ zs
+            → cond (not b) [] (special_at c plan.options (enter c plan.options plan.directories ts) t path parent_dir
+            ++ (special_at c plan.options (enter c plan.options plan.directories ts) t path cur_dir ++ [])) ++ zs
             ≡ cursor_marks c plan false component path es (cond b Parent (At 0))
         by_test true xs ys zs t ts p q r =
-            append_assoc (special_name c plan.options (enter c plan.options plan.directories ts) t path parent_dir)
-            (special_name c plan.options (enter c plan.options plan.directories ts) t path cur_dir) zs
-            ∙ (λ i. p i ++ (q i ++ r i))
+            let current = special_at c plan.options (enter c plan.options plan.directories ts) t path cur_dir in
+            append_assoc (special_at c plan.options (enter c plan.options plan.directories ts) t path parent_dir) (current ++ []) zs
+            ∙ (λ i. p i ++ ((append-nil current ∙ q) i ++ r i))
         by_test false xs ys zs t ts p q r = r
 
         special_same : (t : Text) (ts : List Text) (name : Text) → is_recursive t ≡ false → drop component plan.components.items ≡ t ∷ ts
-            → special_name c plan.options (enter c plan.options plan.directories ts) t path name ≡ special_marks c plan component path name
+            → special_at c plan.options (enter c plan.options plan.directories ts) t path name ≡ special_marks c plan component path name
         special_same t ts name wild q =
-            ap (λ b. cond b (look_up c (λ seen. true) (enter c plan.options plan.directories ts) (join path name)) [])
+            ap (λ b. cond b (look_up c true (enter c plan.options plan.directories ts) (join path name)) [])
             (takes_same plan.options t name wild)
             ∙ ap (λ us. special_after c plan.options plan.directories us path name) (sym q)
 
@@ -211,7 +216,7 @@ module _ {A : Type 0} (c : Content) (w : IsContent c) (plan : Plan A) (recursive
         (stops_within (length es) path ((leading ++ flat) ++ rest) spent limit h (omega (arith, few))))
         (λ kind is. absurd (subst (λ a. IsCut a spent limit) is cut))
 
-    -- an entry reported as a directory is one
+    -- an entry reported as a directory is a directory
     pub held_sound : (e : DirEntry) → (e.1 ≡ true → IsHeld (list_result c path) e) → IsEntrySound c path e
     held_sound e held directory =
         let (k, at) = LeadsTo-from_looked c path d in

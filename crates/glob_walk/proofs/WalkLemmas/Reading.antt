@@ -100,7 +100,7 @@ text_fault-literal text utf8 h = text_fault-accepted text (plain_accepted (chars
 pub drop_from : {X : Type 0} (xs : List X) (n : ℕ) (x : X) → n < length xs → x ≡ get_or xs n x → drop n xs ≡ x ∷ drop (n + 1) xs
 drop_from xs n x below is = rw add-one (drop-cons xs n x below ∙ ap (λ y. y ∷ drop (suc n) xs) (sym is))
 
--- the texts before and after one that the iterator yields
+-- the texts before and after a text that the iterator yields
 pub split_at_turn : {S A : Type 0} {steps : S → Option A → S → Type 0} {shows : A → Text} {s : S} {texts : List Text}
     → YieldsList steps shows s texts
     → (yielded : List A) (t : S) → Yields steps s yielded t → (next : Option A) (u : S) (x : A) → next ≡ Some x → steps t next u
@@ -135,7 +135,7 @@ RefusesWith-first texts front others t (refusal.Syntax e) is h k =
     ap first_fault is ∙ first_fault-append front (t ∷ others) h ∙ ap (λ o. option_or o (first_fault others)) k
 RefusesWith-first texts front others t refusal.Memory is h k = tt
 
--- what follows from the facts about an error holds of it
+-- what follows from the facts about an error holds for the error
 pub IfErr-from_known : {T E : Type 0} (r : Result T E) (P Q : E → Type 0) → ((e : E) → P e → Q e) → IsErrAnd r P → IfErr r Q
 IfErr-from_known (Ok x) P Q follows known = tt
 IfErr-from_known (Err e) P Q follows known = follows e known

@@ -65,7 +65,7 @@ small_from_same c x h =
 same_from_small : (c x : ℕ) → to_ascii_lowercase c ≡ to_ascii_lowercase x → IsTrue (is_same false c x)
 same_from_small c x e = grind (arith, rules, e)
 
--- and so are texts
+-- the same for texts
 small_from_SameTexts : (xs ys : Text) → SameTexts false xs ys → map to_ascii_lowercase xs ≡ map to_ascii_lowercase ys
 small_from_SameTexts [] [] h = refl
 small_from_SameTexts [] (y ∷ ys) h = absurd (omega (arith, h.0))

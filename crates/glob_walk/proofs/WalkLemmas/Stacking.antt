@@ -8,7 +8,7 @@ use Rattle.std.proofs.Math.ListN.{drop_of_length-le}
 use Rattle.std.proofs.lemmas.List.Elements.{All-take}
 use Rattle.std.proofs.lemmas.Bool.Decides.{nat_tests}
 use Rattle.std.proofs.lemmas.Bool.{both_ways}
-use Rattle.glob_walk.specs.Marks.{Mark}
+use Rattle.glob_walk.specs.Walks.{Mark}
 use Rattle.glob_tree.specs.Content.{Content, DirEntry}
 use Rattle.glob_tree.specs.Answers.{entries_of}
 use Rattle.std.proofs.lemmas.List.{length-map}

@@ -3,7 +3,7 @@ use Rattle.std.proofs.Common.{◌≡◌, ℕ, ◌+◌, ◌<◌, Bool, true, fals
 use Rattle.std.specs.Prelude.{Contains}
 use Rattle.std.proofs.lemmas.List.{append-nil, drop_more, get_or-map, length-map}
 use Rattle.glob_text.specs.Text.{Text}
-use Rattle.glob_walk.specs.Marks.{Mark}
+use Rattle.glob_walk.specs.Walks.{Mark}
 use Rattle.glob_tree.specs.Content.{Content, DirEntry}
 use Rattle.glob_tree.specs.Answers.{entries_of}
 use Rattle.glob_tree.specs.declared.tree.Entry.{Entry}

@@ -1,5 +1,6 @@
 -- How deep the directories of a plain walk over a content are: each is below the one before it.
-use Rattle.std.specs.Prelude.{◌≡◌, ℕ, ◌+◌, ◌≤◌, Bool, true, false, List, [], ◌∷◌, length, drop, Option, Some, None, string_bytes, Contains, IsTrue}
+use Rattle.std.specs.Prelude.{◌≡◌, ℕ, ◌+◌, ◌≤◌, Bool, true, false, List, [], ◌∷◌, length, drop, Option, Some, None}
+use Rattle.std.specs.Prelude.{string_bytes, Contains, IsTrue}
 use Rattle.glob_text.specs.Text.{Text}
 use Rattle.glob_tree.specs.Answers.{entries_of}
 use Rattle.glob_tree.specs.Content.{Content, Key, DirEntry, is_content, kind_at, look_result, resolve}

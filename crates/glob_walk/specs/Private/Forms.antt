@@ -26,7 +26,7 @@ form_kind (form.Wild pattern) = Wild
 abbrev pub KeepsKind : {A : Type 0} → Form A → Type 0
 KeepsKind f = component_kind (form_text f) ≡ form_kind f
 
--- the component matches the name; `**` matches none
+-- the component matches the name; `**` matches no name
 abbrev pub takes_name : MatchOptions → (component name : Text) → Bool
 takes_name o component name = not (is_recursive component) && matches_name o component name
 

@@ -1,12 +1,12 @@
 -- What is left of the written listing in the frames of a walk.
-use Rattle.std.specs.Prelude.{◌≡◌, ℕ, ◌+◌, ◌-◌, ◌*◌, Bool, true, false, if◌then◌else◌, List, [], ◌∷◌, ◌++◌, length, drop, flat_map, Option, Some, None, string_bytes, nat_le, Contains}
+use Rattle.std.specs.Prelude.{◌≡◌, ℕ, ◌+◌, ◌-◌, ◌*◌, Bool, true, false, if◌then◌else◌, List, [], ◌∷◌, ◌++◌, length}
+use Rattle.std.specs.Prelude.{drop, flat_map, Option, Some, None, string_bytes, nat_le, Contains}
 use Rattle.std.specs.Path.{cur_dir, parent_dir}
 use Rattle.glob_text.specs.Text.{Text}
-use Rattle.glob_walk.specs.Marks.{Mark}
+use Rattle.glob_walk.specs.Walks.{Mark, Next, enter, meet, look_up, is_entered}
 use Rattle.glob_tree.specs.Content.{Content, DirEntry, look_result}
 use Rattle.glob_tree.specs.Answers.{entries_of}
 use Rattle.glob_tree.specs.Paths.{child, join}
-use Rattle.glob_walk.specs.Listing.{Next, enter, meet, look_up, is_entered}
 use Rattle.glob_tree.specs.Looks.{is_directory}
 use Rattle.glob_pattern.specs.declared.options.MatchOptions.{MatchOptions}
 use Rattle.glob_walk.specs.declared.plan.Plan.{Plan}
@@ -33,7 +33,8 @@ first_of c o dirs true (t ∷ []) path e = meet c o dirs [] (child path e.0) e.0
 first_of c o dirs true (t ∷ u ∷ us) path e = take_at o (enter c o dirs us) u (child path e.0) e.0 e.1
 
 abbrev pub first_part : {A : Type 0} → Content → Plan A → Bool → ℕ → Text → DirEntry → List Mark
-first_part c plan recursive component path e = first_of c plan.options plan.directories recursive (drop component plan.components.items) path e
+first_part c plan recursive component path e = first_of c plan.options plan.directories recursive
+    (drop component plan.components.items) path e
 
 -- after that, `**` enters it
 abbrev pub second_part : {A : Type 0} → Content → Plan A → Bool → ℕ → Text → DirEntry → List Mark
@@ -50,12 +51,13 @@ second_marks c plan f e = second_part c plan f.recursive f.component (string_byt
 
 -- all that follows at an entry
 abbrev pub entry_marks : {A : Type 0} → Content → Plan A → Bool → ℕ → Text → DirEntry → List Mark
-entry_marks c plan recursive component path e = first_part c plan recursive component path e ++ second_part c plan recursive component path e
+entry_marks c plan recursive component path e = first_part c plan recursive component path e ++
+    second_part c plan recursive component path e
 
 abbrev pub special_after : Content → MatchOptions → Bool → List Text → Text → Text → List Mark
 special_after c o dirs [] path name = []
 special_after c o dirs (t ∷ ts) path name =
-    if takes_name o t name then look_up c (λ seen. true) (enter c o dirs ts) (join path name) else []
+    if takes_name o t name then look_up c true (enter c o dirs ts) (join path name) else []
 
 abbrev pub special_marks : {A : Type 0} → Content → Plan A → ℕ → Text → Text → List Mark
 special_marks c plan component path name =
@@ -115,7 +117,7 @@ is_done_at n (cursor.Inside i) = nat_le n i
 abbrev pub is_done : {A : Type 0} → Frame A → Bool
 is_done f = is_done_at (length f.entries.items) f.cursor
 
--- an entry reported as a directory is one
+-- an entry reported as a directory is a directory
 abbrev pub IsEntrySound : Content → Text → DirEntry → Type 0
 IsEntrySound c path e = e.1 ≡ true → is_directory (look_result c (child path e.0)) ≡ true
 

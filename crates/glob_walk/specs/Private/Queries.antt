@@ -1,9 +1,9 @@
 -- What is left of the written listing for an open question. Its unit is charged.
-use Rattle.std.specs.Prelude.{◌≡◌, ℕ, true, if◌then◌else◌, List, [], drop, Option, Some, None, string_bytes}
+use Rattle.std.specs.Prelude.{◌≡◌, ℕ, true, List, [], drop, Option, Some, None, string_bytes}
 use Rattle.glob_text.specs.Text.{Text}
 use Rattle.glob_tree.specs.Content.{Content, look_result}
 use Rattle.glob_tree.specs.Looks.{is_directory}
-use Rattle.glob_walk.specs.Marks.{Mark}
+use Rattle.glob_walk.specs.Walks.{Mark, look_up}
 use Rattle.glob_walk.specs.Questions.{Question, LookAt, ListAt}
 use Rattle.glob_walk.specs.Private.Tasks.{enter_from, is_accepted, IsListedFor}
 use Rattle.glob_walk.specs.declared.plan.Plan.{Plan}
@@ -24,7 +24,7 @@ question_of (Some q) = Some (asked_of (string_bytes q.path) q.kind)
 -- what follows at the path after the answer
 abbrev pub kind_marks : {A : Type 0} → Content → Plan A → ℕ → Text → QueryKind → List Mark
 kind_marks c plan component path (kind.Look w) =
-    if is_accepted w (look_result c path) then enter_from c plan component path (is_directory (look_result c path)) else []
+    drop 1 (look_up c (is_accepted w (look_result c path)) (enter_from c plan component) path)
 kind_marks c plan component path (kind.List recursive kinds) = drop 1 (enter_from c plan component path true)
 
 abbrev pub query_marks : {A : Type 0} → Content → Plan A → Option (Query A) → List Mark
@@ -40,7 +40,7 @@ abbrev pub IsQuerySound : {A : Type 0} → Content → Option (Query A) → Type
 IsQuerySound c None = Unit {0}
 IsQuerySound c (Some q) = IsKindSound c (string_bytes q.path) q.kind
 
--- a listing is for a component, and nothing else has to be done first
+-- a listing is for a component, and nothing else comes first
 abbrev pub IsKindOpened : {A : Type 0} → Plan A → ℕ → QueryKind → Type 0
 IsKindOpened plan component (kind.Look w) = Unit {0}
 IsKindOpened plan component (kind.List recursive kinds) = IsListedFor plan component recursive kinds

@@ -2,7 +2,7 @@
 use Rattle.std.specs.Prelude.{ℕ, ◌+◌, ◌*◌, List, ◌++◌, length, reverse, flat_map, Option, Some, None, sum_by}
 use Rattle.std.specs.List.{All}
 use Rattle.glob_walk.specs.Machines.{Aim}
-use Rattle.glob_walk.specs.Marks.{Mark}
+use Rattle.glob_walk.specs.Walks.{Mark}
 use Rattle.glob_tree.specs.Content.{Content}
 use Rattle.glob_walk.specs.declared.plan.Plan.{Plan}
 use Rattle.glob_walk.specs.declared.task.Task.{Task}
@@ -50,7 +50,7 @@ weight s = next_weight s.next + sum_by frame_weight s.frames.items
 abbrev pub ready : {A : Type 0} → Stack A → ℕ
 ready s = next_ready s.plan s.next + sum_by unmet s.frames.items
 
--- what is reported as a directory is one, and in a plain walk each directory is below the one before it
+-- what is reported as a directory is a directory, and in a plain walk each directory is below the one before it
 pub record AreSound {A : Type 0} (c : Content) (plan : Plan A) (frames : List (Frame A)) : Type 0 where
   pub entries : All (IsFrameSound c) frames
   pub deep : IsPlainOver c plan → AreDeep c plan 0 frames

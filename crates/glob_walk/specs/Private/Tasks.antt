@@ -1,12 +1,12 @@
 -- What is left of the written listing for a task.
-use Rattle.std.specs.Prelude.{◌≡◌, ℕ, ◌+◌, ◌<◌, Bool, true, false, if◌then◌else◌, List, [], ◌∷◌, length, drop, Option, Some, None, string_bytes, nat_le}
+use Rattle.std.specs.Prelude.{◌≡◌, ℕ, ◌+◌, ◌<◌, Bool, true, false, if◌then◌else◌, List, [], ◌∷◌, length, drop, Option}
+use Rattle.std.specs.Prelude.{Some, None, string_bytes, nat_le}
 use Rattle.glob_text.specs.Text.{Text}
-use Rattle.glob_walk.specs.Marks.{Mark}
+use Rattle.glob_walk.specs.Walks.{Mark, enter, look_up}
 use Rattle.glob_tree.specs.Content.{Content, look_result}
 use Rattle.glob_walk.specs.Components.{Recursive, Wild, component_kind, begins_recursive}
 use Rattle.glob_text.specs.Pieces.{begins_with}
 use Rattle.glob_text.specs.Characters.{dot}
-use Rattle.glob_walk.specs.Listing.{enter, look_up}
 use Rattle.glob_tree.specs.Looks.{is_there, is_directory}
 use Rattle.glob_tree.specs.declared.tree.Look.{Look}
 use Rattle.glob_walk.specs.declared.plan.Plan.{Plan}
@@ -28,7 +28,8 @@ enter_from c plan component = enter c plan.options plan.directories (drop compon
 
 -- what follows at a path that has to be looked up, or that is known to be there
 abbrev pub state_marks : {A : Type 0} → Content → Plan A → ℕ → Text → TaskState → List Mark
-state_marks c plan component path (state.Unseen w) = look_up c (is_accepted w) (enter_from c plan component) path
+state_marks c plan component path (state.Unseen w) =
+    look_up c (is_accepted w (look_result c path)) (enter_from c plan component) path
 state_marks c plan component path (state.Seen d) = enter_from c plan component path d
 
 abbrev pub task_marks : {A : Type 0} → Content → Plan A → Task A → List Mark
@@ -38,7 +39,7 @@ abbrev pub next_marks : {A : Type 0} → Content → Plan A → Option (Task A) 
 next_marks c plan None = []
 next_marks c plan (Some t) = task_marks c plan t
 
--- what is reported as a directory is one
+-- what is reported as a directory is a directory
 abbrev pub IsStateSound : Content → Text → TaskState → Type 0
 IsStateSound c path (state.Unseen w) = Unit {0}
 IsStateSound c path (state.Seen d) = d ≡ true → is_directory (look_result c path) ≡ true
@@ -62,7 +63,7 @@ IsOpened recursive [] = ⊥
 IsOpened false (t ∷ ts) = component_kind t ≡ Wild
 IsOpened true (t ∷ ts) = (component_kind t ≡ Recursive) × (begins_recursive ts ≡ false)
 
--- The kinds of the entries do not matter: the component is the last and not `**`, and not only directories are wanted.
+-- The kinds of the entries do not matter: the component is the last one and not `**`, and files are wanted too.
 pub record IgnoresKinds {A : Type 0} (plan : Plan A) (component : ℕ) (recursive : Bool) : Type 0 where
   pub single : recursive ≡ false
   pub last : drop (component + 1) plan.components.items ≡ []

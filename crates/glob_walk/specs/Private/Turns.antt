@@ -1,10 +1,9 @@
 -- One turn of a walk, against the written listing.
 use Rattle.std.specs.Prelude.{◌≡◌, ℕ, ◌+◌, ◌≤◌, Bool, Option, Some, None, List, [], ◌∷◌, ◌++◌, length, map, String, ⊤}
 use Rattle.glob_text.specs.Text.{Text}
-use Rattle.glob_walk.specs.Marks.{Mark, Work, Give}
+use Rattle.glob_walk.specs.Walks.{Mark, Work, Give, Gives, LimitAt, NoMemory}
 use Rattle.glob_walk.specs.Questions.{Question, IsLook, IsListWith, IsSomeContent, question_path}
 use Rattle.glob_walk.specs.Machines.{Saying, AsksLook, AsksList, Says, Ends, item_number, saying, step_units}
-use Rattle.glob_walk.specs.Walks.{Gives, LimitAt, NoMemory}
 use Rattle.glob_tree.specs.Content.{Content, list_result}
 use Rattle.glob_tree.specs.Answers.{IsEntriesAnswer, entries_of}
 use Rattle.glob_tree.specs.declared.tree.Entry.{Entry}
@@ -94,7 +93,7 @@ IsAskedBy (Some (AsksList kinds)) s q = IsListWith kinds (question_of q) × IsQu
 IsAskedBy _ s q = q ≡ None
 
 -- A turn takes a walk from one state to another, with n entries in the answer. `sound` and `takes` are about the
--- contents that fit the answer, the other fields hold for every answer.
+-- contents that fit the answer; the other fields hold for every answer.
 pub record TurnsTo {A : Type 0} (Fits : Content → Type 0) (n : ℕ) (old : Walker A) (t : Option Saying) (new : Walker A) : Type 0 where
   pub limit : new.meter.limit ≡ old.meter.limit
   pub grows : old.meter.spent ≤ new.meter.spent

@@ -1,6 +1,6 @@
 -- What a walk still has to do: the open question, and then the stack; and what holds between two steps.
 use Rattle.std.specs.Prelude.{◌≡◌, ℕ, ◌+◌, ◌≤◌, ◌<◌, ◌^◌, Bool, true, false, None, List, length, ◌++◌}
-use Rattle.glob_walk.specs.Marks.{Mark}
+use Rattle.glob_walk.specs.Walks.{Mark}
 use Rattle.glob_tree.specs.Content.{Content}
 use Rattle.glob_walk.specs.Machines.{Progress}
 use Rattle.glob_walk.specs.declared.walker.Walker.{Walker}
@@ -16,7 +16,7 @@ walk_left c w = query_marks c w.stack.plan w.query ++ left c w.stack
 abbrev pub walk_ready : {A : Type 0} → Walker A → ℕ
 walk_ready w = query_ready w.query + ready w.stack
 
--- what is reported as a directory is one, and in a plain walk each directory is below the one before it
+-- what is reported as a directory is a directory, and in a plain walk each directory is below the one before it
 pub record IsWalkSound {A : Type 0} (c : Content) (w : Walker A) : Type 0 where
   pub query : IsQuerySound c w.query
   pub deep : IsPlainOver c w.stack.plan → IsQueryDeep c w.stack.plan (length w.stack.frames.items) w.query
@@ -26,12 +26,12 @@ pub record IsWalkSound {A : Type 0} (c : Content) (w : Walker A) : Type 0 where
 abbrev pub Walk : Type 0 → Progress
 Walk A = record { State = Walker A; left = walk_left; Agrees = IsWalkSound }
 
--- what holds of a walk that is not over
+-- what holds for a walk that is not over
 pub record IsUnderWay {A : Type 0} (w : Walker A) (given : ℕ) : Type 0 where
   pub ready : given + walk_ready w ≤ w.meter.spent
   pub opened : IsQueryOpened w.stack w.query
 
--- what holds of every walk between two steps
+-- what holds for every walk between two steps
 pub record IsGood {A : Type 0} (w : Walker A) (given : ℕ) (over : Bool) : Type 0 where
   pub fits : w.meter.limit < 2 ^ 64
   pub few : given ≤ w.meter.spent + 1

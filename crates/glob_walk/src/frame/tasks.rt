@@ -3,7 +3,7 @@
 //! Each step makes at most one task, and builds a child's path only for its task.
 ghost use Rattle.std.specs.Prelude.{◌≡◌, ◌+◌, ◌<◌, ℕ, None, IfOk, IfSome, string_bytes, if◌then◌else◌, vec_len};
 ghost use Rattle.glob_tree.specs.Content.{Content};
-ghost use Rattle.glob_walk.specs.Listing.{is_entered as is_entered_entry};
+ghost use Rattle.glob_walk.specs.Walks.{is_entered as is_entered_entry};
 ghost use Rattle.glob_text.specs.Text.{Text};
 ghost use Rattle.glob_tree.specs.Paths.{child as child_path};
 ghost use Rattle.glob_walk.specs.Private.Depths.{IsDeepPath, IsNextDeep, IsPlainAt, IsPlainFrom};
@@ -114,8 +114,8 @@ impl<A: Allocator + Copy> Frame<A> {
     }
 }
 
-/// The number of the component with which the walk goes on at an entry, if the entry is met: by the component of this
-/// number, or under `**` by the next one. A `**` at the pattern's end meets each entry that it enters.
+/// The number of the component with which the walk goes on at an entry, if the entry is met: by the component with this
+/// number, or under `**` by the component after it. A `**` at the pattern's end meets each entry that it enters.
 fn meet<A: Allocator + Copy>(
     plan: &Plan<A>,
     recursive: bool,

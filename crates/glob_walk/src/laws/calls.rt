@@ -19,8 +19,8 @@ pub fn text_is_an_equal_pattern<A: Allocator + Copy, B: Allocator>(
     Pattern::new(alloc, pattern.as_str())
 }
 
-/// Whether `matches_path_with` returns for a path what `matches_with` returns for its text. It always does. The error
-/// is a failed allocation.
+/// Whether `matches_path_with` returns the same for a path as `matches_with` for its text: always true. The error is a
+/// failed allocation.
 pub fn path_matches_as_its_text<A: Allocator + Copy>(
     pattern: &Pattern<A>,
     path: Path<'_>,

@@ -32,7 +32,7 @@ pub fn one_way_of_units()
         → HasUnits text units → HasUnits text others → units ≡ others }
 {}
 
-/// An accepted text has only one list of tokens: `**/**/a` has that of `**/a`.
+/// An accepted text has only one list of tokens: `**/**/a` has the same as `**/a`.
 pub fn one_list_of_tokens()
     ensures { (text : Text) (tokens others : List Token)
         → HasTokens text tokens → HasTokens text others → tokens ≡ others }
@@ -43,7 +43,7 @@ pub fn accepted_has_no_fault()
     ensures { (text : Text) (fault : Fault) → IsAccepted text → ¬ (IsFault text fault) }
 {}
 
-/// A text that is not accepted has exactly one fault: `a**[` has the one at its `a`, and not that of the bracket.
+/// A text that is not accepted has exactly one fault: the fault of `a**[` is at its `a`, and not at the bracket.
 pub fn refused_has_one_fault()
     ensures { (text : Text) → ¬ (IsAccepted text) → (fault : Fault) × IsFault text fault
         × ((other : Fault) → IsFault text other → other ≡ fault) }
@@ -93,17 +93,17 @@ pub fn separator_rule_spares_names()
 {}
 
 /// Under the separator rule, a pattern matches names joined by `/` exactly if its components take the names. `**` takes
-/// any number of them (at least one at the end of the pattern), but under the dot rule none that begins with a dot; any
-/// other component takes one. For example, `a/**/c` matches `a/b/c`, since `a` takes `a`, `**` takes `b` and `c` takes
-/// `c`.
+/// any number of names (at least one at the end of the pattern), but under the dot rule no name that begins with a dot;
+/// any other component takes one name. For example, `a/**/c` matches `a/b/c`, since `a` takes `a`, `**` takes `b` and
+/// `c` takes `c`.
 pub fn components_match_level_by_level()
     ensures joined { JoinedMatchLevels }
     ensures rooted { RootedMatchLevels }
 {}
 
-/// The literal tokens in a row match characters in a row of each text that the tokens match. Those at the start of the
-/// pattern match at the start of the text, those at the end match at its end: a text that `a*.rs` matches starts with
-/// `a` and ends in `.rs`.
+/// In each text that the tokens match, neighbouring literal tokens match neighbouring characters. Literals at the start
+/// of the pattern match at the start of the text, and literals at the end match at its end: a text that `a*.rs` matches
+/// starts with `a` and ends in `.rs`.
 pub fn plain_tokens_stand_in_the_text()
     ensures { PlainTokensStand }
 {}

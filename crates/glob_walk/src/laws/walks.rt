@@ -6,21 +6,21 @@ ghost use Rattle.glob_walk.specs.Laws.{EnoughLevelsAgree, EntriesAscend, TakenGo
 use std::alloc::Allocator;
 
 /// Case-sensitively and under the separator rule, a plain pattern without a `/` at its end matches the path of a key
-/// below the start exactly if its components take the key's names: `a/**/c` matches that of `a/b/c`, since `a` takes
-/// `a`, `**` takes `b` and `c` takes `c`.
+/// below the start exactly if its components take the key's names: `a/**/c` matches `a/b/c`, since `a` takes `a`, `**`
+/// takes `b` and `c` takes `c`.
 pub fn plain_pattern_matches_level_by_level()
     ensures { PlainMatchesLevels }
 {}
 
-/// A case-sensitive plain walk finds what the undivided pattern matches, as far as it came and as far as it could read.
-/// If `d` cannot be listed, `*/*` has an error for `d` in place of `d/x`.
+/// A case-sensitive plain walk finds what the undivided pattern matches, as far as the walk got and as far as it could
+/// read. If `d` cannot be listed, `*/*` gives an error for `d` instead of `d/x`.
 pub fn plain_walk_reaches_the_goal()
     ensures { SensitiveWalkReaches }
 {}
 
 /// Over a readable content a case-sensitive plain walk has no error. Its paths are exactly those that the undivided
 /// pattern matches under the separator rule, and under the dot rule if that is set; if the pattern ends in `/` or `**`,
-/// only the directories among them. For `**/x` over files `x`, `y` and `d/x` they are `d/x` and `x`.
+/// only the directories among these. For `**/x` over files `x`, `y` and `d/x` the paths are `d/x` and `x`.
 pub fn plain_walk_gives_the_goal()
     ensures { SensitiveWalkGives }
 {}
@@ -39,30 +39,30 @@ pub fn walk_finds_what_its_components_take()
 {}
 
 /// The whole walk of a plain pattern costs at most one unit, plus `cost_per_key` units for each key of the content,
-/// including the root; so there is a bound before the walk. A component costs one unit for each key. `**` costs two,
-/// plus for each key what the components after it cost. For 9 keys, `*/*.rs` costs at most 19 units, and `**/*.rs` at
-/// most 100.
+/// including the root; so the bound is known before the walk. A component costs one unit for each key. `**` costs two
+/// units and, once more for each key, what the components after it cost. For 9 keys, `*/*.rs` costs at most 19 units,
+/// and `**/*.rs` at most 100.
 pub fn walk_costs_a_polynomial_of_keys()
     ensures { PlainWalkCosts }
 {}
 
-/// The written listing limits the levels of a descent by `**` below a directory, which changes nothing: all numbers of
-/// levels above the number of names in the longest key give the same marks. Over `d/x`, a key of two names, three
-/// levels give what a hundred give.
+/// The written listing limits how many levels `**` descends below a directory, but this limit changes nothing: any
+/// limit above the number of names in the longest key gives the same marks. Over `d/x`, a key of two names, three
+/// levels give the same as a hundred.
 pub fn enough_levels_give_the_same_marks()
     ensures { EnoughLevelsAgree }
 {}
 
 /// The written listing has the entries of a directory in ascending byte order of names, each as often as the directory
-/// has it: `b`, `a` and `a.c` as `a`, `a.c` and `b`.
+/// has it: `a`, `a.c` and `b` for the entries `b`, `a` and `a.c`.
 pub fn entries_stand_in_ascending_order()
     ensures { EntriesAscend }
 {}
 
 /// A new machine has given nothing of the written listing, and what a machine gave is a prefix of the listing's items.
-/// As long as all answers are those of one content, each step goes on from there, by its clause `steps`: its next item
-/// is the next one of the listing, and at `Done` it gave all. A caller's proof keeps `HasGiven` from step to step: over
-/// files `x` and `y`, `*` gave nothing, then `x`, then `x` and `y`.
+/// As long as all answers come from one content, each step goes on from there, by its clause `steps`: its next item is
+/// the next item of the listing, and at `Done` the machine gave all items. A caller's proof keeps `HasGiven` from step
+/// to step: over files `x` and `y`, `*` gave nothing, then `x`, then `x` and `y`.
 pub fn steps_give_the_listing<A: Allocator>()
     ensures { DrivesListing (Walk A) }
 {}

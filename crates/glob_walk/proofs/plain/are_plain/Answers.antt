@@ -11,7 +11,7 @@ use Rattle.glob_walk.proofs.plain.are_plain.Goals as goal
 pub loop-component-init : goal.loop-component-init
 loop-component-init c = λ rest. refl
 
--- a component that is not plain decides
+-- a component that is not plain decides the answer
 pub returns-then-not-is_plain_component : goal.returns-then-not-is_plain_component
 returns-then-not-is_plain_component c =
     let parts = YieldsList-from_str_split slash c.args.text.now (lit< tt) (cc) (cc) (cc) in

@@ -1,4 +1,5 @@
-use Rattle.std.proofs.Common.{cond, Result, Ok, Err, ◌+◌, ◌≤◌, Bool, true, false, Option, Some, None, length, arith, refl, ap, ◌≡◌, ◌∙◌, sym}
+use Rattle.std.proofs.Common.{cond, Result, Ok, Err, ◌+◌, ◌≤◌, Bool, true, false, Option, Some, None, length, arith}
+use Rattle.std.proofs.Common.{refl, ap, ◌≡◌, ◌∙◌, sym}
 use Rattle.std.specs.Prelude.{nat_le, string_bytes, OnOk}
 use Rattle.std.proofs.lemmas.Bool.{both_ways, leb-false}
 use Rattle.std.proofs.lemmas.Result.{IfOk-weaker}

@@ -1,6 +1,6 @@
 use Rattle.std.proofs.Common.{◌++◌, refl, ap, sym, ◌∙◌}
 use Rattle.glob_walk.specs.Machines.{left_of, listing_of}
-use Rattle.glob_walk.specs.Marks.{items}
+use Rattle.glob_walk.specs.Walks.{items}
 use Rattle.glob_walk.proofs.ListingLemmas.Marks.{items-append}
 use Rattle.glob_walk.proofs.WalkLemmas.Giving.{given_fresh}
 use Rattle.glob_walk.proofs.laws.walks.steps_give_the_listing.Goals as goal

@@ -1,5 +1,5 @@
 use Rattle.std.proofs.Common.{◌<◌, length, arith}
-use Rattle.glob_walk.specs.Listing.{levels}
+use Rattle.glob_walk.specs.Walks.{levels}
 use Rattle.glob_walk.proofs.WalkLemmas.MachineSteps.{kept_few}
 use Rattle.glob_walk.proofs.machine.WalkMachine.kept.Goals as goal
 

@@ -29,12 +29,12 @@ sum-at : {X : Type 0} (f : X → ℕ) (xs : List X) (n : ℕ) (x y : X) → n + 
     (set xs n y) + f x ≡ sum_by f xs + f y
 sum-at f xs n x y h is = ap (λ z. sum_by f (set xs n y) + f z) is ∙ sum_by-set f xs n y x (omega (arith, h))
 
--- or dropped
+-- an element of a list is dropped
 sum-front : {X : Type 0} (f : X → ℕ) (xs ys : List X) (n : ℕ) (x y : X) → n + 1 ≡ length xs → x ≡ get_or xs n x
     → ys ≡ take n (set xs n y) → sum_by f ys + f x ≤ sum_by f xs + f y
 sum-front f xs ys n x y h is popped = omega (arith, ap (sum_by f) popped, sum_by-take-le f (set xs n y) n, sum-at f xs n x y h is)
 
--- what holds of all holds of the last
+-- what holds for all elements holds for the last
 last-holds : {X : Type 0} (P : X → Type 0) (xs : List X) (n : ℕ) (x : X) → n + 1 ≡ length xs → x ≡ get_or xs n x → All P xs → P x
 last-holds P xs n x h is all = subst P (sym is) (All-get_or P xs n x (omega (arith, h)) all)
 

@@ -1,6 +1,6 @@
 use Rattle.std.proofs.Common.{Bool, rules, ◌≡◌, ◌∷◌, ◌++◌, ℕ, ◌+◌, ◌≤◌, true, false, length, drop, refl, ap, sym, subst, ◌∙◌, arith}
 use Rattle.std.specs.Prelude.{string_bytes, nat_le, not, ◌||◌}
-use Rattle.glob_walk.specs.Marks.{Give, Found}
+use Rattle.glob_walk.specs.Walks.{Give, Found}
 use Rattle.glob_walk.specs.Components.{is_literal, is_recursive}
 use Rattle.glob_walk.specs.declared.task.TaskState.TheVariants.{Seen}
 use Rattle.glob_walk.specs.Private.Tasks.{enter_from, next_ready, state_ready, IsOpened}
@@ -14,7 +14,7 @@ use Rattle.glob_walk.proofs.WalkLemmas.Stacking.{left_free, left_none, sound_fre
 use Rattle.glob_walk.proofs.walker.Walker.enter.Goals as goal
 use Rattle.glob_walk.proofs.walker.Walker.enter.Goals.{then-is_dir-via-then-is_dir, then-is_dir-via-else-is_dir+then-not-plan}
 
--- a directory is given; anything else, if not only directories are wanted
+-- a directory is given; anything else, if files are wanted too
 gives-directory : (directories d : Bool) → d ≡ true → (not directories || d) ≡ true
 gives-directory true d h = h
 gives-directory false d h = refl

@@ -1,7 +1,7 @@
 use Rattle.std.proofs.Common.{rules, subst, sym, true, ◌∷◌, [], ◌++◌, refl, ap, arith, ◌∙◌}
 use Rattle.std.specs.Prelude.{drop, string_bytes}
 use Rattle.glob_tree.proofs.ContentLemmas.Contents.{IsContent-from_test}
-use Rattle.glob_walk.specs.Marks.{Work}
+use Rattle.glob_walk.specs.Walks.{Work}
 use Rattle.glob_walk.specs.Private.Turns.{TurnsTo}
 use Rattle.glob_walk.specs.Private.Tasks.{enter_from, next_ready}
 use Rattle.glob_walk.specs.Private.Stacks.{frames_marks}

@@ -1,6 +1,6 @@
 use Rattle.std.proofs.Common.{rules, subst, sym, ◌∷◌, ◌++◌, [], refl, ap, arith}
 use Rattle.std.specs.Prelude.{string_bytes}
-use Rattle.glob_walk.specs.Marks.{Work}
+use Rattle.glob_walk.specs.Walks.{Work}
 use Rattle.glob_walk.specs.Private.Turns.{TurnsTo}
 use Rattle.glob_walk.specs.Private.Tasks.{next_ready}
 use Rattle.glob_walk.specs.Private.Queries.{kind_marks}

@@ -5,7 +5,7 @@ use Rattle.glob_tree.specs.Content.{list_result}
 use Rattle.glob_tree.specs.Answers.{IsListError, entry_count}
 use Rattle.glob_tree.proofs.ContentLemmas.Contents.{IsContent-from_test}
 use Rattle.glob_tree.specs.declared.tree.ListError.TheVariants.{Read, Memory}
-use Rattle.glob_walk.specs.Marks.{Give, Unread}
+use Rattle.glob_walk.specs.Walks.{Give, Unread}
 use Rattle.glob_walk.specs.Questions.{IsListedIn, ListAt}
 use Rattle.glob_walk.specs.declared.query.QueryKind.TheVariants.{List}
 use Rattle.glob_walk.specs.Private.Tasks.{next_ready}
