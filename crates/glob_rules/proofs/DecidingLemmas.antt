@@ -29,7 +29,7 @@ module _ (list : Ignores) (path : Text) (d : Bool) where
   unfolding names
   names-not_directory k alone file = rw (alone, file)
 
-  -- another names what its pattern matches
+  -- any other rule names what its pattern matches
   pub names-matched : (k : ℕ) (b : Bool) → (rule_at list k).directories && not d ≡ false → b ≡ is_match rule_options
       (chars (get_or list.patterns k [])) (chars path)
       → b ≡ names list path d k
@@ -43,7 +43,7 @@ module _ (list : Ignores) (path : Text) (d : Bool) where
       may false true h = refl
       may false false h = refl
 
-  -- what no pattern matches, no rule names
+  -- a path that no pattern matches is named by no rule
   pub names-unmatched : (k : ℕ) → k < length list.patterns → ¬ (MatchesAt rule_options list.patterns path k) → names list path d k ≡ false
   unfolding names MatchesAt
   names-unmatched k below none =
@@ -64,7 +64,7 @@ module _ (list : Ignores) (path : Text) (d : Bool) where
     | inr at ↦ let e : suc n ≡ m = omega arith in ap (last_naming list path d) e
   ]
 
-  -- the last rule that names the path, where no later pattern matches
+  -- the last rule that names the path, if no later pattern matches
   pub last_named-below : (k : ℕ) → length list.rules ≡ length list.patterns → LastMatch rule_options list.patterns path (Some k)
       → last_naming list path d (k + 1) ≡ last_named list path d
   unfolding last_named LastMatch MatchesAt
@@ -78,14 +78,14 @@ module _ (list : Ignores) (path : Text) (d : Bool) where
   last_named-none same none =
       sym (last_naming-same 0 (length list.rules) (omega arith) (λ j from to. names-unmatched j (omega (arith, to)) (λ at. none (j, at))))
 
-  -- one rule less
+  -- one rule fewer
   pub last_naming-less : (m n : ℕ) → m ≡ suc n → names list path d n ≡ false → last_naming list path d m ≡ last_naming list path d n
   last_naming-less m n e lacks = ap (last_naming list path d) e ∙ cond-false (names list path d n) _ _ lacks
 
   pub last_naming-here : (m n : ℕ) → m ≡ suc n → names list path d n ≡ true → last_naming list path d m ≡ Some n
   last_naming-here m n e holds = ap (last_naming list path d) e ∙ cond-true (names list path d n) _ _ holds
 
-  -- the rule of a number names the path by what its pattern answers
+  -- whether the rule at a number names the path, by its pattern's answer
   pub names-answer : (k : ℕ) (alone : Bool) (pattern : Text) (o : MatchOptions) (b : Bool) → alone ≡
       (rule_at list k).directories → pattern ≡ get_or list.patterns k []
       → o ≡ rule_options → alone && not d ≡ false → IsTrue b ↔ Matches o (chars pattern) (chars path) → b ≡ names list path d k
@@ -108,7 +108,7 @@ module _ (list : Ignores) (path : Text) (d : Bool) where
       (ignores list) (sym same) ∙ ignored in
       sym (so_far ∙ at_drop_more (λ rest. deciding_from list (take place path) rest d) path place 0 below ∙ cond-true _ _ _ test ∙ sym same)
 
-  -- else it is the last rule that names the path
+  -- otherwise the last rule that names the path decides
   pub deciding-end : (place : ℕ) → length path ≤ place → deciding_from list [] path d ≡ deciding_from list
       (take place path) (drop place path) d
       → last_named list path d ≡ deciding list path d

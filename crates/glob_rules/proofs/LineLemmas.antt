@@ -39,7 +39,7 @@ is_pattern-accepted glob text same utf8 accepted =
     ap is_ok (ap (λ t. reading_of (chars t)) (sym same) ∙ (reading_of-Ok (chars text) tokens).1 has) in
     ap (λ b. b && is_ok (reading_of (chars glob))) (is_utf8-from_IsUtf8 glob utf8) ∙ read
 
--- and one with a fault is none
+-- a translation with a fault is not a pattern
 pub is_pattern-fault : (glob text : Text) (fault : Fault) → text ≡ glob → IsFault (chars text) fault → is_pattern glob ≡ false
 unfolding is_pattern
 is_pattern-fault glob text fault same is =
@@ -47,7 +47,7 @@ is_pattern-fault glob text fault same is =
     ap is_ok (ap (λ t. reading_of (chars t)) (sym same) ∙ (reading_of-Err (chars text) fault).1 is) in
     ap (λ b. is_utf8 glob && b) read ∙ and_none (is_utf8 glob)
 
--- nor is one that is no text
+-- a translation that is not UTF-8 is not a pattern
 pub is_pattern-none : (glob : Text) → ¬ (IsUtf8 glob) → is_pattern glob ≡ false
 unfolding is_pattern
 is_pattern-none glob none = by_test (is_utf8 glob) refl
@@ -76,14 +76,14 @@ mark_boundary text utf8 h =
     IsCharBoundary-past_char text (drop 3 text) 0 65279 (omega arith) utf8 whole
 
 module _ (p : ℕ → Bool) (xs old now : List ℕ) (i : ℕ) (below : i < length xs) (so_far : now ≡ old ++ filter p (take i xs)) where
-  -- one more character is written
+  -- one more character passes the test and is written
   pub filtered-yes : (new : List ℕ) → new ≡ now ++ get_or xs i 0 ∷ [] → p (get_or xs i 0) ≡ true → new ≡ old ++ filter p (take (i + 1) xs)
   filtered-yes new is holds =
       is ∙ ap (λ ys. ys ++ get_or xs i 0 ∷ []) so_far ∙ append_assoc old (filter p (take i xs)) (get_or xs i 0 ∷ [])
       ∙ ap (λ ys. old ++ ys) (ap (λ b. filter p (take i xs) ++ cond b (get_or xs i 0 ∷ []) []) (sym holds) ∙ sym
       (filter_more p xs i 0 below))
 
-  -- or it is not
+  -- one more character fails the test and is left out
   pub filtered-no : p (get_or xs i 0) ≡ false → now ≡ old ++ filter p (take (i + 1) xs)
   filtered-no lacks =
       so_far
@@ -136,7 +136,7 @@ unfolding RefusesText
 IfErr-memory (Ok x) text is = absurd is
 IfErr-memory (Err e) text is = subst (RefusesText text) (sym is) tt
 
--- what is before the first place, or all where there is none
+-- what is before the first place that passes, or all if none does
 pub before_first-Some : (p : ℕ → Bool) (xs : List ℕ) (i : ℕ) → position p xs ≡ Some i → take i xs ≡ before_first p xs
 before_first-Some p xs i found =
     let (within, is, before) = position-Some p xs i 0 found in

@@ -19,13 +19,13 @@ names list path is_directory number =
     (is_directory || not (rule_at list number).directories)
     && is_match rule_options (chars (slice_index_or list.patterns number [])) (chars path)
 
--- the last of the first n rules that matches a path
+-- among the first n rules, the number of the last one that matches a path
 abbrev pub last_naming : Ignores → (path : Text) → (is_directory : Bool) → (n : ℕ) → Option ℕ
 last_naming list path is_directory zero = None
 last_naming list path is_directory (suc n) =
     if names list path is_directory n then Some n else last_naming list path is_directory n
 
--- the last rule that matches a path
+-- the number of the last rule that matches a path
 unfoldable pub last_named : Ignores → (path : Text) → (is_directory : Bool) → Option ℕ
 last_named list path is_directory = last_naming list path is_directory (length list.rules)
 
@@ -38,9 +38,9 @@ abbrev pub ignores : Ignores → (number : Option ℕ) → Bool
 ignores list None = false
 ignores list (Some number) = not (rule_at list number).negative
 
--- The rule that decides about the path `front` and `rest`. What comes before a separator of the rest is a directory above
--- the path. If the last rule that matches such a directory ignores it, that rule decides; otherwise the last rule that
--- matches the path decides.
+-- The rule that decides about the path `front` and `rest`. What comes before a separator of the rest is a directory
+-- above the path. If the last rule that matches such a directory ignores it, that rule decides; otherwise the last rule
+-- that matches the path decides.
 abbrev pub deciding_from : Ignores → (front rest : Text) → (is_directory : Bool) → Option ℕ
 deciding_from list front [] is_directory = last_named list front is_directory
 deciding_from list front (c ∷ cs) is_directory =

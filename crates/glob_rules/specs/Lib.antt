@@ -6,4 +6,4 @@ pub mod Private
 pub mod Readings
 pub mod Steps
 pub mod Words
-pub mod Writings
+pub mod StepTexts

@@ -60,6 +60,10 @@ kept_of text = fold next_kept none_kept text
 abbrev pub without_blanks : Text → Text
 without_blanks text = take (kept_of text).kept text
 
+-- the rule of a line as it is written: without its CR and its trailing spaces
+abbrev pub kept_line : Text → Text
+kept_line text = without_blanks (without_last text carriage_return)
+
 -- a line as read: its outcome, whether its rule begins with `!`, whether it ends in `/`, and its pattern
 pub record Line : Type 0 where
   pub outcome : Outcome
@@ -84,8 +88,8 @@ line_of_reading negative directories r = record {
 abbrev pub is_path : Text → Bool
 is_path text = list_any (λ c. c == slash) text
 
--- The line of a rule without its `!` and its last `/`. A separator ties the rule to the list's own directory, and a
--- leading one does only that.
+-- The line of a rule without its `!` and its last `/`. A separator ties the rule to the list's own directory; a leading
+-- one does nothing else.
 unfoldable pub line_of_body : (negative directories : Bool) → Text → Line
 line_of_body negative directories body =
     if length body == 0 || ends_in body slash then nothing
@@ -103,4 +107,4 @@ line_of_kept kept = line_of_rule (has kept 0 exclamation_mark) (without_first ke
 unfoldable pub line_of : Text → Line
 line_of text =
     if has text 0 hash then nothing
-    else line_of_kept (without_blanks (without_last text carriage_return))
+    else line_of_kept (kept_line text)

@@ -5,11 +5,11 @@ use Rattle.glob_text.specs.Text.{Text}
 use Rattle.glob_pattern.specs.Grammar.Characters.{star}
 use Rattle.glob_rules.specs.Classes.{before_close}
 use Rattle.glob_rules.specs.Steps.{step_from}
-use Rattle.glob_rules.specs.Writings.{written}
+use Rattle.glob_rules.specs.StepTexts.{written}
 use Rattle.glob_rules.specs.declared.error.Reason.TheVariants.{StarsBehindText}
 use Rattle.glob_rules.specs.declared.reading.Outcome.{Outcome}
 use Rattle.glob_rules.specs.declared.reading.Outcome.TheVariants as outcomes
-use Rattle.glob_rules.specs.declared.steps.Span.{Span}
+use Rattle.glob_rules.specs.declared.steps.BracketSpan.{BracketSpan}
 use Rattle.glob_rules.specs.declared.steps.Step.{Step}
 use Rattle.glob_rules.specs.declared.steps.Mode.{Mode}
 use Rattle.glob_rules.specs.declared.steps.Mode.TheVariants.{Units, Escape, Star, Stars, EscapedStars, Open, Negation}
@@ -21,20 +21,20 @@ use Rattle.glob_rules.specs.declared.steps.Change.TheVariants.{Keep, Clear, Add}
 -- a rule read in part: the mode after the bytes so far, the characters of the last bracket, and the pattern so far
 pub record Read : Type 0 where
   pub mode : Mode
-  pub spans : List Span
+  pub spans : List BracketSpan
   pub glob : Text
 
 -- Before the first byte. With a separator, a rule is relative to the list's directory; without one, it matches at any
 -- depth.
 abbrev pub reading_start : (path : Bool) → Read
 reading_start path = record {
-  mode = Units (record { plain = path; opening = path });
+  mode = Units (record { all_literal = path; opening = path });
   spans = [];
   glob = if path then [] else star ∷ star ∷ slash ∷ [];
 }
 
 -- the bracket's characters after a change
-abbrev pub changed : List Span → Change → List Span
+abbrev pub changed : List BracketSpan → Change → List BracketSpan
 changed spans Keep = spans
 changed spans Clear = []
 changed spans (Add span) = spans ++ span ∷ []

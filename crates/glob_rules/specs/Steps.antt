@@ -14,7 +14,7 @@ use Rattle.glob_rules.specs.declared.steps.Mode.TheVariants.{Range, Item, InClas
 use Rattle.glob_rules.specs.declared.steps.Mode.TheVariants.{Refused}
 use Rattle.glob_rules.specs.declared.steps.Prefix.{Prefix}
 use Rattle.glob_rules.specs.declared.steps.Change.TheVariants.{Keep, Clear, Add}
-use Rattle.glob_rules.specs.declared.steps.Span.TheVariants.{Between, OfClass}
+use Rattle.glob_rules.specs.declared.steps.BracketSpan.TheVariants.{Between, OfClass}
 use Rattle.glob_rules.specs.declared.steps.Writing.{Writing}
 use Rattle.glob_rules.specs.declared.steps.Writing.TheVariants.{Nothing, Byte, Bracketed, StarSlash, SlashStars, Held}
 use Rattle.glob_rules.specs.declared.steps.Step.{Step}
@@ -49,15 +49,15 @@ literal c = if is_wildcard c then Bracketed c else Byte c
 
 -- inside a component, and not only literals
 abbrev pub inside : Prefix
-inside = record { plain = false; opening = false }
+inside = record { all_literal = false; opening = false }
 
 -- at the start of a component, and not only literals
 abbrev pub at_start : Prefix
-at_start = record { plain = false; opening = true }
+at_start = record { all_literal = false; opening = true }
 
 -- the prefix with one more literal: a component begins after `/`
 abbrev pub with_literal : Prefix → ℕ → Prefix
-with_literal prefix c = record { plain = prefix.plain; opening = c == slash }
+with_literal prefix c = record { all_literal = prefix.all_literal; opening = c == slash }
 
 -- a byte after a complete unit
 abbrev pub after_units : Prefix → ℕ → Step
@@ -77,7 +77,7 @@ after_escape c = writes (Units (with_literal inside c)) (literal c)
 abbrev pub after_star : Prefix → ℕ → Step
 after_star prefix c =
     if not (c == star) then after_units inside c
-    else if prefix.plain || prefix.opening then moves (Stars prefix)
+    else if prefix.all_literal || prefix.opening then moves (Stars prefix)
     else moves (Star inside)
 
 -- A byte after two or more stars that count. Before `/` they are a component if one begins there, and are refused after

@@ -10,7 +10,7 @@ use Rattle.glob_rules.specs.declared.error.RuleRefusal.TheVariants.{Line, Memory
 abbrev pub reason_words : Reason → List ℕ
 reason_words BeyondAscii = codes "a bracket names a character beyond ASCII"
 reason_words UnknownClass = codes "a bracket has an unknown class of characters"
-reason_words StarsBehindText = codes "two stars are right behind plain text"
+reason_words StarsBehindText = codes "`**` is not a whole component"
 reason_words Nul = codes "the line has a NUL"
 reason_words Pattern = codes "the translation is no pattern"
 

@@ -29,7 +29,7 @@ impl fmt::Display for Reason {
         f.write_str(match self {
             Reason::BeyondAscii => "a bracket names a character beyond ASCII",
             Reason::UnknownClass => "a bracket has an unknown class of characters",
-            Reason::StarsBehindText => "two stars are right behind plain text",
+            Reason::StarsBehindText => "`**` is not a whole component",
             Reason::Nul => "the line has a NUL",
             Reason::Pattern => "the translation is no pattern",
         })

@@ -15,5 +15,6 @@ mod rules;
 mod steps;
 
 pub use error::{Reason, RuleRefusal};
+pub use lines::kept_line;
 pub use list::IgnoreList;
 pub use rule::Rule;

@@ -3,7 +3,7 @@ ghost use Rattle.std.specs.Prelude.{◌≡◌, ◌+◌, ◌^◌, ◌<◌, ◌≤
 ghost use Rattle.glob_rules.specs.Steps.{backslash};
 ghost use Rattle.glob_text.specs.Text.{has};
 ghost use Rattle.glob_rules.specs.Lines.{blank, is_path, ends_in, without_first, without_last, without_blanks, kept_of};
-ghost use Rattle.glob_rules.specs.Lines.{nothing, line_of_body, line_of};
+ghost use Rattle.glob_rules.specs.Lines.{kept_line, nothing, line_of_body, line_of};
 
 use crate::reading::{Outcome, Reading};
 use std::alloc::{AllocError, Allocator};
@@ -82,7 +82,7 @@ impl<A: Allocator + Copy> Line<A> {
         if has(text, 0, b'#') {
             return Ok(Self::nothing(alloc));
         }
-        let kept = without_blanks(without_last(text, b'\r'));
+        let kept = kept_line(text);
         let negative = has(kept, 0, b'!');
         let body = without_first(kept, b'!');
         let directories = ends_in(body, b'/');
@@ -105,6 +105,14 @@ impl<A: Allocator + Copy> Line<A> {
             glob: reading.into_glob()?,
         })
     }
+}
+
+/// The rule of a line as it is written, without a carriage return and unescaped spaces at its end. For `!*.o \r` this
+/// is `!*.o`.
+pub fn kept_line(text: &[u8]) -> &[u8]
+    ensures { result.now ≡ kept_line text.now }
+{
+    without_blanks(without_last(text, b'\r'))
 }
 
 /// Whether the text has a separator.

@@ -64,7 +64,7 @@ impl<A: Allocator + Copy> IgnoreList<A> {
         }
     }
 
-    /// Parses a text that somebody else wrote: skips the lines that are refused, and returns why each one is. The other
+    /// Parses a text that somebody else wrote: skips the refused lines, and returns why each was refused. The other
     /// lines keep their numbers: in `*.o`, `[é]` and `target/`, the last is line 3.
     ///
     /// All refusals are [`Line`](RuleRefusal::Line), in the order of the lines. The error is a failed allocation.
@@ -107,8 +107,8 @@ impl<A: Allocator + Copy> IgnoreList<A> {
     }
 
     /// The last rule that matches the path itself, whatever the list says about the directories above it, or `None` if
-    /// no rule does: with `a/` and `!a/b`, it is line 2 for `a/b`. This is all that a search needs that enters no
-    /// ignored directory. The error is that of [`is_ignored`](Self::is_ignored).
+    /// no rule does: with `a/` and `!a/b`, it is line 2 for `a/b`. A search that enters no ignored directory needs
+    /// nothing more. The error is that of [`is_ignored`](Self::is_ignored).
     #[tactic(auto, unfolding(crate::specs::Deciding::naming_rule))]
     pub fn naming_rule(&self, path: &str, is_directory: bool) -> Result<Option<Rule>, AllocError>
         ensures rule { IfOk result

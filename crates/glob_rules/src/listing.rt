@@ -1,9 +1,9 @@
 //! The characters of a bracket, written out.
 ghost use Rattle.std.specs.Prelude.{◌≡◌, ◌++◌, [], ◌∷◌, OnOk};
-ghost use Rattle.glob_rules.specs.Writings.{is_within, holds, held, written};
+ghost use Rattle.glob_rules.specs.StepTexts.{is_within, holds, held, written};
 ghost use Rattle.std.specs.List.{list_any};
 
-use crate::steps::{Span, Writing};
+use crate::steps::{BracketSpan, Writing};
 use std::alloc::{AllocError, Allocator};
 
 /// The ASCII characters except NUL, in an order in which a bracket can list any of them together with `/`: `]` comes
@@ -21,31 +21,31 @@ pub const ORDER: [u8; 127] = [
 
 /// Whether a bracket with these spans lists `c`. Every bracket lists `/`, so that none is empty; under the separator
 /// rule no bracket matches it.
-fn holds(spans: &[Span], c: u8) -> bool
+fn holds(spans: &[BracketSpan], c: u8) -> bool
     ensures { result ≡ holds spans.now c }
 {
     c == b'/' || is_in_any(spans, c)
 }
 
 /// Whether `c` is in the span.
-fn is_within(c: u8, span: Span) -> bool
+fn is_within(c: u8, span: BracketSpan) -> bool
     ensures { result ≡ is_within c span }
 {
     match span {
-        Span::Between(first, last) => first <= c && c <= last,
-        Span::OfClass(class) => class.has(c),
+        BracketSpan::Between(first, last) => first <= c && c <= last,
+        BracketSpan::OfClass(class) => class.has(c),
     }
 }
 
 /// Whether `c` is in one of the spans.
-fn is_in_any(spans: &[Span], c: u8) -> bool
+fn is_in_any(spans: &[BracketSpan], c: u8) -> bool
     ensures { result ≡ list_any (is_within c) spans.now }
 {
     spans.iter().any(|span| is_within(c, *span))
 }
 
 /// Appends the characters of a bracket.
-fn write_held<A: Allocator>(glob: &mut Vec<u8, A>, spans: &[Span]) -> Result<(), AllocError>
+fn write_held<A: Allocator>(glob: &mut Vec<u8, A>, spans: &[BracketSpan]) -> Result<(), AllocError>
     ensures { OnOk result (glob.new.items ≡ glob.old.items ++ held spans.now) }
 {
     for place in 0..ORDER.len() {
@@ -59,7 +59,7 @@ fn write_held<A: Allocator>(glob: &mut Vec<u8, A>, spans: &[Span]) -> Result<(),
 /// Appends what a step writes, where the bracket has these spans.
 pub fn write<A: Allocator>(
     glob: &mut Vec<u8, A>,
-    spans: &[Span],
+    spans: &[BracketSpan],
     writing: Writing,
 ) -> Result<(), AllocError>
     ensures { OnOk result (glob.new.items ≡ glob.old.items ++ written spans.now writing) }

@@ -5,7 +5,7 @@ ghost use Rattle.glob_rules.specs.Readings.{reading_start, next_reading, reading
 use crate::classes::before_close;
 use crate::error::Reason;
 use crate::listing::write;
-use crate::steps::{Change, Mode, Prefix, Span, Step, Writing, step_from};
+use crate::steps::{BracketSpan, Change, Mode, Prefix, Step, Writing, step_from};
 use std::alloc::{AllocError, Allocator};
 use std::marker::Model;
 
@@ -24,7 +24,7 @@ pub enum Outcome {
 #[derive(Drop)]
 pub struct Reading<A: Allocator> {
     mode: Mode,
-    spans: Vec<Span, A>,
+    spans: Vec<BracketSpan, A>,
     glob: Vec<u8, A>,
 }
 
@@ -64,7 +64,7 @@ impl<A: Allocator + Copy> Reading<A> {
         let front: &[u8] = if path { &[] } else { &[b'*', b'*', b'/'] };
         Ok(Reading {
             mode: Mode::Units(Prefix {
-                plain: path,
+                all_literal: path,
                 opening: path,
             }),
             spans: Vec::new(alloc),
@@ -112,7 +112,7 @@ impl<A: Allocator> Reading<A> {
 }
 
 /// Applies a change to the bracket's characters.
-fn change<A: Allocator>(spans: &mut Vec<Span, A>, change: Change) -> Result<(), AllocError>
+fn change<A: Allocator>(spans: &mut Vec<BracketSpan, A>, change: Change) -> Result<(), AllocError>
     ensures { OnOk result (spans.new.items ≡ changed spans.old.items change) }
 {
     match change {

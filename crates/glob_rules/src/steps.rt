@@ -12,7 +12,7 @@ use crate::error::Reason;
 #[derive(Clone, Copy)]
 pub struct Prefix {
     /// All of it is unescaped literals.
-    pub plain: bool,
+    pub all_literal: bool,
     /// A component begins after it: it is empty, or ends in a separator.
     pub opening: bool,
 }
@@ -20,13 +20,13 @@ pub struct Prefix {
 impl Prefix {
     /// Inside a component, and not only literals.
     const INSIDE: Prefix = Prefix {
-        plain: false,
+        all_literal: false,
         opening: false,
     };
 
     /// At the start of a component, and not only literals.
     const AT_START: Prefix = Prefix {
-        plain: false,
+        all_literal: false,
         opening: true,
     };
 
@@ -50,7 +50,7 @@ pub enum Mode {
     Escape,
     /// A star, and the prefix before it.
     Star(Prefix),
-    /// Two or more stars, and the prefix before them, which is `plain` or `opening`.
+    /// Two or more stars, and the prefix before them, which is `all_literal` or `opening`.
     Stars(Prefix),
     /// Two or more such stars and a backslash.
     EscapedStars,
@@ -76,7 +76,7 @@ pub enum Mode {
 
 /// Some characters of a bracket.
 #[derive(Clone, Copy)]
-pub enum Span {
+pub enum BracketSpan {
     /// From the first to the last, both included. Empty if the last is below the first.
     Between(u8, u8),
     /// The characters of a class.
@@ -91,7 +91,7 @@ pub enum Change {
     /// Removes them: a bracket begins.
     Clear,
     /// Adds these.
-    Add(Span),
+    Add(BracketSpan),
 }
 
 /// What a byte appends to the pattern.
@@ -146,7 +146,7 @@ fn adds(mode: Mode, first: u8, last: u8) -> Step
 {
     Step {
         mode,
-        change: Change::Add(Span::Between(first, last)),
+        change: Change::Add(BracketSpan::Between(first, last)),
         writing: Writing::Nothing,
     }
 }
@@ -203,7 +203,7 @@ fn after_star(prefix: Prefix, c: u8) -> Step
 {
     if c != b'*' {
         after_units(Prefix::INSIDE, c)
-    } else if prefix.plain || prefix.opening {
+    } else if prefix.all_literal || prefix.opening {
         moves(Mode::Stars(prefix))
     } else {
         moves(Mode::Star(Prefix::INSIDE))
@@ -278,7 +278,7 @@ fn as_class(class: Option<Class>) -> Step
         None => refuses(Reason::UnknownClass),
         Some(class) => Step {
             mode: Mode::InClass,
-            change: Change::Add(Span::OfClass(class)),
+            change: Change::Add(BracketSpan::OfClass(class)),
             writing: Writing::Nothing,
         },
     }
@@ -330,7 +330,7 @@ fn after_hyphen(item: u8, c: u8) -> Step
     } else if c == b']' {
         Step {
             mode: Mode::Units(Prefix::INSIDE),
-            change: Change::Add(Span::Between(b'-', b'-')),
+            change: Change::Add(BracketSpan::Between(b'-', b'-')),
             writing: Writing::Held,
         }
     } else {

@@ -1,7 +1,12 @@
 pub mod BeginningLemmas
 pub mod EngineLemmas
-pub mod HearingLemmas
+pub mod KeptLemmas
+pub mod PieceLemmas
+pub mod ActiveLemmas
+pub mod AskingLemmas
+pub mod DecidingLemmas
 pub mod NodeLemmas
 pub mod OrderLemmas
+pub mod ReadLemmas
 pub mod TakesLemmas
 pub mod WholeMatches

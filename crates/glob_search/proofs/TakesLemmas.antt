@@ -1,4 +1,4 @@
--- What components take once they are ended is what they take level by level.
+-- Components whose last `**` is written as `**` and `*` take the names that the components take level by level.
 use Rattle.std.proofs.Common.{◌≡◌, Bool, true, false, cond, ◌&&◌, ◌||◌, List, [], ◌∷◌, refl, ap, ap₂, sym, ◌∙◌}
 use mathlib.Core.Bool.{or-false, and-true, and-false}
 use Rattle.std.specs.Prelude.{⊤}
@@ -63,7 +63,7 @@ before o t es u us r same (n ∷ ns) (here, rest) =
     takes-recursive o t es n ns r
     ∙ ap₂ (λ x y. x || (is_open o n && y)) (same (n ∷ ns) (here, rest)) (before o t es u us r same ns rest)
 
--- another component
+-- any other component
 one : (o : MatchOptions) (t : Text) (es ts : List Text) → is_recursive t ≡ false → Agree o es ts
     → (names : Key) → AreStarred o names → takes o (t ∷ es) names ≡ name_before (matches o t) (takes_names o (matches o) ts) names
 one o t es ts r same [] starred = ap (λ x. x && takes o es []) r
@@ -101,8 +101,8 @@ twice o u (v ∷ vs) r names =
         ap (λ x. run_before o follows (n ∷ ns) || (is_open o n && x)) (run follows ns)
         ∙ again (follows (n ∷ ns)) (is_open o n && run_before o follows ns)
 
--- Once ended, components take names exactly as they do level by level, if `*` matches each name that `**` may take, and
--- no other.
+-- Components whose last `**` is written as `**` and `*` take exactly the names that the components take level by level,
+-- if `*` matches exactly the names that `**` may take.
 pub ended_takes : (o : MatchOptions) (ts : List Text) (names : Key) → AreStarred o names → takes o (ended ts) names ≡
     takes_names o (matches o) ts names
 ended_takes o [] names starred = nothing o names starred

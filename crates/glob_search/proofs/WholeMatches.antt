@@ -1,4 +1,4 @@
--- A pattern takes names by its components exactly where it matches their text as a whole.
+-- A pattern takes names by its components exactly if it matches their text as a whole.
 use Rattle.std.proofs.Common.{◌≡◌, ℕ, ◌<◌, ⊎_elim, Bool, true, false, cond, not, ◌&&◌, ◌||◌, ◌==◌, List, [], ◌∷◌}
 use Rattle.std.proofs.Common.{length, map, refl, sym, ap, ap₂, subst, ◌∙◌, arith}
 use Rattle.std.specs.Prelude.{codes, Result, Ok, Err}
@@ -85,7 +85,7 @@ flat-from (n ∷ ns) h =
     and_from (has_no_slash (chars n)) (list_all has_no_slash (map chars ns))
     (no_slash-chars n (IsUtf8-from_is_utf8 n here.0) ∙ here.1) (flat-from ns both.1)
 
--- `*` matches each of them exactly if `**` may take it
+-- `*` matches each such name exactly if `**` may take it
 starred : (o : MatchOptions) (ns : Key) → are_flat ns ≡ true → AreStarred o ns
 starred o [] h = tt
 starred o (n ∷ ns) h =
@@ -111,8 +111,8 @@ are_components (t ∷ ts) utf8 flat levels =
       are_components ts utf8.1 flats.1 (All-tail IsLevel t ts levels),
     )
 
--- A pattern of accepted components, none of them empty, takes names, at least one, exactly where it matches the text of
--- the names under the separator rule.
+-- A pattern of accepted, nonempty components takes one or more names exactly if it matches the text of the names under
+-- the separator rule.
 pub takes_whole : (o : MatchOptions) (p : Text) → IsUtf8 p → All IsLevel (pieces p) → (n : Text) (ns : Key) → are_flat (n ∷ ns) ≡ true
     → takes o (ended (pieces p)) (n ∷ ns) ≡ is_match (with_separator_rule o) (chars p) (chars (join_with_byte slash (n ∷ ns)))
 takes_whole o p utf8 levels n ns names =
@@ -139,7 +139,7 @@ are_flat-from_names (n ∷ ns) h =
     and_from (is_utf8 n && has_no_slash n) (are_flat ns)
     (and_from (is_utf8 n) (has_no_slash n) here.0 (IsName-from_proper n here.1).plain) (are_flat-from_names ns both.1)
 
--- accepted components, of which none is empty or passes another test
+-- accepted components that are not empty and fail another test
 pub levels-from : (other : Text → Bool) (ts : List Text) → All (λ t. IsAccepted (chars t)) ts → list_any
     (λ t. is_empty t || other t) ts ≡ false → All IsLevel ts
 levels-from other [] accepted none = All-nil IsLevel
@@ -271,7 +271,7 @@ is_taken-matches a texts n ns names h = each a.patterns texts h
         (or_cases (takes a.options (ended (pieces p)) (n ∷ ns)) (list_any (λ ts. takes a.options ts (n ∷ ns))
         (map (λ q. ended (pieces q)) ps)) h)
 
--- What each premise of `takes_whole` is for: an example at which its two sides differ without it.
+-- What each premise of `takes_whole` is for: an example in which its two sides differ without the premise.
 unfoldable computed : Unit {0}
 unfolding chars is_utf8 encode units_from is_match tokens_match
 computed = tt

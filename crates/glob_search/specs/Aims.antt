@@ -10,6 +10,7 @@ use Rattle.glob_rules.specs.declared.error.RuleRefusal.{RuleRefusal}
 use Rattle.glob_tree.specs.Content.{Content, Key, is_dir, is_dir_at, kind_at}
 use Rattle.glob_tree.specs.Paths.{child}
 use Rattle.glob_search.specs.Searching.{Aim}
+use Rattle.glob_search.specs.declared.outer.OuterRules.{OuterRules}
 use Rattle.glob_search.specs.declared.settings.Settings.{Settings}
 use Rattle.glob_search.specs.declared.settings.Wanted.{Wanted}
 use Rattle.glob_search.specs.declared.settings.Wanted.TheVariants.{All, Directories, Others}
@@ -29,7 +30,7 @@ wants All d = true
 wants Directories d = d
 wants Others d = not d
 
--- the rules of those of these files that a directory has
+-- the rules of these files that exist in a directory
 abbrev pub rules_from : (known : Text → Option Text) → (files : List Text) → (directory : Key) → List Ignores
 rules_from known files directory =
     filter_map (λ file. option_map rules_of (known (path_of (directory ++ file ∷ [])))) files
@@ -37,6 +38,10 @@ rules_from known files directory =
 -- the names of ignore files
 abbrev pub files_of : {A : Type 0} → Settings A → List Text
 files_of settings = map (λ file. string_bytes file) settings.rule_files.items
+
+-- each list, with the path of the start from its directory on
+abbrev pub outer_of : {A : Type 0} → List (OuterRules A) → List (Text × Ignores)
+outer_of lists = map (λ l. (string_bytes l.prefix, l.list)) lists
 
 -- what a search with these patterns and settings is asked for, if the texts of files are known
 abbrev pub aim_of : {A : Type 0} → (patterns : List Text) → Settings A → (known : Text → Option Text) → Aim
@@ -47,11 +52,11 @@ aim_of patterns settings known = record {
   is_wanted = λ kind. wants settings.wanted (is_dir kind);
   first = settings.first.items;
   rules_in = rules_from known (files_of settings);
-  last = settings.last.items;
+  last = outer_of settings.last.items;
 }
 
--- The texts fit the content and the rules: the rules of a directory are those of its files with a text, in order, and
--- each file with a text is an entry of its directory.
+-- The texts fit the content and the rules: the rules of a directory are the rules of its files with a text, in order,
+-- and each file with a text is an entry of its directory.
 pub record AreTextsOf (c : Content) (a : Aim) (files : List Text) (known : Text → Option Text) : Type 0 where
   pub rules : (directory : Key) → a.rules_in directory ≡ rules_from known files directory
   pub held : (directory : Key) (file : Text) → IsTrue (is_dir_at c (c.current ++ directory)) → Contains files file

@@ -37,13 +37,13 @@ ReportsTheUnread =
     → Contains (gifts c a) (Unread names kind)
     ↔ (Contains (unread c a) names × (kind_at c (c.current ++ names) ≡ Some (Shut kind)))
 
--- name by name in the order of bytes, a list of names before one that extends it
+-- name by name in byte order; a list of names is before one that extends it
 abbrev pub key_cmp : Key → Key → Ordering
 key_cmp names others = slice_cmp (slice_cmp nat_cmp) names others
 
-abbrev pub names_of : Gift → Key
-names_of (Found names) = names
-names_of (Unread names kind) = names
+abbrev pub gift_names : Gift → Key
+gift_names (Found names) = names
+gift_names (Unread names kind) = names
 
 -- the path of a directory comes before the error of listing it
 abbrev pub turn : Gift → ℕ
@@ -52,7 +52,7 @@ turn (Unread names kind) = 1
 
 -- in the order of names; for the same names, the path first
 abbrev pub gift_cmp : Gift → Gift → Ordering
-gift_cmp g h = ordering_then (key_cmp (names_of g) (names_of h)) (nat_cmp (turn g) (turn h))
+gift_cmp g h = ordering_then (key_cmp (gift_names g) (gift_names h)) (nat_cmp (turn g) (turn h))
 
 -- Each gift comes before those that follow it, so each comes once.
 abbrev pub GiftsAscend : Type 0
@@ -64,7 +64,7 @@ abbrev pub found_names : Gift → Option Key
 found_names (Found names) = Some names
 found_names (Unread names kind) = None
 
--- So the names that are found ascend.
+-- So the names that are found are ascending.
 abbrev pub FoundAscend : Type 0
 FoundAscend =
     (c : Content) (a : Aim) → IsTrue (is_content c)
@@ -84,7 +84,8 @@ OneFileDecides =
     → (n : Text) (ns : Key) (d : Bool) → IsTrue (list_all is_proper (n ∷ ns))
     → is_kept a [] (n ∷ ns) d ≡ not (is_ignored list (join_with_byte slash (n ∷ ns)) d)
 
--- If a directory is not listed, an entry gives nothing unless a component by which something alive goes on matches it.
+-- If a directory is not listed, an entry gives nothing, unless it is matched by a component with which something alive
+-- goes on.
 abbrev pub OnlyNamedGive : Type 0
 OnlyNamedGive =
     (c : Content) (a : Aim) (names : Key) (n : Text) (enter : Key → List Gift) (d : Bool)

@@ -1,4 +1,5 @@
 pub mod Aims
+pub mod Asking
 pub mod Laws
 pub mod Private
 pub mod Refusals

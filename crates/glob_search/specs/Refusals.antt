@@ -21,7 +21,8 @@ AreSearchable patterns =
 abbrev pub HasFault : (texts : List Text) → PatternError → Type 0
 HasFault texts e = (number : ℕ) × RefusesTexts texts (Syntax number e)
 
--- What a refusal of patterns reports: the number of the first with a fault, and that fault, or a failed allocation.
+-- What a refusal of patterns reports: the number of the first pattern with a fault, and the fault, or a failed
+-- allocation.
 abbrev pub RefusesPatterns : (patterns : List Text) → SetRefusal → Type 0
 RefusesPatterns patterns (Syntax number e) =
     (number < length patterns)

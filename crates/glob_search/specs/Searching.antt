@@ -15,11 +15,13 @@ use Rattle.glob_pattern.specs.declared.options.MatchOptions.{MatchOptions}
 use Rattle.glob_rules.specs.Deciding.{naming_rule}
 use Rattle.glob_rules.specs.Lists.{Ignores}
 use Rattle.glob_tree.specs.Content.{Content, Key, is_dir, kind_at, names_past}
+use Rattle.glob_tree.specs.Paths.{join}
 use Rattle.glob_tree.specs.declared.kind.Kind.{Kind}
 use Rattle.glob_tree.specs.declared.kind.Kind.TheVariants.{Shut}
 
--- What a search is asked for. Paths have at most `depth` names. The rules of `first` take precedence over those of the
--- files in directories, and those over the rules of `last`.
+-- What a search is asked for. Paths have at most `depth` names. The rules of `first` override the rules of files in
+-- directories, which override the rules of `last`. The lists in `last` belong to the start and the directories above
+-- it; each comes with the path of the start from its directory on, which is empty for the start's own.
 pub record Aim : Type 0 where
   pub options : MatchOptions
   pub patterns : List Text
@@ -27,18 +29,22 @@ pub record Aim : Type 0 where
   pub is_wanted : Kind → Bool
   pub first : List Ignores
   pub rules_in : (directory : Key) → List Ignores
-  pub last : List Ignores
+  pub last : List (Text × Ignores)
 
 -- Whether the last rule of a list that names the path ignores it, if there is one. The directories above the path are
 -- asked about when the search enters them.
 abbrev pub said : Ignores → (path : Text) → (is_directory : Bool) → Option Bool
 said list path d = option_map (λ rule. not rule.negative) (naming_rule list path d)
 
--- the same for the last of some lists that has such a rule
+-- the same for the last list with such a rule
 abbrev pub last_said : List Ignores → (path : Text) → (is_directory : Bool) → Option Bool
 last_said lists path d = fold (λ before list. option_or (said list path d) before) None lists
 
--- the same for the files of a directory and of those below it on the way to the path, the deepest first
+-- the same for a path below the start, with lists that each come with the path of the start from their directory on
+abbrev pub outer_said : List (Text × Ignores) → (path : Text) → (is_directory : Bool) → Option Bool
+outer_said lists path d = fold (λ before l. option_or (said l.1 (join l.0 path) d) before) None lists
+
+-- the same for the files of a directory and of the directories below it on the way to the path, the deepest first
 abbrev pub files_said : Aim → (directory names : Key) → (is_directory : Bool) → Option Bool
 files_said a directory [] d = None
 files_said a directory (n ∷ ns) d =
@@ -49,9 +55,17 @@ files_said a directory (n ∷ ns) d =
 abbrev pub is_ignored : Aim → (names : Key) → (is_directory : Bool) → Bool
 is_ignored a names d =
     unwrap_or (option_or (last_said a.first (join_with_byte slash names) d)
-    (option_or (files_said a [] names d) (last_said a.last (join_with_byte slash names) d))) false
+    (option_or (files_said a [] names d) (outer_said a.last (join_with_byte slash names) d))) false
 
--- The components take the names: `**` any number of them, and another component one that it matches.
+-- the lists ignore the directory with this name in the start
+abbrev pub ignores_directory : List (Text × Ignores) → (name : Text) → Bool
+ignores_directory lists name = unwrap_or (outer_said lists name true) false
+
+-- these lists, as seen from a directory in the start: its path from each list's directory on is longer by its name
+abbrev pub entered : (name : Text) → List (Text × Ignores) → List (Text × Ignores)
+entered name lists = map (λ l. (join l.0 name, l.1)) lists
+
+-- The components take the names: `**` takes any number of names, and any other component one name that it matches.
 abbrev pub takes : MatchOptions → (components names : List Text) → Bool
 takes o [] [] = true
 takes o [] (n ∷ ns) = false
@@ -74,12 +88,12 @@ components a = map (λ p. ended (pieces p)) a.patterns
 abbrev pub is_taken : Aim → (names : Key) → Bool
 is_taken a names = list_any (λ ts. takes a.options ts names) (components a)
 
--- each beginning of some components that does not end them, with the component that comes next
+-- each proper beginning of some components, with the component that comes next
 abbrev pub beginnings_from : (front components : List Text) → List (List Text × Text)
 beginnings_from front [] = []
 beginnings_from front (t ∷ ts) = (front, t) ∷ beginnings_from (front ++ t ∷ []) ts
 
--- those of all patterns whose components take the names: they are alive in the directory with these names
+-- the beginnings of all patterns whose components take the names: they are alive in the directory with these names
 abbrev pub alive : Aim → (names : Key) → List (List Text × Text)
 alive a names =
     filter (λ b. takes a.options b.0 names) (flat_map (beginnings_from []) (components a))
@@ -114,13 +128,13 @@ abbrev pub is_nil : (names : Key) → Bool
 is_nil [] = true
 is_nil (n ∷ ns) = false
 
--- no directory on the way from one down the names is closed
+-- no directory on the way down these names is closed
 abbrev pub is_visible : Content → Aim → (directory names : Key) → Bool
 is_visible c a directory [] = true
 is_visible c a directory (n ∷ ns) =
     not (is_closed c a directory) && is_visible c a (directory ++ n ∷ []) ns
 
--- nothing on that way is ignored
+-- nothing on the way down these names is ignored
 abbrev pub is_kept : Aim → (directory names : Key) → (is_directory : Bool) → Bool
 is_kept a directory [] d = true
 is_kept a directory (n ∷ ns) d =
@@ -145,7 +159,7 @@ below c = filter_map (λ e. option_map (λ names. (names, e.1)) (names_past c.cu
 unfoldable pub found : Content → Aim → List Key
 found c a = map (λ e. e.0) (filter (λ e. is_found c a e.1 e.0) (below c))
 
--- the search gets to the directory of these names, and cannot list it although something might be found there
+-- the search gets to the directory with these names, and cannot list it although something might be found there
 abbrev pub is_unread : Content → Aim → (names : Key) → Bool
 is_unread c a names =
     is_closed c a names && nat_lt (length names) a.depth && is_reached c a names true

@@ -16,9 +16,9 @@ use Rattle.glob_search.specs.declared.fault.SearchFault.{SearchFault}
 use Rattle.glob_search.specs.declared.fault.SearchFault.TheVariants as fault
 use Rattle.glob_search.specs.declared.found.Found.{Found as FoundPath}
 
--- How far a search has come is its own affair, of a type of its own. What a caller knows of it is what is left of the
--- gifts over a content, and whether the answers so far agree with that content and the known texts of files. Over any
--- tree, each path that is still to be found comes after the names that the search is past.
+-- How far a search has come is private, and has a type of its own. A caller knows what is left of the gifts over a
+-- content, and whether the answers so far agree with this content and the known texts of files. Over any tree, each
+-- path that is still to be found comes after the names that the search has passed.
 pub record Progress : Type 1 where
   pub State : Type 0
   pub left : Content → Aim → State → List Gift
@@ -30,13 +30,13 @@ pub record SearchState (P : Progress) : Type 0 where
   pub limit : ℕ
   -- the units of work that were charged
   pub spent : ℕ
-  -- the most names that a found path has
+  -- how many names a found path may have
   pub depth : ℕ
   -- the directories on the way down to where the search is
   pub levels : ℕ
   -- the names of the ignore files
   pub files : List Text
-  -- at most so many paths and faults are still to come
+  -- at most this many paths and faults are still to come
   pub remaining : ℕ
   -- how far it has come
   pub state : P.State
@@ -55,7 +55,7 @@ pub record HasGiven {P : Progress} (all : List Gift) (c : Content) (a : Aim) (kn
   pub agrees : P.Agrees c a known s.state
   pub upto : all ≡ given ++ P.left c a s.state
 
--- The path is that of the next gift, with the kind in the content, if the search knows it.
+-- The path of the next gift, with the kind in the content, if the search knows the kind.
 pub record GivesFound {A : Type 0} {P : Progress} (all : List Gift) (c : Content) (a : Aim) (known : Text → Option Text)
     (given : List Gift) (found : FoundPath A) (s : SearchState P) : Type 0 where
   pub names : Key
@@ -94,7 +94,7 @@ GivesNext all c a known given (Some (Err fault.Memory)) s = ⊤
 abbrev pub IsPast : {P : Progress} → (past : Key) → SearchState P → Type 0
 IsPast {P} past s = P.IsPast past s.state
 
--- The names of the found path come later than these, and the search is now past them.
+-- The names of the found path come later than these, and the search has now passed them.
 pub record FindsAfter {A : Type 0} {P : Progress} (past : Key) (found : FoundPath A) (s : SearchState P)
     : Type 0 where
   pub names : Key
@@ -109,14 +109,14 @@ GoesAfter past None s = IsPast past s
 GoesAfter past (Some (Ok found)) s = FindsAfter past found s
 GoesAfter past (Some (Err f)) s = IsPast past s
 
--- The path is that of a file in some directory, with one of these names.
+-- The path of a file in some directory, with one of these names.
 pub record IsRuleFile (files : List Text) (path : Text) : Type 0 where
   pub directory : Text
   pub file : Text
   pub named : Contains files file
   pub at : path ≡ child directory file
 
--- A fault of a file with rules is that of one with these names, so that there is none where no names are given.
+-- A fault of an ignore file is about a file with one of these names, so there is none if no names are given.
 abbrev pub FitsFiles : {A : Type 0} → (files : List Text) → SearchFault A → Type 0
 FitsFiles files (fault.Unread path e) = ⊤
 FitsFiles files (fault.UnreadRules path e) = IsRuleFile files (string_bytes path)

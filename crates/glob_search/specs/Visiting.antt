@@ -33,7 +33,7 @@ meet c a enter names d =
     else found_at c a names (kind_at c (c.current ++ names))
     ++ (if d && nat_lt (length names) a.depth && goes_on a names then enter names else [])
 
--- what the directory of these names gives, at most so many levels down
+-- what the directory with these names gives, at most this many levels down
 unfoldable pub visit : Content → Aim → (levels : ℕ) → (names : Key) → List Gift
 visit c a zero names = []
 visit c a (suc n) names =

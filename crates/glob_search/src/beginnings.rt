@@ -1,8 +1,8 @@
 //! The beginnings of patterns, as a tree: what a search still has to match below a directory.
 //!
-//! A beginning is the first components of some patterns. It is a node of the tree, and leads to others, each of one
-//! component more. In a directory those beginnings are alive that take the names of its path: in `src` these are `src`
-//! and `src/**`, in `src/a` only `src/**`. Nothing else of the patterns matters there.
+//! A beginning is the first components of some patterns. It is a node of the tree, and leads to beginnings with one
+//! more component. In a directory, a beginning is alive if it takes the names of the directory's path: in `src` these
+//! are `src` and `src/**`, in `src/a` only `src/**`. Nothing else of the patterns matters there.
 ghost use Rattle.std.specs.Prelude.{◌≡◌, ◌<◌, vec_len, IfErr, IfOk, false, not, map, [], ◌∷◌, ◌++◌};
 ghost use Rattle.std.specs.Cmp.Lexicographic.{slice_cmp};
 ghost use Rattle.std.specs.List.{All, AllPairs, list_any};
@@ -41,8 +41,8 @@ impl<A: Allocator + Copy> Beginnings<A> {
     ghost use Rattle.glob_search.specs.Private.Nodes.{Adds, AreAlive, AreAscending, AreBeginnings, AreNames, Enlivens, IsTree, is_looked_up, node_goes_on, node_says, LiteralStep, literal_texts, Stays, Steps, StepsFrom, WildStep};
     ghost use Rattle.glob_search.specs.Searching.{Aim, alive as alive_in, goes_on as goes_on_in, is_listed, is_taken};
 
-    /// The beginnings of some patterns. The error is the fault of the first pattern with one: that of its whole text
-    /// or, if that has none, of its first component with one.
+    /// The beginnings of some patterns. The error is the fault of the first faulty pattern: the fault of its whole text
+    /// or, if that has none, of its first faulty component.
     pub fn of(alloc: A, patterns: &[&str], options: MatchOptions) -> Result<Self, SetRefusal>
         ensures beginnings { IfOk result (AreBeginnings options (map (λ p. p.now) patterns.now)) }
         ensures accepted { IfOk result (λ _. AreSearchable (map (λ p. p.now) patterns.now)) }
@@ -85,7 +85,7 @@ impl<A: Allocator + Copy> Beginnings<A> {
         self.after_key(alive, name, key.as_str())
     }
 
-    /// The same, given also the text by which the name is compared with literals.
+    /// The same, also given the text by which the name is compared with literals.
     fn after_key(&self, alive: &[usize], name: &str, key: &str) -> Result<Vec<usize, A>, AllocError>
         ensures { (front : ℕ → List Text) → IsTree self.now.options self.now.nodes.items front
             → IfOk result (λ next. Adds (StepsFrom self.now.nodes.items self.now.options
@@ -155,7 +155,7 @@ impl<A: Allocator + Copy> Beginnings<A> {
         Ok(())
     }
 
-    /// Adds what the components with wildcards lead to that match the name.
+    /// Adds the beginnings that matching components with wildcards lead to.
     fn step_wild(
         &self,
         node: &Node<A>,
@@ -171,7 +171,7 @@ impl<A: Allocator + Copy> Beginnings<A> {
         }
     }
 
-    /// The same, asking one component after another.
+    /// The same, asking the components one by one.
     fn step_each(
         &self,
         node: &Node<A>,
@@ -189,7 +189,7 @@ impl<A: Allocator + Copy> Beginnings<A> {
         Ok(())
     }
 
-    /// The same, given the components with wildcards also as a set, which is asked once.
+    /// The same, with the components as a set, which is asked once.
     fn step_set(
         &self,
         set: &PatternSet<A>,
@@ -212,7 +212,7 @@ impl<A: Allocator + Copy> Beginnings<A> {
         Ok(())
     }
 
-    /// Adds a beginning, and the one that a `**` leads to from there, which may take no name.
+    /// Adds a beginning, and the beginning that `**` leads to from there, since `**` may take no name.
     fn enliven(&self, number: usize, alive: &mut Vec<usize, A>) -> Result<(), AllocError>
         ensures { IfOk result (λ _. Adds (Enlivens self.now.nodes.items number)
             alive.old.items alive.new.items) }
@@ -312,14 +312,14 @@ impl<A: Allocator + Copy> Beginnings<A> {
         node.is_literal() && (self.options.case_sensitive || node.literals.is_empty())
     }
 
-    /// Whether a directory may have to be entered whose name is no literal of these beginnings.
+    /// Whether a directory may have to be entered whose name is not a literal of these beginnings.
     pub fn enters_many(&self, alive: &[usize]) -> bool {
         alive.iter().any(
             |number| matches!(self.nodes.get(*number), Some(node) if self.leads_on(node)),
         )
     }
 
-    /// Whether `**` or a component with wildcards leads from a node to one that leads on.
+    /// Whether `**` or a component with wildcards leads from a node to a node that leads on.
     fn leads_on(&self, node: &Node<A>) -> bool {
         node.is_deep
             || node.wilds.iter().any(

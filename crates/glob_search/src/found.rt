@@ -8,7 +8,7 @@ use std::alloc::{Allocator, Global};
 pub struct Found<A: Allocator = Global> {
     /// The names from the start directory on, joined by `/`, such as `src/main.rs`.
     pub path: String<A>,
-    /// Whether it is a directory, if the search knows that. It always does if
-    /// [`Settings::kinds`](crate::Settings::kinds) is set.
+    /// Whether it is a directory, if the search knows. It always knows if [`Settings::kinds`](crate::Settings::kinds)
+    /// is set.
     pub is_dir: Option<bool>,
 }

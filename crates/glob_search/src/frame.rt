@@ -34,14 +34,14 @@ pub struct Frame<A: Allocator> {
     pub source: Source,
     /// The entries that are still to be visited, each name once, in descending order: the last is visited first.
     pub entries: Vec<Entry<A>, A>,
-    /// How many of the names of ignore files are dealt with: read, or known to be missing.
+    /// How many names of ignore files are done: the file was read, or is known to be missing.
     pub files: usize,
-    /// How many of the lists in `Heard::files` come from above it.
-    pub heard: usize,
+    /// How many of the lists in `ActiveRules::files` come from above it.
+    pub active: usize,
 }
 
 impl<A: Allocator> Frame<A> {
-    /// The index of the next of these names that may exist in it. A later call goes on after it.
+    /// The index of the next name of an ignore file that may exist in it. A later call goes on after it.
     pub fn next_file(&mut self, names: &[String<A>]) -> Option<usize>
         ensures entries { self.new.entries ≡ self.old.entries }
         ensures passes { NextFile (map (λ name. string_bytes name) names.now)
@@ -67,7 +67,7 @@ impl<A: Allocator> Frame<A> {
         }
     }
 
-    /// Whether the name may exist in it. If its names are known, whether it is one of them.
+    /// Whether the name may exist in it; if its names are known, whether the name is one of them.
     fn may_have(&self, name: &str) -> bool
         ensures { result ≡ false → IsAbsent self.now name.now }
     {

@@ -1,21 +1,21 @@
-//! Laws of what a search finds: each is the contract of a function that does nothing. No program needs them.
+//! Laws about what a search finds: each is the contract of a function that does nothing. No program needs them.
 ghost use Rattle.glob_search.specs.Laws.{FindsTheFound, FoundAscend, GiftsAscend, OneFileDecides, OnlyNamedGive, PathsJoinNames, ReportsTheUnread, TakesWholeMatches};
 
-/// Going down the tree finds exactly the keys that are to be found, whatever the patterns, rules and options are: over
-/// `a/x` and `b/x`, `a/*` finds `a/x` though `b` is never entered.
+/// Going down the tree finds exactly the keys that are to be found, whatever the patterns, rules and options: over
+/// `a/x` and `b/x`, `a/*` finds `a/x` although `b` is never entered.
 pub fn search_finds_what_is_to_be_found()
     ensures { FindsTheFound }
 {}
 
-/// It reports exactly the directories that cannot be listed and in which something might still have been found, each
-/// with the reason: where `a` and `b` cannot be listed, `a/*` reports `a`.
+/// It reports exactly the directories that cannot be listed and in which something might have been found, each with the
+/// reason: if `a` and `b` cannot be listed, `a/*` reports `a`.
 pub fn search_reports_what_it_cannot_list()
     ensures { ReportsTheUnread }
 {}
 
 /// What a search gives is in ascending order of names, each name compared by its bytes, so nothing comes twice: `a`,
-/// then `a/b`, then `a.c`. The error of a directory comes after its own path and before all that is in the directories
-/// after it.
+/// then `a/b`, then `a.c`. The error of a directory comes after the directory's own path and before everything in later
+/// directories.
 pub fn search_goes_in_order()
     ensures all { GiftsAscend }
     ensures found { FoundAscend }
@@ -33,7 +33,7 @@ pub fn only_named_entries_give()
     ensures { OnlyNamedGive }
 {}
 
-/// Going down by proper names leads to the path that joins them: `a`, and `b` in it, to `a/b`.
+/// Going down by proper names leads to the path that joins them: `a` and then `b` lead to `a/b`.
 pub fn paths_join_names()
     ensures { PathsJoinNames }
 {}

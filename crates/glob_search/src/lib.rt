@@ -1,28 +1,38 @@
 //! Searches: the paths below a directory that at least one of many patterns matches, each once and in order, without
 //! those that ignore files exclude.
 //!
-//! A [`Search`] for `src/*.c` and `lib/**/*.h` lists `src`, `lib` and the directories below `lib`, and no other.
+//! A [`Search`] for `src/*.c` and `lib/**/*.h` lists only `src`, `lib` and the directories below `lib`.
 //!
 //! Over a known content, the calls of [`Search::next`] return exactly what `specs/Visiting.antt` lists, one after
 //! another, and then `None`: each path that a filter of all keys takes (`specs/Searching.antt`), once and in ascending
 //! order, and each directory that could not be listed. The [`laws`] tie the order to the filter. This holds until the
 //! limit is reached, or memory runs out.
 //!
-//! Over any tree, even one whose answers contradict each other, a search is safe, each call returns, paths come in
+//! Over any tree, even if its answers contradict each other, a search is safe: each call returns, paths come in
 //! strictly ascending order of names, and the units charged never exceed the limit.
+//!
+//! `PathRules` answers for paths from elsewhere, in any order: it ignores what a search by the same rules leaves out,
+//! and names the rule that decides (`specs/Asking.antt`).
 //!
 //! A refused line of an ignore file is reported, and makes no rule. A pattern with an empty component, `.` or `..`
 //! finds nothing.
 #![tactic(auto)]
 
+mod active;
 mod beginnings;
+mod deciding;
+mod directories;
+mod directory;
 mod entries;
 mod fault;
 mod found;
 mod frame;
-mod heard;
+mod held;
 pub mod laws;
 mod meter;
+mod outer;
+mod path_rules;
+mod rule_faults;
 mod rule_texts;
 mod search;
 mod searcher;
@@ -31,8 +41,11 @@ mod settings;
 mod tests;
 mod way;
 
+pub use deciding::{DecidingRule, RuleList};
 pub use fault::SearchFault;
 pub use found::Found;
+pub use outer::{OuterRules, entered, ignores_directory};
+pub use path_rules::PathRules;
 pub use rule_texts::{NoRuleTexts, RuleTexts};
 pub use search::Search;
 pub use settings::{Settings, Wanted};

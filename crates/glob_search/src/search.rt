@@ -45,8 +45,8 @@ impl<A: Allocator> Model for Search<A> {
 impl<A: Allocator + Copy> Search<A> {
     /// A search that has not begun: it has asked nothing and given nothing.
     ///
-    /// A pattern is read as a whole, and then each of its components, so that `a/[/]` is refused for its `[`. The error is
-    /// the number of the first pattern with a fault, counted from 0, and its first fault, or a failed allocation.
+    /// A pattern is read as a whole, and then each of its components, so that `a/[/]` is refused for its `[`. The error
+    /// is the number of the first pattern with a fault, counted from 0, and its first fault, or a failed allocation.
     pub fn new(alloc: A, patterns: &[&str], settings: Settings<A>) -> Result<Self, SetRefusal>
         ensures begun { IfOk result (IsBegun settings.limit settings.depth (files_of settings)) }
         ensures fresh { IfOk result (λ search. (c : Content) (known : Text → Option Text)
@@ -62,14 +62,14 @@ impl<A: Allocator + Copy> Search<A> {
         Ok(Search { searcher })
     }
 
-    /// The next path that is found, or what could not be done. `None` if nothing is left, and from then on.
+    /// The next path that is found, or what could not be done; `None` once nothing is left.
     ///
-    /// Where the content of the tree and the texts of the files with rules are known, the paths and the directories that
-    /// cannot be listed are exactly those that the search has to give, one after another, and `None` comes after the last.
-    /// Where lines of a file with rules are refused, the search goes on by its other lines, and after a file that cannot
-    /// be read by other files. Both happen only where files with rules were asked for.
+    /// If the content of the tree and the texts of ignore files are known, the paths, and the directories that cannot
+    /// be listed, are exactly those that the search has to give, one after another, and then comes `None`. If an ignore
+    /// file has refused lines, the search goes on with its other lines; if a file cannot be read, with the other files.
+    /// Both happen only if ignore files were asked for.
     ///
-    /// With each path and each fault less is still to come, so that a loop of calls up to `None` ends.
+    /// Each path and each fault leaves less to come, so a loop of calls up to `None` ends.
     pub fn next<T: Tree<Alloc = A>, R: RuleTexts<Alloc = A>>(
         &mut self,
         tree: &mut T,

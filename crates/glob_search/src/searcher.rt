@@ -2,11 +2,10 @@
 //!
 //! A search has a frame for each directory on the way down to where it is. A turn enters a directory, reads one of its
 //! ignore files, visits one of its entries, or leaves it.
-ghost use Rattle.std.specs.Prelude.{◌≡◌, ℕ, suc, ◌+◌, ◌≤◌, ◌<◌, ◌&&◌, ◌++◌, ◌∷◌, [], List, Option, None, Some, Bool, true, false, IsTrue, OnOk, IfOk, IfErr, IfSome, MatchOption, map, option_map, unwrap_or, string_bytes, length, ⊤};
+ghost use Rattle.std.specs.Prelude.{◌≡◌, ℕ, suc, ◌+◌, ◌≤◌, ◌<◌, ◌&&◌, ◌++◌, ◌∷◌, [], List, Option, None, Some, Bool, true, false, IsTrue, OnOk, IfOk, IfErr, IfSome, MatchOption, map, unwrap_or, string_bytes, length, ⊤};
 ghost use Rattle.std.specs.Option.{ForSome};
 ghost use Rattle.std.specs.List.{list_all};
 ghost use Rattle.glob_text.specs.Text.{Text};
-ghost use Rattle.glob_rules.specs.Lists.{refusals_of, rules_of};
 ghost use Rattle.glob_tree.specs.Answers.{IsTold};
 ghost use Rattle.glob_tree.specs.Content.{Content, Key, is_content, is_dir, kind_found};
 ghost use Rattle.glob_tree.specs.Paths.{is_proper};
@@ -14,11 +13,10 @@ ghost use Rattle.glob_tree.specs.declared.kind.Kind.{Kind};
 ghost use Rattle.glob_search.specs.Aims.{AreTextsOf, aim_of, files_of, path_of, wants};
 ghost use Rattle.glob_search.specs.Refusals.{AreSearchable, RefusesPatterns};
 ghost use Rattle.glob_search.specs.Searching.{Aim, is_ignored};
-ghost use Rattle.glob_search.specs.States.{IsRuleFile};
 ghost use Rattle.glob_search.specs.Visiting.{Gift, gifts};
 ghost use Rattle.glob_search.specs.Private.Engine.{AreAnswers, GoesOn, HasWork, IsKindless, IsReading, Turns, file_names, found_if, work_left};
 ghost use Rattle.glob_search.specs.Private.Faults.{IsOfRules, is_last};
-ghost use Rattle.glob_search.specs.Private.Hearing.{Hears};
+ghost use Rattle.glob_search.specs.Private.Active.{AreActive};
 ghost use Rattle.glob_search.specs.Private.Order.{IsPastSearch, IsPastWork, TurnsLater};
 ghost use Rattle.glob_search.specs.Private.Steps.{MayEnter};
 ghost use Rattle.glob_search.specs.Private.Ways.{search_left};
@@ -26,19 +24,18 @@ ghost use Rattle.glob_search.specs.Private.Weights.{Takes, items_left, stock, wa
 
 mod entering;
 
+use crate::active::{ActiveRules, FileRules};
 use crate::beginnings::Beginnings;
 use crate::entries::look_at;
 use crate::fault::SearchFault;
 use crate::found::Found;
 use crate::frame::Opening;
-use crate::heard::{FileRules, Heard};
 use crate::meter::Meter;
-use crate::rule_texts::RuleTexts;
+use crate::rule_texts::{RuleTexts, read_list};
 use crate::settings::{Settings, Wanted};
 use crate::way::{Way, Work};
-use glob_rules::{IgnoreList, RuleRefusal};
 use glob_set::SetRefusal;
-use glob_tree::{Entry, ListError, Tree, child};
+use glob_tree::{Entry, Tree, child};
 use std::alloc::{AllocError, Allocator};
 
 /// What a search keeps between its turns.
@@ -49,7 +46,7 @@ pub struct Searcher<A: Allocator> {
     wanted: Wanted,
     kinds: bool,
     rule_files: Vec<String<A>, A>,
-    heard: Heard<A>,
+    active: ActiveRules<A>,
     meter: Meter,
     way: Way<A>,
     alloc: A,
@@ -91,14 +88,14 @@ impl<A: Allocator + Copy> Searcher<A> {
         } else {
             None
         };
-        let heard = Heard::of_lists(alloc, first, last)?;
+        let active = ActiveRules::of_lists(alloc, first, last)?;
         Ok(Searcher {
             beginnings,
             depth,
             wanted,
             kinds,
             rule_files,
-            heard,
+            active,
             meter: Meter { limit, spent: 0 },
             way: Way {
                 entering,
@@ -199,12 +196,12 @@ impl<A: Allocator + Copy> Searcher<A> {
             Work::Enter(opening) => self.enter(tree, opening)?,
             Work::Read(number) => self.read_rules(texts, number)?,
             Work::Meet(entry) => return self.meet(tree, texts, entry),
-            Work::Leave(heard) => self.heard.files.truncate(heard),
+            Work::Leave(active) => self.active.files.truncate(active),
         }
         Ok(None)
     }
 
-    /// Visits an entry of the last directory, which may be found, and may be entered next.
+    /// Visits an entry of the last directory. It may be found, and it may be entered next.
     fn meet<T: Tree<Alloc = A>, R: RuleTexts<Alloc = A>>(
         &mut self,
         tree: &mut T,
@@ -250,7 +247,7 @@ impl<A: Allocator + Copy> Searcher<A> {
         self.take(path, alive, is_dir, is_found, goes_on)
     }
 
-    /// Whether the entry at a path is a directory. `None` if that is not known and does not matter.
+    /// Whether the entry at a path is a directory; `None` if that is unknown and does not matter.
     fn kind_at<T: Tree<Alloc = A>>(
         &mut self,
         tree: &mut T,
@@ -285,18 +282,18 @@ impl<A: Allocator + Copy> Searcher<A> {
     ) -> Result<bool, AllocError>
         ensures texts { R.texts texts.new ≡ R.texts texts.old }
         ensures out { (a : Aim) (known : Text → Option Text) (directory : Key) (n : Text)
-            → R.texts texts.old ≡ Some known → Hears a directory self.now.heard
+            → R.texts texts.old ≡ Some known → AreActive a directory self.now.active
             → IsTrue (list_all is_proper (directory ++ n ∷ []))
             → path.now ≡ path_of (directory ++ n ∷ [])
             → IfOk result (λ out. out ≡ is_ignored a (directory ++ n ∷ []) is_dir) }
     {
-        if self.heard.ignores(path, is_dir)? {
+        if self.active.ignores(self.alloc, path, is_dir)? {
             return Ok(true);
         }
         texts.leaves_out(path, is_dir)
     }
 
-    /// Enters an entry next, if it is a directory and patterns go on, and finds it, if it is wanted.
+    /// Finds an entry, if it is wanted, and enters it next, if it is a directory and patterns go on.
     fn take(
         &mut self,
         path: String<A>,
@@ -325,7 +322,7 @@ impl<A: Allocator + Copy> Searcher<A> {
     fn needs_kinds(&self) -> bool
         ensures { result ≡ false → IsKindless self.now }
     {
-        self.kinds || self.wanted != Wanted::All || self.heard.is_any()
+        self.kinds || self.wanted != Wanted::All || self.active.is_any()
     }
 
     /// Reads, in the last directory, the ignore file with the name at index `number`.
@@ -362,38 +359,10 @@ impl<A: Allocator + Copy> Searcher<A> {
         let Some((list, refusals)) = read_list(self.alloc, texts, path.as_str())? else {
             return Ok(());
         };
-        self.heard.files.push(FileRules { above, list })?;
+        self.active.files.push(FileRules { above, list })?;
         if refusals.is_empty() {
             return Ok(());
         }
         Err(SearchFault::RefusedRules(path, refusals))
     }
-}
-
-/// The rules of the file at a path, if there is one, and the refusals of its lines.
-fn read_list<A: Allocator + Copy, R: RuleTexts<Alloc = A>>(
-    alloc: A,
-    texts: &mut R,
-    path: &str,
-) -> Result<Option<(IgnoreList<A>, Vec<RuleRefusal, A>)>, SearchFault<A>>
-    ensures texts { R.texts texts.new ≡ R.texts texts.old }
-    ensures list { (known : Text → Option Text) → R.texts texts.old ≡ Some known
-        → IfOk result (λ read. option_map (λ r. r.0) read ≡ option_map rules_of (known path.now)) }
-    ensures refusals { (known : Text → Option Text) → R.texts texts.old ≡ Some known
-        → IfOk result
-        (λ read. option_map (λ r. r.1.items) read ≡ option_map refusals_of (known path.now)) }
-    ensures last { (known : Text → Option Text) → R.texts texts.old ≡ Some known
-        → IfErr result (λ fault. is_last fault ≡ true) }
-    ensures fails { (files : List Text) → IsRuleFile files path.now
-        → IfErr result (IsOfRules files) }
-{
-    let text = match texts.text(path) {
-        Ok(Some(text)) => text,
-        Ok(None) => return Ok(None),
-        Err(ListError::Read(error)) => {
-            return Err(SearchFault::UnreadRules(String::from_str(alloc, path)?, error));
-        }
-        Err(ListError::Memory) => return Err(SearchFault::Memory),
-    };
-    Ok(Some(IgnoreList::lenient(alloc, text.as_str())?))
 }

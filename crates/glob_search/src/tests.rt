@@ -1,9 +1,10 @@
 //! Replays rows over a tree in memory, and counts what is asked of it.
 ghost use Rattle.std.specs.Prelude.{None};
 
+mod asking;
 mod rows;
 
-use crate::{RuleTexts, Search, SearchFault, Settings, Wanted};
+use crate::{OuterRules, RuleTexts, Search, SearchFault, Settings, Wanted};
 use glob_pattern::MatchOptions;
 use glob_rules::IgnoreList;
 use glob_set::SetRefusal;
@@ -21,7 +22,8 @@ struct Row<'a> {
     patterns: &'a str,
     /// Options, kinds and the depth.
     letters: &'a str,
-    /// The rules that come before those of files.
+    /// The rules that override ignore files and, after a `;`, the rules that they override. Each list follows the path
+    /// of the start from the list's directory on, and `:`.
     rules: &'a str,
     /// The names of files with rules.
     rule_files: &'a str,
@@ -153,17 +155,30 @@ fn settings_of(alloc: Global, row: &Row) -> Result<Settings, AllocError> {
             },
         }
     }
-    if !row.rules.is_empty() {
-        let text = lines_of(alloc, row.rules)?;
-        if let Ok(list) = IgnoreList::new(alloc, text.as_str()) {
-            settings.first.push(list)?;
-        }
-    }
+    add_lists(alloc, row.rules, &mut settings)?;
     for name in row.rule_files.split_whitespace() {
         let name = String::from_str(alloc, name)?;
         settings.rule_files.push(name)?;
     }
     Ok(settings)
+}
+
+/// Adds the rules of a row that are not in files.
+fn add_lists(alloc: Global, rules: &str, settings: &mut Settings) -> Result<(), AllocError> {
+    for (number, part) in rules.split(';').enumerate() {
+        let (prefix, rules) = part.split_once(':').unwrap_or(("", part));
+        let text = lines_of(alloc, rules)?;
+        let Ok(list) = IgnoreList::new(alloc, text.as_str()) else {
+            continue;
+        };
+        if number > 0 {
+            let prefix = String::from_str(alloc, prefix)?;
+            settings.last.push(OuterRules { prefix, list })?;
+        } else if !rules.is_empty() {
+            settings.first.push(list)?;
+        }
+    }
+    Ok(())
 }
 
 /// Adds `!` and the path of a fault, or which fault it is.

@@ -14,7 +14,7 @@ pub enum Work<A: Allocator> {
     Read(usize),
     /// It visits an entry of the last directory.
     Meet(Entry<A>),
-    /// It has left a directory. This many of the lists in `Heard::files` still apply.
+    /// It has left a directory. This many of the lists in `ActiveRules::files` still apply.
     Leave(usize),
 }
 
@@ -50,7 +50,7 @@ impl<A: Allocator> Way<A> {
             return Some(Work::Meet(entry));
         }
         let frame = self.frames.pop()?;
-        Some(Work::Leave(frame.heard))
+        Some(Work::Leave(frame.active))
     }
 
     /// Enters a directory next, if `enters` says so.

@@ -32,7 +32,7 @@ module _ (o : MatchOptions) (patterns : List Text) (text : Text) where
       of None is has = inl refl
       of (Some key) is has = inr (finds k key (omega (arith, at.0, are.same_length)) is (has o text utf8 at.1))
 
-  -- one without a key is in the bucket
+  -- a pattern without a key is in the bucket
   listed_without_key : IsUtf8 text → (needs : List Need) (keys : List (Option Key)) (numbers : List ℕ) → AreNeeds patterns needs
       → IsBucket needs keys (text_class text) (length needs) numbers → (k : ℕ) → MatchesAt o patterns text k → IsNone
       (get_or keys k None) → Contains numbers k
@@ -72,11 +72,11 @@ module _ (o : MatchOptions) (patterns : List Text) (text : Text) where
     all = λ k at. inl (all.all k (within_patterns o patterns text k at));
   }
 
-  -- none of the numbers before a place of the list is that of a match
+  -- no number before a place of the list is the number of a match
   abbrev pub NoneBefore : (numbers : List ℕ) → ℕ → Type 0
   NoneBefore numbers n = (j : ℕ) → j < n → ¬ (MatchesAt o patterns text (get_or numbers j 0))
 
-  -- none of those from a place on
+  -- no number from a place of the list on is the number of a match
   abbrev pub NoneAfter : (numbers : List ℕ) → ℕ → Type 0
   NoneAfter numbers n = (j : ℕ) → n ≤ j → j < length numbers → ¬ (MatchesAt o patterns text (get_or numbers j 0))
 
@@ -120,7 +120,7 @@ module _ (o : MatchOptions) (patterns : List Text) (text : Text) where
   )
 
   module _ (listed found : List ℕ) (asked : AreAsked o patterns text listed found) where
-    -- a number that is lower than what both lists have answered
+    -- the lower of the answers of both lists is the first match
     pub FirstMatch-of : (one other : Option ℕ) → IsFirstOf o patterns text listed one → IsFirstOf o patterns text found other
         → FirstMatch o patterns text (earlier one other)
     unfolding IsFirstOf FirstMatch AnyMatch
@@ -177,12 +177,12 @@ module _ (o : MatchOptions) (patterns : List Text) (text : Text) where
       λ k at. ⊎_elim (λ has. kept k (all_first k has at)) (λ has. all_second k has at) (asked.all k at),
     )
 
--- what follows from what a call ensures where it succeeds
+-- if a call ensures P when it succeeds, and Q follows from P, it ensures Q
 pub OnOk-follow : {T E : Type 0} (r : Result T E) (P Q : Type 0) → (P → Q) → OnOk r P → OnOk r Q
 OnOk-follow (Ok x) P Q follows known = follows known
 OnOk-follow (Err e) P Q follows known = tt
 
--- The numbers with those that were there before, and of the first ones of a list those of the matches.
+-- The numbers that were there before, and those of the first `count` asked ones that match.
 pub record PushedSoFar (o : MatchOptions) (patterns : List Text) (text : Text) (before asked : List ℕ) (count : ℕ)
     (numbers : List ℕ) : Type 0 where
   pub only : (k : ℕ) → Contains numbers k → Contains before k ⊎ MatchesAt o patterns text k
@@ -226,7 +226,7 @@ module _ (o : MatchOptions) (patterns : List Text) (text : Text) (before asked :
       let same : get_or asked j 0 ≡ k = sym (get_or_default asked j k 0 below) ∙ is in
       subst (Contains numbers) same (so_far.all j (omega (arith, below, end)) (subst (MatchesAt o patterns text) (sym same) at))
 
--- none are there in an empty list
+-- an empty list held no numbers before
 pub only_matches : (P : ℕ → Type 0) (before numbers : List ℕ) → before ≡ [] → ((k : ℕ) → Contains numbers k → Contains before k ⊎ P k)
     → (k : ℕ) → Contains numbers k → P k
 only_matches P before numbers none only k has =

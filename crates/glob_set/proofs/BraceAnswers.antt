@@ -17,13 +17,13 @@ refuses_memory (Ok x) text known = tt
 refuses_memory (Err (Syntax e)) text known = absurd (cc)
 refuses_memory (Err Memory) text known = tt
 
--- a refusal of its lexemes is one of the text
+-- a refusal of its lexemes is a refusal of the text
 pub refuses_text : (text : Text) (ls items : List Lexeme) (refusal : BraceRefusal) → ls ≡ items → items ≡ lexemes text
     → RefusesLexemes ls refusal → RefusesBraces text refusal
 unfolding RefusesBraces
 refuses_text text ls items refusal same is refused = subst (λ z. RefusesLexemes z refusal) (same ∙ is) refused
 
--- what is read of its lexemes are the alternatives of the text
+-- what its lexemes give is the alternatives of the text
 pub are_alternatives : (text : Text) (ls items : List Lexeme) (n : ℕ) (found : List Text) → ls ≡ items → items ≡ lexemes text
     → CountsAlternatives ls n → found ≡ (after_lexemes start_reading ls).texts → AreAlternatives text found
 unfolding AreAlternatives
@@ -31,7 +31,7 @@ are_alternatives text ls items n found same is counted read =
     subst (λ z. HasAlternatives true z found) (same ∙ is)
     (subst (HasAlternatives true ls) (sym (read ∙ alternatives_read ls counted.0 counted.1)) counted.1)
 
--- they are as many as were counted
+-- there are as many as were counted
 pub as_few : {X : Type 0} (f : X → Text) (items : List X) (ls : List Lexeme) (n : ℕ) → CountsAlternatives ls n → n ≤ 1000
     → map f items ≡ (after_lexemes start_reading ls).texts → length items ≤ 1000
 as_few f items ls n counted few read =

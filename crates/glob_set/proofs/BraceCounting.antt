@@ -15,7 +15,7 @@ use Rattle.glob_set.specs.declared.braces.error.BraceRefusal.TheVariants.{Syntax
 use Rattle.glob_set.specs.Braces.{comma, each_with, joined, HasAlternatives, HasEnded, IsOpenEnded, IsUnmatched, IsUnclosed, RefusesLexemes}
 use Rattle.glob_set.specs.Private.BraceCounts.{largest, IsCount, IsCountOf, CountsAlternatives, CountsSoFar}
 
--- a count of texts that are as many
+-- a count of as many texts
 as_many : (n : ℕ) (ts us : List Text) → length ts ≡ length us → IsCountOf n ts → IsCountOf n us
 as_many n ts us same is = subst (λ k. (n ≡ min k largest) × (1 ≤ k)) same is
 
@@ -178,7 +178,7 @@ more_close l n o os so =
     ap (λ z. z ++ Close ∷ []) so.2 ∙ append_assoc so.0 (Open ∷ so.1) (Close ∷ []) ∙ ap (λ z. so.0 ++ Open ∷ (z ++ Close ∷ [])) group.is in
     subst (λ z. CountsSoFar z (min (o.before * min (o.found + n) largest) largest) os) (sym same) grown
 
--- a `}` behind what is balanced
+-- a `}` after balanced lexemes
 pub IsUnmatched-at : (l r : List Lexeme) (n place : ℕ) → length l ≡ place → CountsSoFar l n [] → IsUnmatched (l ++ Close ∷ r) place
 unfolding IsUnmatched
 IsUnmatched-at l r n place at so = (l, r, so.0, refl, at, so.1)
@@ -237,7 +237,7 @@ refused_at xs i d n os refusal below so given =
     subst (λ z. RefusesLexemes z refusal) (sym split)
     (given (take i xs) (drop (i + 1) xs) (length-take-le i xs (omega (arith, below))) so)
 
--- the first of those without a `}`, once all lexemes are read
+-- the first unclosed `{`, once all lexemes are read
 pub unclosed_first : (xs : List Lexeme) (i n : ℕ) (items : List Opened) (first : Opened) → length xs ≤ i
     → CountsSoFar (take i xs) n (reverse items) → Some first ≡ slice_get items 0 → IsUnclosed xs first.place
 unclosed_first xs i n [] first end so is = absurd (cc)
@@ -247,7 +247,7 @@ unclosed_first xs i n (o ∷ os) first end so is =
     let last : CountsSoFar xs n (reverse os ++ o ∷ []) = subst (CountsSoFar xs n) (reverse-append (o ∷ []) os) all in
     subst (λ z. IsUnclosed xs z.place) (sym same) (IsUnclosed-first (reverse os) o xs n last)
 
--- none is without a `}`, once all lexemes are read
+-- no `{` is unclosed, once all lexemes are read
 pub counted_all : (xs : List Lexeme) (i n : ℕ) (items : List Opened) → length xs ≤ i
     → CountsSoFar (take i xs) n (reverse items) → None ≡ slice_get items 0 → CountsAlternatives xs n
 counted_all xs i n [] end so is = subst (λ z. CountsSoFar z n []) (take_all i xs end) so

@@ -1,4 +1,4 @@
--- An escaped text is its own only alternative, and matches the text it is made from.
+-- The only alternative of an escaped text is itself, and it matches the text it is made from.
 use Rattle.std.proofs.Common.{◌≡◌, ℕ, suc, ◌+◌, ◌<◌, ◌≤◌, ◌≢◌, ◌⊎◌, ◌↔◌, inl, inr, ⊎_elim, Bool, true, false, ◌==◌}
 use Rattle.std.proofs.Common.{cond, List, [], ◌∷◌, ◌++◌, length, get_or, drop, IsTrue, IsFalse, refl, sym, ap, subst}
 use Rattle.std.proofs.Common.{◌∙◌, arith, append_assoc}
@@ -69,23 +69,23 @@ lexeme_of-plain c other =
     by true is no_open no_close = inr (rw (no_open, is) refl, eqb-true c comma is)
     by false not no_open no_close = inl (rw (no_open, not, no_close) refl)
 
--- a place that has another character
+-- the test of a place with another character
 has_other : (whole rest : Text) (p c d : ℕ) → c ≢ d → drop p whole ≡ c ∷ rest → has whole p d ≡ false
 has_other whole rest p c d apart at =
     rw (ne_eqb (get_or whole p 0) d (λ e. apart (sym (get_or-at_drop whole rest p c 0 at) ∙ e)))
     (and_right (nat_lt p (length whole)) false refl)
 
--- and one that has it
+-- the test of a place with this character
 has_this : (whole rest : Text) (p c : ℕ) → drop p whole ≡ c ∷ rest → has whole p c ≡ true
 has_this whole rest p c at =
     let long : length whole ≡ p + suc (length rest) = length-at_drop whole rest p c at in
     rw (lt-ltb p (length whole) (omega arith), eq-eqb (get_or whole p 0) c (get_or-at_drop whole rest p c 0 at)) refl
 
--- no bracket begins with another character
+-- only `[` begins a bracket
 bracket_end-plain : (whole rest : Text) (p c : ℕ) → c ≢ open_bracket → drop p whole ≡ c ∷ rest → bracket_end whole p ≡ p
 bracket_end-plain whole rest p c other at = rw (has_other whole rest p c open_bracket other at) refl
 
--- a bracket of one character has three
+-- a bracket of one character is three characters long
 bracket_end-own : (whole rest : Text) (p c : ℕ) → IsApart c → drop p whole ≡ open_bracket ∷ c ∷ close_bracket ∷ rest
     → bracket_end whole p ≡ p + 3
 bracket_end-own whole rest p c own at =
@@ -99,7 +99,7 @@ bracket_end-own whole rest p c own at =
     )
     (omega arith)
 
--- the lexemes of characters from place p on, behind what has one alternative, leave it one
+-- the lexemes of characters from place p on, after lexemes with one alternative: there is still one
 Grows : (whole rest : Text) (p : ℕ) → Type 0
 Grows whole rest p =
     (e : ℕ) (l : List Lexeme) (t : Text) → e ≤ p → HasAlternatives true l (t ∷ [])

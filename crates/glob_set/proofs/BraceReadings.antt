@@ -19,7 +19,7 @@ through m b x r s t first second =
     after_lexemes-append (b ++ x) (m ∷ []) r
     ∙ ap (after_lexeme m) (after_lexemes-append b x r ∙ ap (λ q. after_lexemes q x) first ∙ second)
 
--- outside of all braces there is no group
+-- outside all braces there is no group
 abbrev Fits : Bool → List OpenGroup → Type 0
 Fits true groups = groups ≡ []
 Fits false groups = ⊤
@@ -50,10 +50,10 @@ mutual
   reads_ended (HasEnded.one_more b x bs xs e i) ts groups =
       through Comma b x _ _ _ (reads_ended e ts groups) (reads i (record { before = ts; found = bs } ∷ groups) tt)
 
--- what is read are the alternatives
+-- what reading gives is the alternatives
 pub alternatives_read : (l : List Lexeme) (ts : List Text) → HasAlternatives true l ts → (after_lexemes start_reading l).texts ≡ ts
 alternatives_read l ts h = ap (λ r. r.texts) (reads h [] refl)
 
--- there are no two lists of alternatives
+-- there is only one list of alternatives
 pub alternatives_unique : (l : List Lexeme) (ts us : List Text) → HasAlternatives true l ts → HasAlternatives true l us → ts ≡ us
 alternatives_unique l ts us h i = sym (alternatives_read l ts h) ∙ alternatives_read l us i

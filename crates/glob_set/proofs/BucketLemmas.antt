@@ -94,7 +94,7 @@ module _ (needs : List Need) (keys : List (Option Key)) where
     each = λ class small. bucket_skips needs keys class n (get_or buckets class []) no_need below (inl some) (are.each class small);
   }
 
-  -- one of no class is in each, and one of a class in its own
+  -- a pattern without a class is in each bucket, and one with a class in its own
   pub buckets_add : (n : ℕ) (d : Need) (buckets new : List (List ℕ)) → n < length needs → All HasSmallClass needs
       → new ≡ with_number n (get_or needs n d).class buckets → AreBuckets needs keys n buckets → AreBuckets needs keys (n + 1) new
   buckets_add n d buckets new below small more are = of (get_or needs n d).class refl (All-get_or HasSmallClass needs n d below small) more

@@ -32,7 +32,7 @@ use Rattle.glob_set.specs.Private.Components.{start, after, hashed, is_end, IsRe
 use Rattle.glob_set.specs.Private.Keys.{HasKey, IsKeyOf, IsReadBack, hash_back}
 use Rattle.glob_set.proofs.TokenPairs.{literal_within, same_ascii}
 
--- the piece of the token of a number
+-- the piece of token `number`
 pub record PieceAt (o : MatchOptions) (text : Text) (tokens : List Token) (pieces : List Text) (number : ℕ) : Type 0 where
   pub piece : Text
   pub place : ℕ
@@ -85,7 +85,7 @@ same_bools true false f g = sym (f refl)
 same_bools false true f g = g refl
 same_bools false false f g = refl
 
--- of two characters that are the same, either both are a mark, as `.` and `/`, or neither is
+-- two characters that are the same are both the mark (such as `.` or `/`), or neither is
 same_mark : (mark : ℕ) → mark < 65 → (case : Bool) (c x : ℕ) → IsTrue (is_same case c x) → c == mark ≡ x == mark
 same_mark mark low case c x same =
     ⊎_elim
@@ -103,7 +103,7 @@ after_same : (component : Component) (c x : ℕ) → c == slash ≡ x == slash �
 after_same component c x slashes low =
     ap₂ (λ b r. cond b start (record { hash = (component.hash * 33 + r) % 2 ^ 32; len = min (component.len + 1) 255 })) slashes low
 
--- a piece that is one character, the same as another: it is read as that one is, from both ends
+-- a piece of one character that is the same as x: reading it forwards or backwards gives the same hashes
 pub record SameCharacter (piece : Text) (x : ℕ) : Type 0 where
   pub as_many : length (encode_utf8_all piece) ≡ length (encode_utf8 x)
   pub read : (c : Component) → fold after c (encode_utf8_all piece) ≡ fold after c (encode_utf8 x)
@@ -182,7 +182,7 @@ module _ (o : MatchOptions) (text : Text) (tokens : List Token) (pieces : List T
       → encode_utf8_all (concat (drop number pieces)) ≡ encode_utf8_all p.piece ++ encode_utf8_all (concat (drop (suc number) pieces))
   bytes_from number p = ap (λ ps. encode_utf8_all (concat ps)) p.rest ∙ encodes-append p.piece (concat (drop (suc number) pieces))
 
-  -- those from that of a mark on
+  -- the bytes of the pieces from a mark on
   bytes_from_mark : (number mark : ℕ) → mark < 65 → get_or tokens number AnyChar ≡ Literal mark
       → encode_utf8_all (concat (drop number pieces)) ≡ mark ∷ encode_utf8_all (concat (drop (suc number) pieces))
   bytes_from_mark number mark low is =
@@ -196,7 +196,7 @@ module _ (o : MatchOptions) (text : Text) (tokens : List Token) (pieces : List T
       let (p, same) = same_at number x is in
       ap read p.more ∙ read_more (take number pieces) p.piece ∙ same.read (read (take number pieces))
 
-  -- the pieces from that of a literal on have its bytes more
+  -- the bytes of the pieces from a literal on begin with its bytes
   back_literal : (number x hash len : ℕ) → get_or tokens number AnyChar ≡ Literal x
       → (length (encode_utf8_all (concat (drop (suc number) pieces))) ≡ len) ×
       (hash_back (encode_utf8_all (concat (drop (suc number) pieces))) ≡ hash)
@@ -276,7 +276,7 @@ parts number pieces bytes utf8 are =
     ∙ concat-append (take number pieces) (drop number pieces))
     ∙ encodes-append (concat (take number pieces)) (concat (drop number pieces))
 
--- What is a key of the bytes of all pieces, in two parts at a number, is one of the pattern.
+-- A key that all texts have, given as the bytes of the pieces before a number and from it on, is a key of the pattern.
 key_of_parts : (pattern : Text) (number : ℕ) (key : Key)
     → ((o : MatchOptions) (tokens : List Token) (text : Text) (pieces : List Text) → HasTokens (chars pattern) tokens
     → AreAllowed o text 0 tokens pieces

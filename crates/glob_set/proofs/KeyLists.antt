@@ -83,7 +83,7 @@ listed_more patterns n keys new starts all pattern found below is has more start
     end : get_or all (n + 1) 0 ≡ length new
     end = ap (λ s. get_or s (n + 1) 0) starting ∙ get_or_push starts (length new) 0 (n + 1) are.as_many
 
--- what is listed between two starts
+-- the keys listed between two starts
 pub listed_keys : (patterns : List Text) (n : ℕ) (keys : List Key) (starts : List ℕ) (k : ℕ) → k < n → AreListed patterns n keys starts
     → All (HasKey (get_or patterns k [])) (slice_range keys (get_or starts k 0) (get_or starts (k + 1) 0))
 listed_keys patterns n keys starts k below are =

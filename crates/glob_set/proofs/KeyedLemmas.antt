@@ -46,7 +46,7 @@ pub KeepsAll-at : (a b : FoundNumbers) (k : ℕ) → KeepsAll a b → Keeps a k 
 unfolding KeepsAll
 KeepsAll-at a b k all keeps = all k keeps
 
--- each pattern whose key has the hash is found, as far as all of its slot have been looked at
+-- each pattern whose key has the hash is found, once all patterns of its slot have been looked at
 pub Finds-one : (keys : List (Option Key)) (hash : ℕ) (found : FoundNumbers)
     → ((number : ℕ) → number < length keys → IsSomeAnd (get_or keys number None) (HasHash hash) → Keeps found number)
     → Finds keys (HasHash hash) found

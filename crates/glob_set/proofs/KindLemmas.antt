@@ -13,7 +13,7 @@ unfolding KeepsKinds
 kind_kept old new None kept has = tt
 kind_kept old new (Some key) kept has = kept key has
 
--- each of the first lengths is one of the second
+-- each of the first lengths is among the second
 abbrev pub KeepsLengths : (old new : ℕ) → Type 0
 KeepsLengths old new = (len : ℕ) → HasLength old len → HasLength new len
 

@@ -22,7 +22,7 @@ use Rattle.glob_set.specs.Private.Asking.{AreMatches}
 use Rattle.glob_set.specs.Sets.{MatchesAt, matches_below, all_matches}
 use Rattle.glob_set.proofs.ListReading.{matches_below-yes, matches_below-no, within_patterns}
 
--- the first numbers of two lists are those of the first
+-- the first numbers of two joined lists are the first numbers of the first list
 pub first_part : (n : ℕ) (xs ys : List ℕ) → length xs ≡ n → take n (xs ++ ys) ≡ xs
 first_part n xs ys len = take-append-le n xs ys (omega arith) ∙ take_all n xs (omega arith)
 
@@ -133,7 +133,7 @@ module _ (o : MatchOptions) (patterns : List Text) (text : Text) where
       (are_below n (omega (arith, within)))))
       (decided n (omega (arith, within)))
 
-  -- the numbers of the matches, in any order, after a sort and without repetitions
+  -- the numbers of the matches, sorted and without repetitions
   pub all_matches-sorted : (pushed sorted new : List ℕ) → AreMatches o patterns text pushed → IsPermutation pushed
       sorted → IsSorted nat_cmp sorted
       → IsFiltered (DiffersFromLast nat_eq) [] sorted new → new ≡ all_matches o patterns text

@@ -33,7 +33,7 @@ needs_end patterns needs i as_many end each = record {
   each = λ k d below. each k d (omega (arith, below, end));
 }
 
--- no bits, and one more
+-- no bits, and one more bit
 pub HasBits-none : (pattern : Text) → HasBits pattern 0
 unfolding HasBits
 HasBits-none pattern = λ o bytes utf8 matches. within_zero _
@@ -43,7 +43,7 @@ unfolding HasBits
 HasBits-more pattern bits more first second = λ o bytes utf8 matches. within_both bits more _
     (first o bytes utf8 matches) (second o bytes utf8 matches)
 
--- the bits with those of a pair, if there is one
+-- the bits, plus the bits of a pair, if there is one
 pub HasBits-with : (pattern : Text) (number bits new : ℕ) (class : Option ℕ) → HasBits pattern bits → IfSome class (IsPairAt pattern number)
     → MatchOption class (new ≡ bits) (λ k. new ≡ bit_or bits (class_bit k)) → HasBits pattern new
 HasBits-with pattern number bits new None has pair is = subst (HasBits pattern) (sym is) has

@@ -14,7 +14,7 @@ use Rattle.glob_set.specs.Private.Keyed.{FoundNumbers, Keeps, KeepsAll, Finds, H
 use Rattle.glob_set.specs.Private.Keys.{AreKinds, HasKind, HasLength, IsComponentOf, IsEndingOf, hash_back, hash_of}
 use Rattle.glob_set.proofs.KeyedLemmas.{KeepsAll-at}
 
--- the key is of so many last bytes of the text
+-- the key is of the last `len` bytes of the text
 abbrev pub IsReadBehind : (text : List ℕ) → (len : ℕ) → Key → Type 0
 IsReadBehind text len (Component hash) = ⊥
 IsReadBehind text len (Beginning hash more) = ⊥
@@ -22,7 +22,7 @@ IsReadBehind text len (Ending hash more) = (len ≡ more) × (hash_back (drop (l
 IsReadBehind text len (Extension hash more) =
     (len ≡ more) × (len < length text) × (get_or text (length text - 1 - len) 0 ≡ dot) × (hash_back (drop (length text - len) text) ≡ hash)
 
--- a text in which a byte is after some
+-- a text with some bytes, then a byte
 record Parted (text front : List ℕ) (byte : ℕ) : Type 0 where
   below : length front < length text
   front_is : take (length front) text ≡ front
@@ -112,7 +112,7 @@ module _ (keys : List (Option Key)) where
         follows (Ending other more) (_, used) (is, same) = (ends (subst (HasLength kinds.endings) (sym is) used), sym (hash_is ∙ same))
         follows (Extension other more) kind (is, within, mark, same) = (dotted within mark, sym (hash_is ∙ same))
 
-    -- where no pattern has a key of a component, none has to be found by it
+    -- if no key is of a component, no pattern has to be found by one
     pub Finds-no_component : (text : List ℕ) (found : FoundNumbers) → kinds.components ≡ false → Finds keys (IsComponentOf text) found
     Finds-no_component text found none = finds_if false 0 (IsComponentOf text) found (λ no. absurd (true≢false (sym no))) follows
       where

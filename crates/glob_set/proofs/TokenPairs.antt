@@ -32,7 +32,7 @@ lower_same c =
     (cases_lt c 91))
     (cases_lt c 65)
 
--- a character that is the same as one of ASCII is of ASCII, and has its five low bits
+-- a character that is the same as an ASCII character is ASCII, and has the same five low bits
 pub same_ascii : (case : Bool) (c x : ℕ) → x < 128 → IsTrue (is_same case c x) → (c < 128) × (c % 32 ≡ x % 32)
 same_ascii case c x low same =
     ⊎_elim
@@ -55,7 +55,7 @@ literal_within [] k y is = absurd (cc)
 literal_within (t ∷ ts) zero y is = omega arith
 literal_within (t ∷ ts) (suc k) y is = omega (arith, literal_within ts k y is)
 
--- one character that is the same as one of ASCII
+-- one character that is the same as an ASCII character
 record One (here : Text) (y : ℕ) : Type 0 where
   b : ℕ
   is : encode_utf8_all here ≡ b ∷ []
@@ -68,7 +68,7 @@ one_of case (b ∷ []) y low (lengths, each) =
     record { b = b; is = ap (λ p. p ++ []) (encode_ascii b same.0); class = class_same 0 b 0 y refl same.1 }
 one_of case (b ∷ c ∷ cs) y low (lengths, each) = absurd (omega arith)
 
--- two of them
+-- two such characters
 record Two (here : Text) (x y : ℕ) : Type 0 where
   a : ℕ
   b : ℕ

@@ -20,7 +20,7 @@ escaped_character c = if is_special c then open_bracket ∷ c ∷ close_bracket 
 abbrev pub escaped_text : Text → Text
 escaped_text text = flat_map escaped_character text
 
--- the escaped text is its own only alternative, and case-sensitively it matches only the original
+-- the only alternative of the escaped text is itself, and case-sensitively it matches only the original
 unfoldable pub StandsFor : (escaped text : Text) → Type 0
 StandsFor escaped text =
     AreAlternatives (chars escaped) (escaped ∷ [])

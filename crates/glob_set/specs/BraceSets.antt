@@ -14,7 +14,7 @@ use Rattle.glob_set.specs.declared.error.SetRefusal.TheVariants as set
 use Rattle.glob_set.specs.declared.error.BraceSetRefusal.{BraceSetRefusal}
 use Rattle.glob_set.specs.declared.error.BraceSetRefusal.TheVariants.{Braces, Pattern, Memory}
 
--- the alternatives of all texts, those of the first text first
+-- the alternatives of all texts, text by text
 abbrev pub AreAlternativesOf : (texts alternatives : List Text) → Type 0
 AreAlternativesOf [] alternatives = alternatives ≡ []
 AreAlternativesOf (text ∷ texts) alternatives =

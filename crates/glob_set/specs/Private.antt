@@ -1,3 +1,4 @@
+-- Definitions that only private contracts cite.
 pub mod Asking
 pub mod BraceCounts
 pub mod BraceSteps

@@ -52,7 +52,7 @@ impl<A: Allocator> Bucket<A> {
         Ok(())
     }
 
-    /// Adds a number, after the numbers of `others` if this is the first.
+    /// Adds a number. Before the first one it adds the numbers of `others`.
     fn push_behind(&mut self, others: &Bucket<A>, number: usize) -> Result<(), AllocError>
         ensures { OnOk result (self.new ≡ few_or_many others.now self.old ++ number ∷ []) }
     {
@@ -76,7 +76,8 @@ impl<A: Allocator> Bucket<A> {
 /// The numbers of the patterns without a key, by the class of the texts that they may match.
 #[derive(Drop)]
 pub struct Buckets<A: Allocator = Global> {
-    // for each class that some pattern needs: the patterns that need it, and those that need no class; else empty
+    // for each class that some pattern needs: the patterns that need it, and the patterns that need no class; empty for
+    // other classes
     classes: Vec<Bucket<A>, A>,
     // the patterns that need no class, for all other classes
     rest: Bucket<A>,

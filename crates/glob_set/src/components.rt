@@ -54,7 +54,7 @@ pub fn hash_after(hash: u32, byte: u8) -> u32
     ((u64::from(hash) * 33 + u64::from(byte % 32)) % (1 << 32)) as u32
 }
 
-/// The hash of bytes read backwards, with the character before them.
+/// The hash of bytes read backwards, with one more character: the one before them.
 pub fn hash_before(hash: u32, c: char) -> u32
     ensures { result ≡ fold hashed hash (reverse (encode_utf8 c)) }
 {

@@ -64,8 +64,8 @@ impl<T: Drop> From<AllocFailed<T>> for SetRefusal {
 pub enum BraceSetRefusal {
     /// The number of the first text with a fault, and the fault of its braces: for `*.o` and `{a`, 1 and `Unclosed(0)`.
     Braces(usize, BraceError),
-    /// The number of the first text with a fault, the number of its first alternative that is not accepted, and that
-    /// one's first fault from the left: for `*.o` and `{a,[}`, 1, 1 and the place 0 in `[`.
+    /// The number of the first text with a fault, the number of its first alternative that is not accepted, and the
+    /// first fault of that alternative from the left: for `*.o` and `{a,[}`, 1, 1 and the place 0 in `[`.
     Pattern(usize, usize, PatternError),
     /// Out of memory: an allocation failed.
     Memory,

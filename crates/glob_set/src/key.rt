@@ -2,7 +2,7 @@
 ghost use Rattle.std.specs.Prelude.{◌≡◌, ◌↔◌, IfSome, IsTrue};
 ghost use Rattle.glob_set.specs.Private.Keys.{AreKinds, HasKind, HasLength, KeepsKinds, hash_of, length_bit};
 
-/// Something that all texts have that a pattern matches.
+/// Something that all texts matched by a pattern have.
 #[derive(Clone, Copy)]
 pub enum Key {
     /// A component with this hash.

@@ -174,8 +174,8 @@ impl<A: Allocator + Copy> Keyed<A> {
     }
 }
 
-/// Whether a text is looked up right before a byte: before a mark, and if there are keys with as many bytes as were
-/// read.
+/// Whether the text is looked up right before this byte: always before a mark, elsewhere only if a key has the length
+/// read so far.
 #[inline(always)]
 fn is_asked(byte: u8, mark: u8, is_used: bool) -> bool
     ensures { IsTrue result ↔ (byte ≡ mark) ⊎ IsTrue is_used }

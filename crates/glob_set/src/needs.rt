@@ -7,7 +7,7 @@ use crate::pairs::{Need, class_bit, pair_class};
 use glob_pattern::{Pattern, literal_at, tokens_len};
 use std::alloc::{AllocError, Allocator};
 
-/// For each pattern, what all texts have that it matches. Fails only if allocation fails.
+/// For each pattern, what all texts that it matches have. Fails only if allocation fails.
 pub fn needs_of<A: Allocator + Copy>(
     alloc: A,
     patterns: &[Pattern<A>],
@@ -22,7 +22,7 @@ pub fn needs_of<A: Allocator + Copy>(
     Ok(needs)
 }
 
-/// What all texts have that the pattern matches. For `src/*.rs` these are the pairs of neighbours in `src/` and `.rs`,
+/// What all texts matched by the pattern have. For `src/*.rs` these are the pairs of neighbours in `src/` and `.rs`,
 /// `s` at the start and `rs` at the end.
 fn need_of<A: Allocator>(pattern: &Pattern<A>) -> Need
     ensures need { IsNeed pattern.now result }
@@ -37,7 +37,7 @@ fn need_of<A: Allocator>(pattern: &Pattern<A>) -> Need
     Need { bits, class }
 }
 
-/// The bits, with that of the class if there is one.
+/// The bits, plus the bit of the class if there is one.
 fn with_class(bits: u128, class: Option<u8>) -> u128
     requires { IfSome class (λ k. k < 128) }
     ensures { MatchOption class (result ≡ bits) (λ k. result ≡ bit_or bits (class_bit k)) }

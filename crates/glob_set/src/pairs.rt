@@ -2,7 +2,7 @@
 ghost use Rattle.std.specs.Prelude.{◌≡◌, ◌<◌};
 ghost use Rattle.glob_set.specs.Private.Pairs.{pair_class, class_bit, text_bits, text_class};
 
-/// What all texts have that a pattern matches.
+/// What all texts matched by a pattern have.
 #[derive(Clone, Copy)]
 pub struct Need {
     /// The bits of neighbouring bytes.

@@ -1,4 +1,5 @@
-//! The keys of patterns.
+//! The keys of a pattern: literals that every matching text has at its end, at the start of a component, or as a whole
+//! component.
 ghost use Rattle.std.specs.Prelude.{◌≡◌, ◌+◌, ◌<◌, length, chars, All, IfSome, IsTrue, OnOk};
 ghost use Rattle.glob_text.specs.Characters.{slash};
 ghost use Rattle.glob_pattern.specs.Computing.Tokens.{tokens_of};

@@ -20,10 +20,10 @@ use std::alloc::{AllocError, Allocator, Global};
 use std::marker::Model;
 use std::path::Path;
 
-/// A list of patterns with the options that they match by. The set reports patterns by their **numbers**, counted from
-/// 0. It rejects most patterns without trying them, because the text lacks bytes that every match has. A large set looks
-/// up the components of the text, their beginnings and its ending, to find the patterns in which one of these is rare.
-/// No clause says how many patterns are tried.
+/// A list of patterns and the options that they match by. The set reports patterns by their **numbers**, counted from
+/// 0. It rejects most patterns without trying them, because the text lacks bytes that every match has. A large set
+/// looks up the text's components, their beginnings and the text's ending in a table, and so finds the patterns in
+/// which one of these is rare. No clause says how many patterns are tried.
 ///
 /// ```text
 /// let ignored = PatternSet::from_texts(alloc, &["**/*.o", "**/target/**"], options)?;
@@ -132,12 +132,12 @@ impl<A: Allocator + Copy> PatternSet<A> {
         Ok(Self::new(alloc, patterns, options)?)
     }
 
-    /// Parses all alternatives of all texts, such as `src/*.{c,h}`, and makes a set of the patterns: those of the first
-    /// text first, in the order of [`expand`](crate::braces::expand). The set matches a text exactly if an alternative
-    /// of one of the texts does.
+    /// Parses all alternatives of all texts, such as `src/*.{c,h}`, and makes a set of the patterns: text by text, each
+    /// in the order of [`expand`](crate::braces::expand). The set matches a text exactly if an alternative of one of
+    /// the texts does.
     ///
-    /// The error is that of the first text with a fault, [`Braces`](BraceSetRefusal::Braces) or
-    /// [`Pattern`](BraceSetRefusal::Pattern), or [`Memory`](BraceSetRefusal::Memory) if an allocation fails.
+    /// The error is [`Braces`](BraceSetRefusal::Braces) or [`Pattern`](BraceSetRefusal::Pattern) for the first text
+    /// with a fault, or [`Memory`](BraceSetRefusal::Memory) if an allocation fails.
     pub fn from_braces(
         alloc: A,
         texts: &[&str],

@@ -1,4 +1,4 @@
--- What numbers are added to a list.
+-- Which numbers are added to a list.
 use Rattle.std.proofs.Common.{◌≡◌, ℕ, ◌+◌, ◌<◌, ◌≤◌, arith, length, take, get_or, ◌⊎◌, inl, inr, ⊎_elim, Option, None}
 use Rattle.std.proofs.Common.{Some, List, [], ◌∷◌, ◌++◌, refl, sym, ap, subst, ◌∙◌}
 use Rattle.std.specs.Prelude.{Contains, slice_get, option_and_then, IfOk, Result, Ok, Err}
@@ -15,7 +15,7 @@ use Rattle.glob_pattern.specs.declared.options.MatchOptions.{MatchOptions}
 use Rattle.glob_search.specs.Private.Nodes.{Adds, Enlivens, LiteralStep, Stays, Steps, WildStep}
 use Rattle.glob_search.specs.declared.beginnings.node.Node.{Node}
 
--- others than none
+-- numbers after no numbers
 pub Adds-same : {P Q : ℕ → Type 0} (xs ys : List ℕ) → ((k : ℕ) → P k → Q k) → ((k : ℕ) → Q k → P k) → Adds P xs ys → Adds Q xs ys
 Adds-same xs ys there back a = record {
   only = λ k in'. ⊎_elim inl (λ p. inr (there k p)) (a.only k in');
@@ -77,7 +77,7 @@ Enlivens-two nodes number d xs ys zs first second some =
     (Adds-then {P = λ k. number ≡ k} {Q = λ k. d ≡ k} xs ys zs (Adds-push xs ys number first refl (λ k e. e))
     (Adds-push ys zs d second refl (λ k e. e)))
 
--- a loop adds what comes of one element after another
+-- a loop adds what each element gives, one after another
 module _ {X : Type 0} (R : X → ℕ → Type 0) where
   pub Adds-start : (xs : List X) (old : List ℕ) → Adds (λ k. (x : X) × Contains (take 0 xs) x × R x k) old old
   Adds-start xs old = Adds-none old old refl (λ k p. absurd (omega (arith, p.1.1)))
@@ -132,7 +132,7 @@ Steps-some {A} nodes o name key number node xs ys zs ws at a b c =
     back k other same p = here k (subst (λ n. Stays o name n number k ⊎ (LiteralStep nodes key n k ⊎ WildStep nodes o
         name n.wilds.items k)) same p)
 
--- what follows from what an `Ok` says
+-- a consequence of what an `Ok` says
 pub ok-then : {T E : Type 0} {P Q : T → Type 0} (r : Result T E) → IfOk r P → ((x : T) → P x → Q x) → IfOk r Q
 ok-then (Ok x) h f = f x h
 ok-then (Err e) h f = h

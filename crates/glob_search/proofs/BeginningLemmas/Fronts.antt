@@ -21,7 +21,7 @@ pub push-not-nil : {X : Type 0} (xs : List X) (x : X) → xs ++ x ∷ [] ≡ [] 
 push-not-nil [] x e = cc
 push-not-nil (y ∷ ys) x e = cc
 
--- a list whose elements are read, without the last
+-- a list of elements that were read, without the last
 pub map-push : {X Y : Type 0} (f : X → Y) (xs : List X) (ys : List Y) (y : Y) → map f xs ≡ ys ++ y ∷ [] → (us : List X)
     × (u : X) × (xs ≡ us ++ u ∷ []) × (map f us ≡ ys) × (f u ≡ y)
 map-push f [] ys y e = absurd (push-not-nil ys y (sym e))
@@ -32,7 +32,7 @@ map-push f (x ∷ xs) ys y e =
 
 module _ {A : Type 0} (o : MatchOptions) (nodes : List (Node A)) (front : ℕ → List Text) (tree : IsTree o nodes front)
     (within : All (IsWithin (length nodes)) nodes) where
-  -- a number of these components, by which the one above goes on
+  -- a number of these components, and the component by which the number above goes on
   pub record Goes (us : List Text) (t : Text) : Type 0 where
     pub number : ℕ
     pub way : ((up : ByOther o nodes front tree within number) × (front up.parent ≡ us) × (up.text ≡ t))

@@ -1,4 +1,4 @@
--- Sets of components with wildcards: they change nothing of a tree, and say which components match.
+-- Sets of components with wildcards: they change nothing in a tree, and say which components match.
 use Rattle.std.proofs.Common.{◌≡◌, ℕ, zero, suc, ◌+◌, ◌<◌, ◌≤◌, ◌⊎◌, ⊎_elim, Bool, true, false, List, [], ◌∷◌}
 use Rattle.std.proofs.Common.{◌++◌, length, map, get_or, set, Option, None, Some, refl, ap, sym, subst, ◌∙◌, arith}
 use Rattle.std.specs.Borrow.{Bor}
@@ -97,7 +97,7 @@ module _ (o : MatchOptions) (patterns : List Text) (text : Text) where
           (λ same. absurd (both_ways (takes-at n) is (ap takes-at (sym same) ∙ fits)))
           (λ ne. less (omega (arith, lt, ne)) fits) (is-or k n))
 
-  -- the numbers of a set's answer are those of the patterns that match
+  -- the numbers in a set's answer are the numbers of the patterns that match
   pub matches-only : (k : ℕ) → Contains (all_matches o patterns text) k → (k < length patterns) × (takes-at k ≡ true)
   unfolding all_matches
   matches-only k in' = below-only (length patterns) k in'
@@ -106,14 +106,14 @@ module _ (o : MatchOptions) (patterns : List Text) (text : Text) where
   unfolding all_matches
   matches-all k lt fits = below-all (length patterns) k lt fits
 
--- what is read at an index is the element there, or there is none
+-- what is read at an index is the element there, if there is one
 pub read-at : {X : Type 0} (Q : Bor X → Type 0) (xs : List X) (i : ℕ) (r : Option (Bor X))
     → MatchOption r (length xs ≤ i) (λ x. (i < length xs) × Q x) → IfSome r (λ x. x.now ≡ get_or xs i x.now)
     → slice_get xs i ≡ option_copied r
 read-at Q xs i None past is = slice_get_past xs i past
 read-at Q xs i (Some x) found is = slice_get_read xs (length xs) i x.now refl found.0 is
 
--- what the answer of a set adds is what the components add that match
+-- the answer of a set adds what the matching components add
 pub wild-steps : {A : Type 0} (nodes : List (Node A)) (o : MatchOptions) (name : Text) (wilds : List (Wild A)) (by : MatchOptions)
     (patterns : List Text) (numbers : List ℕ) → by ≡ o → patterns ≡ map (λ w. w.pattern) wilds
     → numbers ≡ all_matches by patterns name → (old new : List ℕ)

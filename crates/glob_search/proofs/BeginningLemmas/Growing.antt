@@ -46,7 +46,7 @@ pub get-push-last : {X : Type 0} (xs : List X) (y : X) → slice_get (xs ++ y �
 get-push-last [] y = refl
 get-push-last (x ∷ xs) y = get-push-last xs y
 
--- what a node says depends on no other numbers than those that it leads to
+-- what a node says depends only on the numbers that it leads to
 pub IsNode-moved : {A : Type 0} (o : MatchOptions) (front front' : ℕ → List Text) (n k : ℕ) (node : Node A) →
     ((c : ℕ) → c < n → front' c ≡ front c) → k < n → IsWithin n node
     → IsNode o front k node → IsNode o front' k node
@@ -145,7 +145,7 @@ Grown-then o old now new front front' front'' path further on a b = record {
       inr (b.begun k lt);
 }
 
--- a beginning more
+-- one more beginning
 module _ {A : Type 0} (o : MatchOptions) (nodes : List (Node A)) (front : ℕ → List Text) (tree : IsTree o nodes front)
     (within : All (IsWithin (length nodes)) nodes)
     (at : ℕ) (node : Node A) (is : slice_get nodes at ≡ Some node) (text : Text) (fresh changed : Node A)
@@ -296,14 +296,14 @@ module _ {A : Type 0} (o : MatchOptions) (nodes : List (Node A)) (front : ℕ �
     is = more-last;
   }
 
--- a component's text is `**` where its kind is
+-- a component's text is `**` if its kind is
 pub kind-recursive : {A : Type 0} (o : MatchOptions) (x : Component A) → FitsKind o x → is_recursive (component_text x)
     ≡ is_deep_component x
 kind-recursive o (component.Literal text) fits = literal_not_recursive (string_bytes text) fits.literal
 kind-recursive o (component.Wild pattern) fits = fits.1
 kind-recursive o component.Deep fits = refl
 
--- a component more changes nothing, or leads on
+-- one more component changes nothing, or leads on
 pub pushed-same : (ts : List Text) (t : Text) → ends_recursive ts ≡ true → is_recursive t ≡ true → pushed ts t ≡ ts
 pushed-same ts t ends r = cond-true (ends_recursive ts && is_recursive t) ts (ts ++ t ∷ [])
     (and_from (ends_recursive ts) (is_recursive t) ends r)

@@ -1,4 +1,4 @@
--- Components as they are kept: a literal one in lower case, where case does not count.
+-- Components as they are kept: literal ones in lower case, if case does not count.
 use Rattle.std.proofs.Common.{◌≡◌, ◌↔◌, ℕ, ◌≤◌, ◌≢◌, suc, ◌+◌, ◌<◌, Bool, true, false, cond, ◌&&◌, ◌||◌, ⊎_elim, List}
 use Rattle.std.proofs.Common.{[], ◌∷◌, length, map, get_or, refl, ap, ap₂, sym, subst, ◌∙◌, arith}
 use Rattle.std.specs.Bool.{one_answer}
@@ -62,7 +62,7 @@ wildcard-ascii : IsOfAscii is_wildcard
 wildcard-ascii c h = or_from _ _ (or_from _ _ (ne_eqb c question_mark (λ e. omega arith)) (ne_eqb c star
     (λ e. omega arith))) (ne_eqb c open_bracket (λ e. omega arith))
 
--- a text has wildcards by its bytes as by its characters
+-- a text has wildcards by its bytes exactly if it has by its characters
 wild-chars : (t : Text) → IsUtf8 t → list_any is_wildcard (chars t) ≡ list_any is_wildcard t
 wild-chars t utf8 = sym (any-encodes is_wildcard wildcard-ascii (chars t)) ∙ ap (list_any is_wildcard) (encodes-chars t utf8)
 
@@ -73,7 +73,7 @@ pub literal_not_recursive : (t : Text) → list_any is_wildcard t ≡ false → 
 literal_not_recursive t e = false_from_ne_true (is_recursive t) (λ r. both_ways (list_any is_wildcard t) e
     (ap (list_any is_wildcard) (recursive_is t r)))
 
--- the pattern of a literal matches what is the same
+-- the pattern of a literal matches the texts that are the same
 literal-same : (o : MatchOptions) (t : Text) → IsUtf8 t → list_any is_wildcard t ≡ false → (cs : Text) → Matches o
     (chars t) cs ↔ SameTexts o.case_sensitive cs (chars t)
 literal-same o t utf8 literal cs = plain_matches_same one_reading o (chars t) cs (wild-chars t utf8 ∙ literal)
@@ -94,7 +94,7 @@ pub folded-literal : (o : MatchOptions) (t n : Text) → IsUtf8 t → IsUtf8 n �
 folded-literal o t n u v literal e =
     (match_decided o (chars t) (chars n)).1 ((literal-same o t u literal (chars n)).1 (folded-SameTexts o.case_sensitive n t v u e))
 
--- and itself, so that it is accepted
+-- a literal matches itself, so it is accepted
 pub literal-accepted : (t : Text) → IsUtf8 t → list_any is_wildcard t ≡ false → IsAccepted (chars t)
 literal-accepted t utf8 literal = accepted_by_match new_options (chars t) (chars t)
     (match-true new_options (chars t) (chars t) (folded-literal new_options t t utf8 utf8 literal refl))
@@ -126,7 +126,7 @@ lower-any [] = refl
 lower-any (c ∷ cs) = ap₂ (λ x y. x || y) (lower-wild c) (lower-any cs)
 
 module _ (o : MatchOptions) where
-  -- a key has wildcards where its component has them
+  -- a key has wildcards exactly if its component does
   pub key-wild : (t : Text) → list_any is_wildcard (key_of o t) ≡ list_any is_wildcard t
   key-wild t = by_test (o.case_sensitive || list_any is_wildcard t)
     where
@@ -147,7 +147,7 @@ module _ (o : MatchOptions) where
       by_test true w = ap is_recursive (key-itself t w)
       by_test false w = literal_not_recursive (key_of o t) (key-wild t ∙ w) ∙ sym (literal_not_recursive t w)
 
-  -- and it matches the same
+  -- a key matches the same names as its component
   pub key-match : (t : Text) → IsUtf8 t → (cs : Text) → is_match o (chars (key_of o t)) cs ≡ is_match o (chars t) cs
   key-match t utf8 cs = by_tests o.case_sensitive (list_any is_wildcard t) refl refl
     where
@@ -199,7 +199,7 @@ module _ (o : MatchOptions) where
           cond-false (o.case_sensitive || list_any is_wildcard (key_of o t)) _ _ (or_from o.case_sensitive _ sensitive (key-wild t ∙ wild))
           ∙ ap (map to_ascii_lowercase) key ∙ lower-lower t ∙ sym key
 
-  -- what a literal component is compared by is what is kept of it
+  -- a literal component is compared by the text that is kept of it
   pub literal-key : (t : Text) → list_any is_wildcard t ≡ false → key_of o t ≡ folded o.case_sensitive t
   literal-key t wild = by_test o.case_sensitive refl
     where

@@ -1,4 +1,4 @@
--- What components take, by the last of them and the last name.
+-- What components take, by the last component and the last name.
 use Rattle.std.proofs.Common.{◌≡◌, Bool, true, false, ◌&&◌, ◌||◌, List, [], ◌∷◌, ◌++◌, refl, ap, ap₂, sym, ◌∙◌}
 use Rattle.std.specs.Str.{chars}
 use mathlib.Core.Bool.{and-false, and-true, or-false}
@@ -10,13 +10,13 @@ use Rattle.glob_tree.specs.Content.{Key}
 use Rattle.glob_search.specs.Searching.{takes}
 use Rattle.glob_search.proofs.OrderLemmas.Beginnings.{takes-recursive, takes-other}
 
--- no component takes a name
+-- without components, no name is taken
 pub none-takes : (o : MatchOptions) (ns : Key) (n : Text) → takes o [] (ns ++ n ∷ []) ≡ false
 none-takes o [] n = refl
 none-takes o (m ∷ ms) n = refl
 
 module _ (o : MatchOptions) (t : Text) where
-  -- a component that is no `**` takes a name
+  -- a component that is not `**` takes one name
   pub other-last-none : is_recursive t ≡ false → (ts : List Text) → takes o (ts ++ t ∷ []) [] ≡ false
   other-last-none r [] = ap (λ b. b && true) r
   other-last-none r (u ∷ us) = ap (λ b. is_recursive u && b) (other-last-none r us) ∙ and-false (is_recursive u)
@@ -78,7 +78,7 @@ module _ (o : MatchOptions) (t : Text) where
           assoc true b k = refl
           assoc false b k = refl
 
-  -- `**` takes none, or one more name that is open to it
+  -- `**` takes no name, or one more name that is open to it
   pub recursive-last-none : is_recursive t ≡ true → (ts : List Text) → takes o (ts ++ t ∷ []) [] ≡ takes o ts []
   recursive-last-none r [] = ap (λ b. b && true) r
   recursive-last-none r (u ∷ us) = ap (λ b. is_recursive u && b) (recursive-last-none r us)

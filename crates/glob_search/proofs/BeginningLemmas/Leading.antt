@@ -1,4 +1,4 @@
--- A node that leads to one number more.
+-- A node that leads to one more number.
 use Rattle.std.proofs.Common.{◌≡◌, ◌≢◌, ℕ, ◌+◌, ◌-◌, ◌<◌, ◌≤◌, true, false, inl, inr, ⊎_elim, None, Some, List, [], ◌∷◌}
 use Rattle.std.proofs.Common.{◌++◌, length, get_or, string_bytes, refl, sym, ap, subst, ◌∙◌, arith, Err}
 use Rattle.std.specs.Prelude.{Contains}

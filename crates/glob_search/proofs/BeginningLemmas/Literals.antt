@@ -1,4 +1,4 @@
--- How a literal component is found among those that ascend.
+-- How a literal component is found in ascending literals.
 use Rattle.std.proofs.Common.{◌≡◌, ℕ, ◌+◌, ◌<◌, ⊎_elim, None, Some, List, [], ◌∷◌, length, get_or, string_bytes, refl}
 use Rattle.std.proofs.Common.{sym, ap, subst, ◌∙◌, arith, Err}
 use Rattle.std.specs.Prelude.{Contains}
@@ -16,7 +16,7 @@ use Rattle.glob_search.specs.Private.Nodes.{AreAscending, LiteralLeads}
 use Rattle.glob_search.specs.declared.beginnings.node.Literal.{Literal}
 use Rattle.glob_search.specs.declared.beginnings.node.Node.{Node}
 
--- texts that are as high as each other are one
+-- texts that compare as equal are equal
 pub cmp-equal : (xs ys : Text) → slice_cmp nat_cmp xs ys ≡ Equal → xs ≡ ys
 cmp-equal [] [] e = refl
 cmp-equal [] (y ∷ ys) e = absurd (cc)

@@ -1,4 +1,4 @@
--- What the numbers that are alive say of directories that are not listed.
+-- What the numbers that are alive say about directories that are not listed.
 use Rattle.std.proofs.Common.{◌≡◌, ℕ, Bool, true, false, not, ◌&&◌, ◌||◌, ⊎_elim, Some, List, map, string_bytes, refl, ap, sym, subst, ◌∙◌}
 use Rattle.std.specs.Prelude.{Contains, slice_get}
 use Rattle.std.specs.List.{list_all, list_any}

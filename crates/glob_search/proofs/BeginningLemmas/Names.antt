@@ -32,7 +32,7 @@ use Rattle.glob_search.proofs.BeginningLemmas.Queries.{alive-leads, child-alive,
 use Rattle.glob_search.proofs.BeginningLemmas.Trees.{literal-front, literal-within, wild-front}
 use Rattle.glob_search.proofs.OrderLemmas.Parts.{Contains-flat_map, Contains-map, flat_map-contains, map-contains}
 
--- texts that ascend strictly, by references to them
+-- strictly ascending texts, by references to them
 pub strict-pairs : (ys : List (Bor Text)) → IsStrictlySortedBy (λ x y. slice_cmp nat_cmp x.now y.now) ys → AllPairs
     (λ s t. slice_cmp nat_cmp s t ≡ Less) (map (λ y. y.now) ys)
 unfolding IsStrictlySortedBy
@@ -103,7 +103,7 @@ module _ (a : Aim) (names : Key) {A : Type 0} (b : Beginnings A) (bs : AreBeginn
     only = λ t in'. only-name t (back t in');
   }
 
--- the literals of a number more
+-- the literals of one more number
 pub texts-more : {A : Type 0} (nodes : List (Node A)) (numbers : List ℕ) (i : ℕ) → i < length numbers →
     (old new : List Text) → old ≡ flat_map (literal_texts nodes) (take i numbers)
     → new ≡ old ++ literal_texts nodes (get_or numbers i 0) → new ≡ flat_map (literal_texts nodes) (take (i + 1) numbers)

@@ -31,7 +31,7 @@ map-split f (x ∷ xs) (y ∷ ys) zs e =
     let (us, vs, parts, is) = map-split f xs ys zs rest in
     (x ∷ us, vs, ap (λ ws. x ∷ ws) parts, ap₂ (λ w ws. w ∷ ws) first is)
 
--- the empty beginning alone
+-- only the empty beginning
 module _ {A : Type 0} (fresh : Node A) (f : IsFresh false fresh) where
   abbrev none : ℕ → List Text
   none k = []
@@ -69,7 +69,7 @@ module _ {A : Type 0} (fresh : Node A) (f : IsFresh false fresh) where
     each = λ ts in'. absurd (Contains-nil ts in');
   }
 
--- a pattern more
+-- one more pattern
 pub beginnings-more : {A : Type 0} (o : MatchOptions) (patterns : List Text) (pattern : Text) (b b' : Beginnings A)
     (bs : AreBeginnings o patterns b) → b'.options ≡ b.options
     → Added b.options b.nodes.items b'.nodes.items bs.front pattern → AreBeginnings o (patterns ++ pattern ∷ []) b'

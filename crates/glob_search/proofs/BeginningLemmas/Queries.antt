@@ -1,4 +1,4 @@
--- What the numbers that are alive say of patterns: whether one is found, goes on, or is looked up.
+-- What the numbers that are alive say about patterns: whether a pattern is found, goes on, or is looked up.
 use Rattle.std.proofs.Common.{◌≡◌, ℕ, ◌<◌, Bool, true, false, not, ◌&&◌, ◌||◌, ⊎_elim, Option, None, Some, List, []}
 use Rattle.std.proofs.Common.{◌∷◌, ◌++◌, length, map, string_bytes, vec_len, refl, ap, sym, subst, ◌∙◌, arith}
 use Rattle.std.specs.Prelude.{Contains, slice_get, unwrap_or, option_map}
@@ -162,7 +162,7 @@ module _ (a : Aim) (names : Key) {A : Type 0} (b : Beginnings A) (bs : AreBeginn
         key,
       )) (bs.begun c lt)
 
-  -- and what ends in `**` goes on
+  -- what ends in `**` goes on
   pub deep-alive : (k : ℕ) → Contains numbers k → ends_recursive (bs.front k) ≡ true
       → (us : List Text) × (x : Text) × Contains (alive a names) (us, x) × (ends_recursive us ≡ true)
   deep-alive k in' ends = ⊎_elim

@@ -1,4 +1,4 @@
--- Which patterns are refused, and by which fault.
+-- Which patterns are refused, and with which fault.
 use Rattle.std.proofs.Common.{◌≡◌, ℕ, zero, suc, ◌+◌, ◌<◌, List, [], ◌∷◌, length, map, take, get_or, sym, subst, ◌∙◌}
 use Rattle.std.proofs.Common.{refl, arith, below_more, Result, Ok, Err, IfErr}
 use Rattle.std.specs.List.{All}
@@ -70,7 +70,7 @@ pub memory-alone-of : {X : Type 0} (t : Text) (r : Result X PatternRefusal) → 
 memory-alone-of t (Ok x) accepted h = tt
 memory-alone-of t (Err x) accepted h = memory-alone t x accepted h
 
--- of some patterns the first that is refused
+-- the first refused pattern
 pub refuses-pattern : {X : Type 0} (f : X → Text) (xs : List X) (i : ℕ) (d : X) → i < length xs
     → ((k : ℕ) → k < i → AreAccepted (readings (get_or (map f xs) k []))) → (r : PatternRefusal)
     → RefusesFirst (readings (f (get_or xs i d))) r → RefusesPatterns (map f xs) (refusal_of i r)

@@ -24,7 +24,7 @@ high_stays : (bs : List ℕ) → AreHigh bs → map to_ascii_lowercase bs ≡ bs
 high_stays [] h = refl
 high_stays (b ∷ bs) (h, hs) = ap (λ x. x ∷ map to_ascii_lowercase bs) ((lowercase_is b).2 h) ∙ ap (λ xs. b ∷ xs) (high_stays bs hs)
 
--- nor is one of a character beyond ASCII
+-- no byte of a character beyond ASCII is a letter of ASCII
 encode_high : (c : ℕ) → 128 ≤ c → AreHigh (encode c)
 unfolding encode
 encode_high c high =
@@ -36,7 +36,7 @@ encode_high c high =
     cond_both (ltb c 128) _ _ AreHigh (λ _. one) (λ _. cond_both (ltb c 2048) _ _ AreHigh (λ _. two) (λ _. cond_both
     (ltb c 65536) _ _ AreHigh (λ _. three) (λ _. four)))
 
--- letters are made small in the bytes as in the characters
+-- lowering the bytes lowers the characters
 encode_lower : (c : ℕ) → map to_ascii_lowercase (encode c) ≡ encode (to_ascii_lowercase c)
 encode_lower c =
     ⊎_elim (λ low. ap (map to_ascii_lowercase) (encode_ascii c low) ∙ sym (encode_ascii (to_ascii_lowercase c) (lowercase_ascii c low)))
@@ -68,7 +68,7 @@ lower-scalars (c ∷ cs) e =
 pub lowered : (text : Text) → IsUtf8 text → IsUtf8 (map to_ascii_lowercase text)
 lowered text u = (map to_ascii_lowercase u.0, (lower-scalars u.0 u.1.0, sym (encodes_lower u.0) ∙ ap (map to_ascii_lowercase) u.1.1))
 
--- characters are the same case-insensitively exactly if they are equal once letters are made small
+-- characters are the same case-insensitively exactly if they are equal in lower case
 small_from_same : (c x : ℕ) → IsTrue (is_same false c x) → to_ascii_lowercase c ≡ to_ascii_lowercase x
 small_from_same c x h =
     ⊎_elim (λ e. ap to_ascii_lowercase (eqb-true c x e))
@@ -78,7 +78,7 @@ small_from_same c x h =
 same_from_small : (c x : ℕ) → to_ascii_lowercase c ≡ to_ascii_lowercase x → IsTrue (is_same false c x)
 same_from_small c x e = grind (arith, rules, e)
 
--- and so are texts
+-- the same for texts
 small_from_SameTexts : (xs ys : Text) → SameTexts false xs ys → map to_ascii_lowercase xs ≡ map to_ascii_lowercase ys
 small_from_SameTexts [] [] h = refl
 small_from_SameTexts [] (y ∷ ys) h = absurd (omega (arith, h.0))
@@ -121,7 +121,7 @@ lower-twice : (cs : Text) → map to_ascii_lowercase (map to_ascii_lowercase cs)
 lower-twice [] = refl
 lower-twice (c ∷ cs) = λ i. lowercase-lowercase c i ∷ lower-twice cs i
 
--- a text is the same as one exactly if it is the same as that in lower case
+-- a text is the same as another exactly if it is the same as the other in lower case
 pub SameTexts-lower : (cs text : Text) → IsUtf8 text → SameTexts false cs (chars text) ↔ SameTexts false cs
     (chars (map to_ascii_lowercase text))
 SameTexts-lower cs text utf8 =

@@ -1,4 +1,4 @@
--- What is alive in a tree of beginnings, at the start and after a further name.
+-- What is alive in a tree of beginnings, at the start and after one more name.
 use Rattle.std.proofs.Common.{◌≡◌, ℕ, zero, suc, ◌<◌, true, false, ◌&&◌, ◌⊎◌, inl, inr, ⊎_elim, Some, List, [], ◌∷◌}
 use Rattle.std.proofs.Common.{◌++◌, length, string_bytes, refl, ap, sym, subst, ◌∙◌, arith}
 use Rattle.std.specs.Prelude.{Contains, slice_get}
@@ -76,7 +76,7 @@ module _ {A : Type 0} (o : MatchOptions) (nodes : List (Node A)) (front : ℕ �
   pub deep-within : (k : ℕ) (node : Node A) (d : ℕ) → slice_get nodes k ≡ Some node → node.deep ≡ Some d → d < length nodes
   deep-within k node d at is = (inside k node at).deep d is
 
-  -- how a number is led to: it is the first, or by a component that is no `**`, or by one
+  -- what leads to a number: nothing (it is the first), a component other than `**`, or `**`
   pub record ByOther (c : ℕ) : Type 0 where
     pub parent : ℕ
     pub node : Node A
@@ -169,7 +169,7 @@ module _ {A : Type 0} (o : MatchOptions) (nodes : List (Node A)) (front : ℕ �
           (λ two. absurd (no-second up.parent two up.node up.at up.last))) (led-by up.parent
           (slice_get_within nodes up.parent up.node up.at))
 
-  -- after a further name
+  -- after one more name
   module _ (names : Key) (name : Text) (utf8 : IsUtf8 name) (alive next : List ℕ) (taken : AreTaken o front (length nodes) names alive)
       (adds : Adds (StepsFrom nodes o name (folded o.case_sensitive name) alive) [] next) where
     Live : ℕ → Type 0
@@ -238,7 +238,7 @@ module _ {A : Type 0} (o : MatchOptions) (nodes : List (Node A)) (front : ℕ �
             ∙ or_right (takes o us (names ++ name ∷ [])) _ (and_from (is_open o name) (takes o (us ++ t ∷ []) names)
             open' (ap (λ ts. takes o ts names) (sym is) ∙ h))
 
-    -- what a component that is no `**` leads to, and what is enlivened with it
+    -- what a component other than `**` leads to, and what becomes alive with it
     other-next : (c k : ℕ) → ByOther c → takes o (front c) (names ++ name ∷ []) ≡ true → Enlivens nodes c k → Contains next k
     other-next c k up h e =
         let (above, match) = takes-less c up.parent up.text up.front_is up.other h in

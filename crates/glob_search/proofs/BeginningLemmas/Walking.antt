@@ -29,7 +29,7 @@ pub walked-push : (o : MatchOptions) (ts : List Text) (t : Text) → walked (map
     (walked (map (key_of o) ts)) (key_of o t)
 walked-push o ts t = ap walked (map-append (key_of o) ts (t ∷ [])) ∙ fold-push pushed [] (map (key_of o) ts) (key_of o t)
 
--- a component more only adds
+-- one more component only adds
 pub pushed-on : (ts : List Text) (t : Text) → (rest : List Text) × (pushed ts t ≡ ts ++ rest)
 pushed-on ts t = by_test (ends_recursive ts && is_recursive t)
   where
@@ -44,7 +44,7 @@ finished-on ts = by_test (ends_recursive ts)
     by_test true = ((star ∷ []) ∷ [], refl)
     by_test false = ([], sym (append-nil ts))
 
--- what grew along a path grows on along a longer one
+-- a tree that grew along a path can go on growing along a longer one
 pub GrownTo-then : {A : Type 0} (o : MatchOptions) (old now new : List (Node A)) (front : ℕ → List Text)
     (path further : List Text) (c d : ℕ) (a : GrownTo o old now front path c)
     → ((rest : List Text) × (further ≡ path ++ rest)) → GrownTo o now new a.front' further d → GrownTo o old new front further d
@@ -88,7 +88,7 @@ pub finished-walked : (ts : List Text) → finished (walked ts) ≡ ended ts
 finished-walked [] = refl
 finished-walked (t ∷ ts) = walked-from [] t ts
 
--- keys keep what `**` there is
+-- the keys have the same `**`
 pub keys-ended : (o : MatchOptions) (ts : List Text) → ended (map (key_of o) ts) ≡ map (key_of o) (ended ts)
 keys-ended o [] = refl
 keys-ended o (t ∷ []) = by_test (is_recursive t) refl
@@ -132,7 +132,7 @@ utf8-ended (t ∷ u ∷ us) h = by_test (is_recursive t && is_recursive u) (utf8
     by_test true next = next
     by_test false next = All-cons IsUtf8 t (ended (u ∷ us)) (All-head IsUtf8 t (u ∷ us) h) next
 
--- and then the last one is marked
+-- then the last one is marked
 pub added-from : {A : Type 0} (o : MatchOptions) (old now new : List (Node A)) (front : ℕ → List Text) (pattern : Text) (end : ℕ)
     → (a : GrownTo o old now front (finished (walked (map (key_of o) (pieces pattern)))) end) → All IsUtf8
     (pieces pattern) → IsTree o new a.front' → IsMarked now new end

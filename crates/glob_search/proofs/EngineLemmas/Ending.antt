@@ -1,4 +1,4 @@
--- What is left of a search falls with each path and fault that it gives.
+-- Each path and each fault that a search gives leaves less to come.
 use Rattle.std.proofs.Common.{◌≡◌, ℕ, ◌+◌, ◌<◌, ◌≤◌, true, false, List, [], ◌∷◌, ◌++◌, length, Option, None, Some}
 use Rattle.std.proofs.Common.{Bool, Result, Ok, Err, get_or, map, refl, ap, sym, subst, ◌∙◌, arith}
 use Rattle.std.specs.Prelude.{Contains, IfErr, OnOk, String, string_bytes, sum_by, vec_len}
@@ -35,7 +35,7 @@ last_left-some None (g ∷ front) rest f = refl
 last_left-at : {A : Type 0} (o : Option (Opening A)) (fs front : List (Frame A)) (f : Frame A) → fs ≡ front ++ f ∷ [] → last_left o fs ≡ 1
 last_left-at o fs front f is = ap (last_left o) is ∙ last_left-some o front [] f
 
--- nothing is left where nothing is left to do
+-- nothing is left if nothing is left to do
 pub done-left : {A : Type 0} (w : Way A) → IsDone w → (last_left w.entering w.frames.items ≡ 0) × (unmet w ≡ 0)
 done-left {A} w (free, none) =
     let fs = no-items w.frames none in (
@@ -43,7 +43,7 @@ done-left {A} w (free, none) =
       ap (λ (fs : List (Frame A)). sum_by (λ f. vec_len f.entries) fs) fs,
     )
 
--- the entries of the last directory, and of those above it
+-- the entries of the last directory, and of the directories above it
 unmet-last : {A : Type 0} (fs front : List (Frame A)) (f : Frame A) → fs ≡ front ++ f ∷ []
     → sum_by (λ (g : Frame A). vec_len g.entries) fs ≡ sum_by (λ (g : Frame A). vec_len g.entries) front + vec_len f.entries
 unmet-last {A} fs front f is =
@@ -77,7 +77,7 @@ module _ {A : Type 0} (files : List Text) (old new : Way A) where
       let before = unmet-last old.frames.items new.frames.items next.last next.before in
       omega (arith, before, ap length next.none, next.last.entries.ok.0)
 
--- a fault of a listing is none of rules, and it was paid for
+-- a fault of a listing is not a fault of rules, and it was paid for
 pub listing-fits : {A : Type 0} (files : List Text) (m n : ℕ) (f : SearchFault A) → IsOfListing m n f → FitsFiles files f
 listing-fits files m n (fault.Unread path e) h = tt
 listing-fits files m n (fault.UnreadRules path e) h = absurd h
@@ -99,7 +99,7 @@ rules-fit files (fault.RefusedRules path refusals) h = h
 rules-fit files fault.Limit h = tt
 rules-fit files fault.Memory h = tt
 
--- a last fault is one of any kind
+-- a last fault may be of any kind
 pub last-listing : {A : Type 0} (m n : ℕ) (f : SearchFault A) → is_last f ≡ true → IsOfListing m n f
 last-listing m n (fault.Unread path e) h = absurd (false≢true h)
 last-listing m n (fault.UnreadRules path e) h = absurd (false≢true h)
@@ -117,7 +117,7 @@ pub last-fits-of : {A B : Type 0} (files : List Text) (r : Result B (SearchFault
 last-fits-of files (Ok x) h = tt
 last-fits-of files (Err f) h = listing-fits files 0 0 f (last-listing 0 0 f h)
 
--- a directory that is entered next is no frame yet
+-- a directory that is entered next is not a frame yet
 pub enters-frames : {A B : Type 0} (b : Bool) (path : Text) (alive : List ℕ) (u v : Way A) (r : Result B (SearchFault A))
     → OnOk r (MayEnter b path alive u v) → OnOk r (v.frames ≡ u.frames)
 enters-frames b path alive u v (Err f) h = tt

@@ -1,4 +1,4 @@
--- What comes of a directory once what is in it was found out.
+-- What a directory gives once its entries are known.
 use Rattle.std.proofs.Common.{◌≡◌, ◌≢◌, Bool, true, false, not, ◌&&◌, ⊎_elim, List, [], ◌∷◌, ◌++◌, flat_map, map}
 use Rattle.std.proofs.Common.{Option, Some, None, Result, Ok, Err, refl, ap, sym, subst, ◌∙◌, arith}
 use Rattle.std.specs.Prelude.{Contains, IfErr, IfOk, Vec, filter_map, option_map, reverse}
@@ -62,7 +62,7 @@ alive-utf8 a begun begins names b in' =
 same-unfolded : (case : Bool) (n t : Text) → case ≡ true → folded case n ≡ folded case t → t ≡ n
 same-unfolded case n t sensitive h = sym (ap (λ b. folded b n) (sym sensitive) ∙ h ∙ ap (λ b. folded b t) sensitive)
 
--- what comes of entries, by their names
+-- what entries give, by their names
 pub entries-by_name : {A : Type 0} (c : Content) (a : Aim) (names : Key) (es : List (Entry A))
     → entries_left c a names es ≡ flat_map (met c a names) (reverse (names_of (entries_of es)))
 entries-by_name {A} c a names es =
@@ -115,7 +115,7 @@ module _ (c : Content) (w : IsContent c) (a : Aim) (names : Key) (there : is_dir
       let same : (n, is_dir kind) ≡ e = same_Some (n, is_dir kind) e h in
       (kind, refl, ap (λ d. d.0) same, ap (λ d. d.1) same)
 
-  -- and one of which names were looked up
+  -- a directory in which names were looked up
   module _ {A : Type 0} (b : Beginnings A) (begins : AreBeginnings a.options a.patterns b)
       (unlisted : is_listed a names ≡ false) (texts : List Text) (all : AreNames texts (alive a names)) where
     abbrev look : Text → Option DirEntry

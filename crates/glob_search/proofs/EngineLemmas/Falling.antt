@@ -1,4 +1,4 @@
--- Entries that fall: each name is less than those before it.
+-- Descending entries: each name is less than the names before it.
 use Rattle.std.proofs.Common.{◌≡◌, ⊎_elim, Some, List, [], ◌∷◌, ◌++◌, map, ap, sym, subst, ◌∙◌}
 use Rattle.std.specs.Prelude.{Contains}
 use Rattle.std.specs.Borrow.{Bor}
@@ -24,7 +24,7 @@ use Rattle.glob_search.proofs.EngineLemmas.Ordered.{falls, same_name}
 use Rattle.glob_search.proofs.EngineLemmas.Rising.{IsLess, Rises, same-from_equal}
 use Rattle.glob_search.proofs.OrderLemmas.Parts.{Contains-one}
 
--- how entries compare from the last name on is a total order
+-- comparing entries in descending order of names is a total order
 down-total : {A : Type 0} → IsTotalOrder (λ (x y : Entry A). slice_cmp nat_cmp y.name x.name)
 down-total = record {
   antisymm = λ x y. nat_list_cmp_total.antisymm y.name x.name;
@@ -42,7 +42,7 @@ strict-falls {A} (e ∷ es) h = (
   strict-falls es h.1,
 )
 
--- sorted from the last name on, and each name kept once
+-- sorted in descending order, with each name kept once
 pub falls-once : {A : Type 0} (sorted : List (Entry A)) → IsSortedBy falls sorted → AreFalling (dedup same_name sorted)
 falls-once {A} sorted up = strict-falls (dedup same_name sorted)
     (IsStrictlySortedBy-dedup (down-total {A = A}) (λ x y. nat_list_eq_equiv.symm x.name y.name ∙ sym
@@ -79,7 +79,7 @@ rises-before (x ∷ ns) n h =
           (Contains-append_cases (x ∷ []) ns m in'),
     )
 
--- names that are still to be looked up rise, and come before the entries that were seen
+-- the names still to be looked up ascend, and come before the entries that were seen
 pub record AreBefore {A : Type 0} (names : List Text) (entries : List (Entry A)) : Type 0 where
   pub rise : Rises names
   pub fall : AreFalling entries
@@ -106,7 +106,7 @@ before-none {A} names rest name entries is h =
           (Contains-append_left (now rest) (name.now ∷ []) n in') e there;
     }
 
--- it is that of an entry
+-- the last name belongs to an entry
 pub before-some : {A : Type 0} (names rest : List (Bor Text)) (name : Bor Text) (entries made : List (Entry A))
     (e : Entry A) → names ≡ rest ++ name ∷ [] → e.name ≡ name.now
     → made ≡ entries ++ e ∷ [] → AreBefore (map (λ t. t.now) names) entries → AreBefore (map (λ t. t.now) rest) made

@@ -16,7 +16,7 @@ use Rattle.glob_search.specs.States.{HasGiven}
 use Rattle.glob_search.specs.Visiting.{gifts}
 use Rattle.glob_search.specs.Private.Engine.{AreFrames, IsBelow, IsFor, IsOpening, IsReady, Ready, file_names, lists_of}
 use Rattle.glob_search.specs.Private.Finding.{Find, state_of}
-use Rattle.glob_search.specs.Private.Hearing.{after, heard_of}
+use Rattle.glob_search.specs.Private.Active.{active_lists}
 use Rattle.glob_search.specs.Private.Nodes.{AreAlive}
 use Rattle.glob_search.specs.Private.Ways.{frame_left, names_in, opening_left, search_left, visited}
 use Rattle.glob_search.specs.Private.Weights.{last_left, unmet}
@@ -28,7 +28,7 @@ use Rattle.glob_search.proofs.EngineLemmas.Ending.{last_left-most}
 use Rattle.glob_search.proofs.EngineLemmas.Visits.{gifts-visited}
 
 module _ {A : Type 0} (c : Content) (content : is_content c ≡ true) (known : Text → Option Text) (a : Aim) (s : Searcher A)
-    (for : IsFor a s) (heard : heard_of s.heard.files.items ≡ after 0 a.last) (none : s.way.frames.items ≡ []) where
+    (for : IsFor a s) (active : active_lists s.active.files.items ≡ []) (none : s.way.frames.items ≡ []) where
   no-frames : reverse s.way.frames.items ≡ []
   no-frames = ap reverse none
 
@@ -37,7 +37,7 @@ module _ {A : Type 0} (c : Content) (content : is_content c ≡ true) (known : T
     for = for;
     frames = subst (AreFrames c a s.beginnings (length (file_names s))) (sym no-frames) tt;
     opening = opening;
-    heard = heard ∙ sym (ap (lists_of a) no-frames);
+    active = active ∙ sym (ap (lists_of a) no-frames);
   }
 
   left-of : search_left c a s ≡ opening_left c a s.way.entering
@@ -67,7 +67,7 @@ module _ {A : Type 0} (c : Content) (content : is_content c ≡ true) (known : T
             ∙ sym (left-of ∙ ap (opening_left c a) is);
       }
 
-  -- nothing is
+  -- nothing is entered next
   pub fresh-none : s.way.entering ≡ None → s.depth ≡ 0 → HasGiven {P = Find A} (gifts c a) c a known [] (state_of s)
   fresh-none is flat = record {
     agrees = Ready (begun (subst (λ e. ForSome e (IsOpening c s.beginnings (reverse s.way.frames.items))) (sym is) (λ d h. absurd (cc))));
@@ -76,7 +76,7 @@ module _ {A : Type 0} (c : Content) (content : is_content c ≡ true) (known : T
         ∙ sym (left-of ∙ ap (opening_left c a) is);
   }
 
--- at most one item comes of each unit of the limit, and a last fault
+-- each unit of the limit gives at most one item, and there may be a last fault
 pub fresh-few : {A : Type 0} (limit : ℕ) (w : Way A) → w.frames.items ≡ []
     → ((limit - 0) + unmet w) + last_left w.entering w.frames.items ≤ limit + 1
 fresh-few {A} limit w none =

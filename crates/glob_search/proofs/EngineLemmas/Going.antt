@@ -19,7 +19,7 @@ use Rattle.glob_search.specs.declared.searcher.Searcher.{Searcher}
 pub same-files : {A : Type 0} (s t : Searcher A) → t.rule_files ≡ s.rule_files → file_names t ≡ file_names s
 same-files s t is = ap (λ v. map (λ f. string_bytes f) v.items) is
 
--- after the last fault nothing is claimed
+-- after the last fault there is no claim
 pub ends-fault : {A : Type 0} (c : Content) (a : Aim) (known : Text → Option Text) (all given : List Gift) (f : SearchFault A)
     (s : Searcher A) → is_last f ≡ true → GivesNext {P = Find A} all c a known given (Some (Err f)) (state_of s)
 ends-fault c a known all given (fault.Unread path e) s h = absurd (cc)

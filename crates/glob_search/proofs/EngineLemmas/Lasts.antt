@@ -44,7 +44,7 @@ map-reverse f (x ∷ xs) =
     ∙ ap (λ ys. ys ++ f x ∷ []) (map-reverse f xs)
     ∙ sym (reverse-append (f x ∷ []) (map f xs))
 
--- what holds of all holds of those before the last, and of the last
+-- what holds for all elements holds for the last and for those before it
 pub All-before : {X : Type 0} (P : X → Type 0) (xs : List X) (x : X) → All P (xs ++ x ∷ []) → All P xs
 All-before P xs x all = All-from_contains P xs (λ y in'. All-contains P (xs ++ x ∷ []) y all (Contains-append_left xs (x ∷ []) y in'))
 

@@ -71,7 +71,7 @@ module _ (c : Content) (w : IsContent c) (names : Key) (there : is_dir_at c (c.c
       (entries_of es) h) (map-contains f es e (f e) in' refl) in
       child-entry LookedUp e (f e) (IsChild-list_result c w at (f e) child) refl (λ d same. cc)
 
-  -- all of one that can
+  -- all entries of a directory that can be listed
   pub listed-all : {A : Type 0} (source : Source) (es made : List (Entry A)) → IsSourceAnswer source (list_result c text) (entries_of es)
       → (IsPermutation (names_of (children c at)) (names_of (entries_of es)) → IsPermutation es made ×
       (names_of (entries_of made) ≡ names_down c names))

@@ -1,4 +1,4 @@
--- What was looked up of a directory is all that gives something.
+-- The entries that were looked up in a directory are all that give something.
 use Rattle.std.proofs.Common.{◌≡◌, Bool, true, false, ⊎_elim, List, [], ◌∷◌, ◌++◌, flat_map, map, Option, Some, None}
 use Rattle.std.proofs.Common.{refl, ap, ap₂, sym, subst, ◌∙◌}
 use Rattle.std.specs.Prelude.{Contains, bytes_eq, filter_map, reverse}
@@ -14,7 +14,7 @@ use Rattle.glob_search.proofs.EngineLemmas.Lasts.{reverse-last}
 use Rattle.glob_search.proofs.EngineLemmas.Rising.{IsLess, Rises, less-not_same, less-trans}
 use Rattle.glob_search.proofs.OrderLemmas.Parts.{Contains-map}
 
--- Of ascending names, those that are not among others give nothing: the others give as much.
+-- If the names that are missing from a sublist give nothing, the sublist gives the same as all ascending names.
 pub some-give : {Y : Type 0} (give : Text → List Y) (some all : List Text) → Rises some → Rises all →
     ((n : Text) → Contains some n → Contains all n)
     → ((n : Text) → Contains all n → (Contains some n → ⊥) → give n ≡ []) → flat_map give some ≡ flat_map give all
@@ -55,7 +55,7 @@ some-give give (s ∷ some) (n ∷ all) up down into none = by_test (bytes_eq s 
         differ : bytes_eq s n ≡ false → bytes_eq s n ≡ true → ⊥
         differ h k = both_ways (bytes_eq s n) h k
 
--- the names of which something is kept ascend where all do
+-- if all names ascend, the names that are kept ascend
 pub rises-kept : (look : Text → Option DirEntry) → ((n : Text) (e : DirEntry) → look n ≡ Some e → e.0 ≡ n) → (ns : List Text) → Rises ns
     → Rises (map (λ e. e.0) (filter_map look ns))
 rises-kept look named [] up = tt
@@ -101,7 +101,7 @@ module _ {X : Type 0} (v : X → Text) (look : Text → Option DirEntry) (all : 
   looking-none es before is =
       before ∙ ap (λ ns. es ++ filter_map look ns) from-last ∙ ap (λ o. es ++ cons_option o (filter_map look (reverse (map v ys)))) is
 
-  -- and one that is
+  -- a name that is there
   pub looking-some : (es more : List DirEntry) (e : DirEntry) → all ≡ es ++ filter_map look (reverse (map v xs)) → look
       (v x) ≡ Some e → more ≡ es ++ e ∷ []
       → all ≡ more ++ filter_map look (reverse (map v ys))

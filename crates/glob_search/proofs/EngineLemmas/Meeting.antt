@@ -1,4 +1,4 @@
--- What comes of an entry that is met.
+-- What an entry that is met gives.
 use Rattle.std.proofs.Common.{◌≡◌, ℕ, ◌<◌, ◌≤◌, Bool, true, false, cond, ◌&&◌, List, [], ◌∷◌, ◌++◌, flat_map}
 use Rattle.std.proofs.Common.{length, Option, Some, None, Result, Ok, Err, refl, ap, ap₂, sym, subst, ◌∙◌, arith}
 use Rattle.std.specs.Prelude.{IfErr, IfOk, OnOk, String, nat_lt, reverse, string_bytes, unwrap_or}
@@ -19,7 +19,7 @@ use Rattle.glob_search.specs.Private.Engine.{AreFrames, IsBelow, IsFrame, IsKind
 use Rattle.glob_search.specs.Private.Engine.{IsOpening, IsReady, Keeps, Ready, Turns, file_names, found_if}
 use Rattle.glob_search.specs.Private.Engine.{frame_names, lists_of, met_in}
 use Rattle.glob_search.specs.Private.Faults.{is_last}
-use Rattle.glob_search.specs.Private.Hearing.{Hears}
+use Rattle.glob_search.specs.Private.Active.{AreActive}
 use Rattle.glob_search.specs.Private.Listings.{IsEntry}
 use Rattle.glob_search.specs.Private.Nodes.{AreAlive}
 use Rattle.glob_search.specs.Private.Steps.{MayEnter}
@@ -94,7 +94,7 @@ module _ (c : Content) (a : Aim) (names : Key) (n : Text) (kind : Kind) (held : 
   abbrev on : Bool
   on = nat_lt (length key) a.depth && goes_on a key
 
-  -- what comes of it, where nothing ignores it
+  -- what it gives, if nothing ignores it
   abbrev kept : List Gift
   kept = cond (a.is_wanted kind && is_taken a key) (Found key ∷ []) [] ++ cond (on && is_dir kind) (visited c a key) []
 
@@ -144,13 +144,13 @@ module _ {A : Type 0} (c : Content) (w : IsContent c) (a : Aim) (known : Text �
   abbrev on' : Bool
   on' = nat_lt (length key') a.depth && goes_on a key'
 
-  pub hears : Hears a names s.heard
-  hears = record { first = ready.for.first; files = ready.heard ∙ ap (lists_of a) is }
+  pub are_active : AreActive a names s.active
+  are_active = record { first = ready.for.first; files = ready.active ∙ ap (lists_of a) is; last = ready.for.last }
 
   abbrev before : List Gift
   before = met c a names n ++ search_left c a s
 
-  -- what is left if it is not entered, or is
+  -- what is left if it is not entered, and if it is
   after-take : (t : Searcher A) (b : Bool) (path : Text) (alive : List ℕ) → b ≡ (on' && is_dir kind) → path ≡ path_of
       key' → AreAlive s.beginnings key' alive
       → t ≡ record s { meter = t.meter; way = t.way } → MayEnter b path alive s.way t.way
@@ -174,11 +174,17 @@ module _ {A : Type 0} (c : Content) (w : IsContent c) (a : Aim) (known : Text �
         below = subst (IsBelow (names_in (string_bytes o.path))) (sym (fs-same ∙ is)) (n, in-path);
       } in (
         subst (IsReady c a) (sym same) (record {
-          for = record { beginnings = ready.for.beginnings; depth = ready.for.depth; wanted = ready.for.wanted; first = ready.for.first };
+          for = record {
+            beginnings = ready.for.beginnings;
+            depth = ready.for.depth;
+            wanted = ready.for.wanted;
+            first = ready.for.first;
+            last = ready.for.last;
+          };
           frames = subst (AreFrames c a s.beginnings (length (file_names s))) (sym fs-same) ready.frames;
           opening = subst (λ e. ForSome e (IsOpening c s.beginnings (reverse t.way.frames.items))) (sym enters.next)
               (λ d h. subst (IsOpening c s.beginnings (reverse t.way.frames.items)) (same_Some o d h) opening);
-          heard = ready.heard ∙ sym (ap (lists_of a) fs-same);
+          active = ready.active ∙ sym (ap (lists_of a) fs-same);
         }),
         ap₂ (λ gs hs. gs ++ hs) (ap (λ b. cond b (visited c a key') []) (sym b-is)) (left-free c a s free)
             ∙ ap (λ k. visited c a k ++ flat_map (frame_left c a) (reverse s.way.frames.items)) (sym in-path)
@@ -265,12 +271,12 @@ module _ {A : Type 0} (c : Content) (w : IsContent c) (a : Aim) (known : Text �
     rest = ap (λ gs. gs ++ search_left c a s) none ∙ left-charged c a s t same;
   }
 
-  -- it is ignored whatever kind it is looked at as
+  -- it is ignored, whatever its kind is taken to be
   pub ignored-same : (goes : Bool) (d : Option Bool) → ForSome d (λ e. e ≡ is_dir kind) → (d ≡ None → (goes ≡ false)
       × IsKindless s) → is_ignored a key' (unwrap_or d false) ≡ is_ignored a key' (is_dir kind)
   ignored-same goes None learned matters =
       let k = (matters refl).1 in
-      k.none a names n false hears ∙ sym (k.none a names n (is_dir kind) hears)
+      k.none a names n false are_active ∙ sym (k.none a names n (is_dir kind) are_active)
   ignored-same goes (Some e) learned matters = ap (is_ignored a key') (learned e refl)
 
 -- what is charged, and what is on the way

@@ -27,11 +27,11 @@ use Rattle.glob_search.specs.Private.Listings.{names_down}
 use Rattle.glob_search.proofs.EngineLemmas.Lasts.{map-reverse}
 use Rattle.glob_search.proofs.OrderLemmas.Parts.{Contains-map}
 
--- the order of a sort from the last name on
+-- the order of a descending sort
 abbrev pub falls : {A : Type 0} → Entry A → Entry A → Bool
 falls x y = is_lt (slice_cmp nat_cmp y.name x.name)
 
--- what a sort from the last name on leaves ascends from its end
+-- the result of a descending sort, read from its end, ascends
 sorted-back : {A : Type 0} (xs : List (Entry A)) → IsSortedBy falls xs → IsSortedByKey (λ e. e.name) (slice_cmp nat_cmp) (reverse xs)
 sorted-back xs up k d low high =
     let long : length (reverse xs) ≡ length xs = length-reverse xs in
@@ -60,7 +60,7 @@ names-back {A} es =
     let n : DirEntry → Text = λ e. e.0 in
     ap (map n) (map-reverse f es) ∙ map-reverse n (entries_of es)
 
--- names that are apart stay so in any order
+-- distinct names stay distinct in any order
 distinct-names : (es : List DirEntry) → AreApart es → IsDistinct bytes_eq (names_of es)
 unfolding IsDistinct
 distinct-names [] apart = tt
@@ -74,7 +74,7 @@ distinct-names (e ∷ es) apart = (
 abbrev pub same_name : {A : Type 0} → Entry A → Entry A → Bool
 same_name x y = bytes_eq x.name y.name
 
--- nothing is twice where names are distinct
+-- if names are distinct, nothing is there twice
 dedup_from-distinct : {A : Type 0} (k : Entry A) (es : List (Entry A)) → IsDistinct bytes_eq
     (names_of (entries_of (k ∷ es))) → dedup_from same_name k es ≡ k ∷ es
 unfolding IsDistinct
@@ -116,7 +116,7 @@ ordered {A} c w names es sorted made all moved down is =
           (sym (names-back sorted) ∙ order),
     )
 
--- the order from the last name on is one
+-- the descending order is unique
 pub falls-ranks : {A : Type 0} → IsStrictWeakOrder (falls {A = A})
 falls-ranks {A} =
     let up = ranks_by nat_list_cmp_total (λ (e : Entry A). e.name) in

@@ -1,4 +1,4 @@
--- Files with rules that are passed over.
+-- Ignore files that are skipped.
 use Rattle.std.proofs.Common.{◌≡◌, ℕ, ◌+◌, ◌<◌, ◌≤◌, List, [], ◌∷◌, ⊎_elim, length, get_or, refl, ap, sym, subst, ◌∙◌, arith}
 use Rattle.std.specs.Prelude.{Vec, vec_len}
 use Rattle.std.proofs.Math.Nat.{eq-or-lt_of_le}
@@ -20,7 +20,7 @@ absent-of first now n name is a =
     let s : IsAbsent (record first { files = n }) name = subst (λ f. IsAbsent (record f { files = n }) name) is a in
     record { known = s.known; absent = s.absent }
 
--- one file more
+-- one more file
 pub absent-more : {A : Type 0} (first : Frame A) (names : List Text) (low n : ℕ) (name : Text) → ((k : ℕ) → low ≤ k
     → k < n → IsAbsent first (get_or names k []))
     → get_or names n [] ≡ name → IsAbsent first name → (k : ℕ) → low ≤ k → k < n + 1 → IsAbsent first (get_or names k [])

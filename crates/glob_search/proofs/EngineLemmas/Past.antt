@@ -81,7 +81,7 @@ ahead-same : {A : Type 0} (names : Key) (f g : Frame A) (fs : List (Frame A)) �
     → IsAhead names (f ∷ fs) → IsAhead names (g ∷ fs)
 ahead-same names f g fs is h = subst (λ x. IsAhead names (x ∷ fs)) (sym is) (ahead-files names f g.files fs h)
 
--- where nothing is entered next
+-- if nothing is entered next
 free-past : {A : Type 0} (past : Key) (w : Way A) (names : Key) → w.entering ≡ None → IsUpTo past names → IsAhead names
     (reverse w.frames.items) → IsPastWay past w
 free-past past w names free upto ahead = subst (λ o. IsPastAll past o (reverse w.frames.items)) (sym free) (names, upto, ahead)
@@ -135,7 +135,7 @@ works-past {A} past files old new (Leave n) x p =
     (ahead-left names x.last (reverse new.frames.items) (subst (IsAhead names) (reverse-from old.frames.items
     new.frames.items x.last x.before) ahead))
 
--- nothing comes of an entry
+-- an entry gives nothing
 pub skips-past : {A : Type 0} (past : Key) (e : Entry A) (w : Way A) → IsPastWork past (Meet e) w → IsPastWay past w
 skips-past {A} past e w (free, h) = by_frames (reverse w.frames.items) refl h
   where
@@ -189,7 +189,7 @@ takes-past {A} past e old new f fs b t path alive d (Ok o) (free, h) is named en
     by_found true = record { names = names; path = named-down; later = here.3; goes = goes names (inl refl) }
     by_found false = goes past (inr here.3)
 
--- a directory is passed over
+-- a directory is skipped
 pub passes-past : {A : Type 0} (past : Key) (o : Opening A) (old new : Way A) → IsPastWork past (Enter o) old
     → new ≡ old → IsPastWay past new
 passes-past past o old new (free, (names, path, upto, nested)) same =
@@ -233,7 +233,7 @@ meets-past {A} past e old new g b t path alive d r h same named enters finds las
         takes-past past e old new f fs b t path alive d r h is (named ∙ ap (λ (x : Frame A). child
         (string_bytes x.path) e.name) (same f fs is)) enters finds last
 
--- where nothing is left
+-- if nothing is left
 pub done-past : {A : Type 0} (past : Key) (w : Way A) → IsDone w → IsPastWay past w
 done-past past w (free, none) = free-past past w past free (inl refl) (subst (IsAhead past) (sym (ap reverse (no-items w.frames none))) tt)
 

@@ -85,17 +85,30 @@ joined-open n ns h =
     let last = (proper-parts (pieces front) ([] ∷ []) (subst AreProper cut h)).1 in
     both_ways (is_proper [] && true) refl last)
 
+-- a name is joined to the path of a directory, which is empty for the start
+pub join-next : (names : Key) (n : Text) → AreProper names
+    → join (join_with_byte slash names) n ≡ join_with_byte slash (names ++ n ∷ [])
+unfolding join
+join-next [] n h = refl
+join-next (m ∷ ms) n h =
+    let path = join_with_byte slash (m ∷ ms) in
+    join_open path n (some-joined m ms (IsName-from_proper m (and_parts (is_proper m) (list_all is_proper ms) h).0).some) (joined-open m ms h)
+    ∙ append_assoc path (slash ∷ []) n
+    ∙ sym (join-more m ms n)
+
 -- the path of a name in a directory
 pub path_of-child : (names : Key) (n : Text) → AreProper names → path_of (names ++ n ∷ []) ≡ child (path_of names) n
 unfolding child
 path_of-child [] n h = refl
 path_of-child (m ∷ ms) n h =
-    let path = join_with_byte slash (m ∷ ms) in
-    join-more m ms n
-    ∙ sym (append_assoc path (slash ∷ []) n)
-    ∙ sym (join_open path n (some-joined m ms (IsName-from_proper m (and_parts (is_proper m) (list_all is_proper ms)
-    h).0).some) (joined-open m ms h))
-    ∙ sym (cond-false (is_here path) n (join path n) (joined-leads m ms h))
+    sym (join-next (m ∷ ms) n h)
+    ∙ sym (cond-false (is_here (path_of (m ∷ ms))) n (join (path_of (m ∷ ms)) n) (joined-leads m ms h))
+
+-- the path of the start alone is empty
+pub joined-empty : (names : Key) → AreProper names → length (join_with_byte slash names) ≡ 0 → names ≡ []
+joined-empty [] h none = refl
+joined-empty (n ∷ ns) h none =
+    absurd (omega (arith, none, some-joined n ns (IsName-from_proper n (and_parts (is_proper n) (list_all is_proper ns) h).0).some))
 
 -- going down by proper names
 down-from : (front names : Key) → AreProper (front ++ names) → fold child (path_of front) names ≡ path_of (front ++ names)

@@ -2,10 +2,9 @@
 use Rattle.std.proofs.Common.{◌≡◌, ◌≢◌, ℕ, zero, suc, ◌+◌, ◌-◌, ◌<◌, List, [], ◌∷◌, ◌++◌, get_or, length, map, take, Option}
 use Rattle.std.proofs.Common.{Some, None, refl, ap, ap₂, sym, subst, ◌∙◌, arith}
 use Rattle.std.specs.Prelude.{Contains, Vec, option_map, reverse, slice_get}
-use Rattle.std.specs.List.{cons_option, join_with_byte}
-use Rattle.std.proofs.lemmas.List.{append-nil, append_assoc, length-append, map-append, reverse-append, reverse-reverse}
+use Rattle.std.specs.List.{cons_option}
+use Rattle.std.proofs.lemmas.List.{append_assoc, length-append, map-append, reverse-append, reverse-reverse}
 use Rattle.std.proofs.lemmas.Option.{same_Some}
-use Rattle.glob_text.specs.Characters.{slash}
 use Rattle.glob_text.specs.Text.{Text}
 use Rattle.glob_rules.specs.Lists.{Ignores, refusals_of, rules_of}
 use Rattle.glob_rules.specs.declared.error.RuleRefusal.{RuleRefusal}
@@ -14,12 +13,12 @@ use Rattle.glob_tree.specs.Paths.{child}
 use Rattle.glob_search.specs.Aims.{AreRefused, path_of, rules_from}
 use Rattle.glob_search.specs.Searching.{Aim}
 use Rattle.glob_search.specs.Private.Engine.{IsReading, IsSound, Keeps, Reading, file_names, frame_names, lists_up_to}
-use Rattle.glob_search.specs.Private.Hearing.{above_of, after, heard_of, lists_above}
+use Rattle.glob_search.specs.Private.Active.{above_of, after, active_lists, lists_above}
 use Rattle.glob_search.specs.Private.Ways.{search_left}
-use Rattle.glob_search.specs.declared.heard.FileRules.{FileRules}
+use Rattle.glob_search.specs.declared.active.FileRules.{FileRules}
 use Rattle.glob_search.specs.declared.meter.Meter.{Meter}
 use Rattle.glob_search.specs.declared.searcher.Searcher.{Searcher}
-use Rattle.glob_search.proofs.EngineLemmas.Paths.{AreProper, join-more, path_of-child}
+use Rattle.glob_search.proofs.EngineLemmas.Paths.{AreProper, path_of-child}
 use Rattle.glob_search.proofs.EngineLemmas.Working.{get_or_within, rules-next}
 
 -- the text of a file that was read
@@ -49,11 +48,6 @@ name-get f [] k x h = absurd (none h)
 name-get f (y ∷ xs) zero x h = let same : y ≡ x = cc in ap f same
 name-get f (y ∷ xs) (suc k) x h = name-get f xs k x h
 
--- the bytes of a path in a directory that are the directory's
-pub path-above : (names : Key) (n : Text) → length (path_of (names ++ n ∷ [])) - length n ≡ above_of names
-path-above [] n = omega arith
-path-above (m ∷ ms) n = omega (arith, ap length (join-more m ms n), length-append (join_with_byte slash (m ∷ ms)) (slash ∷ n))
-
 module _ {A : Type 0} (c : Content) (a : Aim) (known : Text → Option Text) (s : Searcher A) (n : ℕ)
     (r : IsReading c a known s n) (now : r.last.files ≡ suc n)
     (within : n < length (file_names s)) (name : Text) (named : get_or (file_names s) n [] ≡ name) where
@@ -76,20 +70,20 @@ module _ {A : Type 0} (c : Content) (a : Aim) (known : Text → Option Text) (s 
       names)) (after (above_of names) (rule (get_or (file_names s) n []))))
       ∙ ap (λ f. lists_up_to known a (file_names s) names n ++ read (known (path_of (names ++ f ∷ [])))) named
 
-  pub reads-keeps : (t : Searcher A) → t ≡ record s { meter = t.meter; heard = record s.heard { files = t.heard.files } }
-      → heard_of t.heard.files.items ≡ heard_of s.heard.files.items ++ read (known (path_of (names ++ name ∷ [])))
+  pub reads-keeps : (t : Searcher A) → t ≡ record s { meter = t.meter; active = record s.active { files = t.active.files } }
+      → active_lists t.active.files.items ≡ active_lists s.active.files.items ++ read (known (path_of (names ++ name ∷ [])))
       → Keeps c a known (search_left c a s) t
-  reads-keeps t same heard =
-      let moved = record s { meter = t.meter; heard = record s.heard { files = t.heard.files } } in
+  reads-keeps t same active =
+      let moved = record s { meter = t.meter; active = record s.active { files = t.active.files } } in
       let reading : IsReading c a known moved (suc n) = record {
-        for = record { beginnings = r.for.beginnings; depth = r.for.depth; wanted = r.for.wanted; first = r.for.first };
+        for = record { beginnings = r.for.beginnings; depth = r.for.depth; wanted = r.for.wanted; first = r.for.first; last = r.for.last };
         free = r.free;
         last = r.last;
         above = r.above;
         frames = r.frames;
-        frame = record { directory = r.frame.directory; below = r.frame.below; entries = r.frame.entries; heard = r.frame.heard };
+        frame = record { directory = r.frame.directory; below = r.frame.below; entries = r.frame.entries; active = r.frame.active };
         others = r.others;
-        heard = heard ∙ ap (λ ls. ls ++ read (known (path_of (names ++ name ∷ [])))) r.heard ∙ sym up_to-next;
+        active = active ∙ ap (λ ls. ls ++ read (known (path_of (names ++ name ∷ [])))) r.active ∙ sym up_to-next;
         whole = r.whole;
       } in
       record {
@@ -116,23 +110,13 @@ module _ {A : Type 0} (c : Content) (a : Aim) (known : Text → Option Text) (s 
 
 pub read-same : {A : Type 0} (s t : Searcher A) (m : Meter) (v : Vec (FileRules A) A) → t ≡ record s {
   meter = m;
-  heard
-      = record s.heard { files = v };
+  active
+      = record s.active { files = v };
 }
-    → t ≡ record s { meter = t.meter; heard = record s.heard { files = t.heard.files } }
+    → t ≡ record s { meter = t.meter; active = record s.active { files = t.active.files } }
 read-same {A} s t m v is =
-    let f : Meter → Vec (FileRules A) A → Searcher A = λ n u. record s { meter = n; heard = record s.heard { files = u } } in
-    is ∙ ap₂ f (sym (ap (λ x. x.meter) is)) (sym (ap (λ x. x.heard.files) is))
-
-pub read-some : (names : Key) (above : ℕ) (list : Ignores) (o : Option Text) → above ≡ above_of names → Some list ≡ option_map rules_of o
-    → (above, list) ∷ [] ≡ after (above_of names) (cons_option (option_map rules_of o) [])
-read-some names above list o same is =
-    let f : ℕ → List (ℕ × Ignores) = λ n. (n, list) ∷ [] in
-    ap f same ∙ ap (λ p. after (above_of names) (cons_option p [])) is
-
-pub read-none : (names : Key) (o : Option Text) (ls : List (ℕ × Ignores)) → None ≡ option_map rules_of o
-    → ls ≡ ls ++ after (above_of names) (cons_option (option_map rules_of o) [])
-read-none names o ls is = sym (append-nil ls) ∙ ap (λ p. ls ++ after (above_of names) (cons_option p [])) is
+    let f : Meter → Vec (FileRules A) A → Searcher A = λ n u. record s { meter = n; active = record s.active { files = u } } in
+    is ∙ ap₂ f (sym (ap (λ x. x.meter) is)) (sym (ap (λ x. x.active.files) is))
 
 -- the path of a name in a directory
 pub path-in : (names : Key) (n directory name path : Text) → AreProper names → directory ≡ path_of names → name ≡ n

@@ -17,7 +17,7 @@ use Rattle.glob_search.proofs.OrderLemmas.Parts.{Contains-map}
 abbrev pub IsLess : Text → Text → Type 0
 IsLess s t = slice_cmp nat_cmp s t ≡ Less
 
--- each name is less than those after it
+-- each name is less than the names after it
 abbrev pub Rises : List Text → Type 0
 Rises [] = ⊤
 Rises (n ∷ ns) = ((m : Text) → Contains ns m → IsLess n m) × Rises ns

@@ -29,7 +29,7 @@ use Rattle.glob_search.proofs.EngineLemmas.Rising.{rises-names, same-from_equal}
 use Rattle.glob_search.proofs.OrderLemmas.Parts.{map-contains}
 use Rattle.std.proofs.lemmas.List.{append_assoc}
 
--- how a name compares with names that fall
+-- how a name compares with descending names
 index-falls : (name high low : Text) → IsLess low high → ordering_index (slice_cmp nat_cmp name high) ≤ ordering_index
     (slice_cmp nat_cmp name low)
 index-falls name high low h = by_answer (slice_cmp nat_cmp name low) refl
@@ -51,7 +51,7 @@ index-falls name high low h = by_answer (slice_cmp nat_cmp name low) refl
         let two : ordering_index (slice_cmp nat_cmp name low) ≡ 2 = ap ordering_index is in
         omega (arith, two, few (slice_cmp nat_cmp name high))
 
--- the names of a directory fall
+-- the names of a directory are descending
 falls : (ns : List Text) → Rises ns → (name : Text) (i j : ℕ) → i ≤ j → j < length (reverse ns)
     → ordering_index (slice_cmp nat_cmp name (get_or (reverse ns) i [])) ≤ ordering_index (slice_cmp nat_cmp name
     (get_or (reverse ns) j []))

@@ -14,7 +14,7 @@ use Rattle.glob_search.specs.Private.Engine.{AreEntries, EntriesGive, FaultGives
 use Rattle.glob_search.specs.Private.Engine.{IsOpening, IsReading, IsReady, IsSound, Keeps, Reading, Ready}
 use Rattle.glob_search.specs.Private.Engine.{StepsInto, frame_names, lists_of, opening_names}
 use Rattle.glob_search.specs.Private.Faults.{is_last}
-use Rattle.glob_search.specs.Private.Hearing.{heard_of, lists_above}
+use Rattle.glob_search.specs.Private.Active.{active_lists, lists_above}
 use Rattle.glob_search.specs.Private.Ways.{entries_left, frame_left, opening_left, search_left, visited}
 use Rattle.glob_search.specs.declared.fault.SearchFault.{SearchFault}
 use Rattle.glob_search.specs.declared.fault.SearchFault.TheVariants as fault
@@ -26,17 +26,17 @@ use Rattle.glob_search.specs.declared.searcher.Searcher.{Searcher}
 use Rattle.glob_search.specs.declared.way.Way.{Way}
 use Rattle.glob_search.proofs.EngineLemmas.Lasts.{reverse-from}
 use Rattle.glob_search.proofs.EngineLemmas.Passing.{no-items}
-use Rattle.glob_search.proofs.HearingLemmas.{length-heard_of, lists_above-child}
+use Rattle.glob_search.proofs.ActiveLemmas.{length-active_lists, lists_above-child}
 
 -- the frame of a directory
 abbrev pub frame_of : {A : Type 0} → Opening A → Source → Vec (Entry A) A → ℕ → Frame A
-frame_of o source entries heard = record { path = o.path; alive = o.alive; source = source; entries = entries; files = 0; heard = heard }
+frame_of o source entries active = record { path = o.path; alive = o.alive; source = source; entries = entries; files = 0; active = active }
 
-pub frame-heard : {A : Type 0} (o : Opening A) (source : Source) (entries : Vec (Entry A) A) {n m : ℕ} → n ≡ m
+pub frame-active : {A : Type 0} (o : Opening A) (source : Source) (entries : Vec (Entry A) A) {n m : ℕ} → n ≡ m
     → frame_of o source entries n ≡ frame_of o source entries m
-frame-heard o source entries same = ap (frame_of o source entries) same
+frame-active o source entries same = ap (frame_of o source entries) same
 
--- what is heard below the last directory
+-- the rules that are active below the last directory
 pub lists-below : {A : Type 0} (a : Aim) (names : Key) (fs : List (Frame A)) → IsBelow names fs → lists_of a fs ≡ lists_above a names
 lists-below a names [] below = ap (lists_above a) (sym below)
 lists-below a names (f ∷ fs) (n, is) = sym (ap (lists_above a) is ∙ lists_above-child a (frame_names f) n)
@@ -54,10 +54,10 @@ pub ready-charged : {A : Type 0} (c : Content) (a : Aim) (s t : Searcher A) → 
     → IsReady c a s → IsReady c a t
 ready-charged c a s t same r =
     let moved : IsReady c a (record s { meter = t.meter }) = record {
-      for = record { beginnings = r.for.beginnings; depth = r.for.depth; wanted = r.for.wanted; first = r.for.first };
+      for = record { beginnings = r.for.beginnings; depth = r.for.depth; wanted = r.for.wanted; first = r.for.first; last = r.for.last };
       frames = r.frames;
       opening = r.opening;
-      heard = r.heard;
+      active = r.active;
     } in
     subst (IsReady c a) (sym same) moved
 
@@ -110,18 +110,24 @@ module _ {A : Type 0} (c : Content) (a : Aim) (known : Text → Option Text) (s 
   -- it is put on the way
   step-keeps : (t : Searcher A) → t ≡ record s { meter = t.meter; way = t.way } → (es : Vec (Entry A) A)
       (source : Source) → AreEntries c a names source es.items
-      → (last : Frame A) → last ≡ frame_of o source es (vec_len s.heard.files) → t.way.frames.items ≡
+      → (last : Frame A) → last ≡ frame_of o source es (vec_len s.active.files) → t.way.frames.items ≡
       s.way.frames.items ++ last ∷ [] → t.way.entering ≡ s.way.entering
       → Keeps c a known (visited c a names ++ search_left c a s) t
   step-keeps t same es source g last is pushed still =
-      let made = frame_of o source es (vec_len s.heard.files) in
+      let made = frame_of o source es (vec_len s.active.files) in
       let frames : reverse t.way.frames.items ≡ made ∷ reverse s.way.frames.items =
       reverse-from t.way.frames.items s.way.frames.items last pushed ∙ ap (λ f. f ∷ reverse s.way.frames.items) is in
       let moved = record s { meter = t.meter; way = t.way } in
-      let above : heard_of s.heard.files.items ≡ lists_above a names = ready.heard ∙ lists-below a names
+      let above : active_lists s.active.files.items ≡ lists_above a names = ready.active ∙ lists-below a names
       (reverse s.way.frames.items) opening.below in
       let reading : IsReading c a known moved 0 = record {
-        for = record { beginnings = ready.for.beginnings; depth = ready.for.depth; wanted = ready.for.wanted; first = ready.for.first };
+        for = record {
+          beginnings = ready.for.beginnings;
+          depth = ready.for.depth;
+          wanted = ready.for.wanted;
+          first = ready.for.first;
+          last = ready.for.last;
+        };
         free = still ∙ free;
         last = made;
         above = reverse s.way.frames.items;
@@ -130,10 +136,10 @@ module _ {A : Type 0} (c : Content) (a : Aim) (known : Text → Option Text) (s 
           directory = opening.directory;
           below = opening.below;
           entries = g.each;
-          heard = omega (arith, s.heard.files.ok.0, sym (ap length above) ∙ length-heard_of s.heard.files.items);
+          active = omega (arith, s.active.files.ok.0, sym (ap length above) ∙ length-active_lists s.active.files.items);
         };
         others = ready.frames;
-        heard = above ∙ sym (append-nil (lists_above a names));
+        active = above ∙ sym (append-nil (lists_above a names));
         whole = g.whole;
       } in
       let free' : t.way.entering ≡ None = still ∙ free in
@@ -155,7 +161,7 @@ module _ {A : Type 0} (c : Content) (a : Aim) (known : Text → Option Text) (s 
       (λ zero. empty-keeps t same es source g zero (none zero ∙ ap (λ x. x.way) same-u))
       (λ some.
       let into = steps some in
-      step-keeps t same es source g into.last (into.is ∙ ap (λ x. frame_of o source es (vec_len x.heard.files)) same-u)
+      step-keeps t same es source g into.last (into.is ∙ ap (λ x. frame_of o source es (vec_len x.active.files)) same-u)
       (into.frames ∙ ap (λ x. x.way.frames.items ++ into.last ∷ []) same-u) (into.still ∙ ap (λ x. x.way.entering) same-u))
       (eq-zero-or-pos (vec_len es))
     where

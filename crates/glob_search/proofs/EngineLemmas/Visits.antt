@@ -1,4 +1,4 @@
--- What comes of a directory, by its names alone: the levels that are left do not matter.
+-- What a directory gives depends only on its names: the levels that are left do not matter.
 use Rattle.std.proofs.Common.{◌≡◌, ℕ, suc, ◌-◌, Bool, true, false, cond, ◌&&◌, List, [], ◌∷◌, ◌++◌}
 use Rattle.std.proofs.Common.{length, flat_map, Some, refl, ap, ap₂, sym, ◌∙◌, arith}
 use Rattle.std.specs.Prelude.{Contains, nat_lt}
@@ -19,7 +19,7 @@ use Rattle.glob_search.specs.Visiting.{Gift, Unread, found_at, gifts, inside, le
 use Rattle.glob_search.specs.Private.Ways.{met, visited}
 use Rattle.glob_search.proofs.OrderLemmas.Ways.{inside-entries, within-levels}
 
--- the same comes of each
+-- each gives the same
 pub flat_map-same : {X Y : Type 0} (f g : X → List Y) (xs : List X) → ((x : X) → Contains xs x → f x ≡ g x) → flat_map f xs ≡ flat_map g xs
 flat_map-same f g [] same = refl
 flat_map-same f g (x ∷ xs) same = ap₂ (λ ys zs. ys ++ zs) (same x (Contains-head x xs)) (flat_map-same f g xs
@@ -29,7 +29,7 @@ module _ (c : Content) (a : Aim) where
   abbrev at : Key → Key
   at names = c.current ++ names
 
-  -- what comes of an entry is what comes of it where the same comes of its directory
+  -- an entry gives the same if its directory gives the same
   meet-same : (enter other : Key → List Gift) (names : Key) (d : Bool) → enter names ≡ other names → meet c a enter
       names d ≡ meet c a other names d
   meet-same enter other names d same = ap (λ gs. cond (is_ignored a names d) [] (found_at c a names (kind_at c (c.current ++ names))
@@ -52,7 +52,7 @@ module _ (c : Content) (a : Aim) where
       meet-same (visit c a l) (visited c a) (names ++ e.0 ∷ []) e.1 (one-level names e.0 l is)
       ∙ ap (meet c a (visited c a) (names ++ e.0 ∷ [])) kind
 
-  -- there are levels left where the content has a directory
+  -- if the content has a directory, there are levels left
   some-level : (names : Key) → is_dir_at c (at names) ≡ true → (l : ℕ) × (levels c - length names ≡ suc l)
   some-level names there =
       let (kind, held) = directory_kind c (at names) there in
@@ -74,7 +74,7 @@ module _ (c : Content) (a : Aim) where
       let (l, is) = some-level names there in
       ap (λ k. visit c a k names) is ∙ ap (inside a names (kind_at c (at names))) (entries-met w names l is)
 
-  -- what comes of a directory that is not closed is what comes of its entries
+  -- a directory that is not closed gives what its entries give
   pub visited-entries : IsContent c → (names : Key) → is_dir_at c (at names) ≡ true → is_closed c a names ≡ false
       → visited c a names ≡ flat_map (met c a names) (names_of (sorted_entries (children c (at names))))
   visited-entries w names there open' =
@@ -84,7 +84,7 @@ module _ (c : Content) (a : Aim) where
       ∙ ap (λ o. inside a names o entries) held
       ∙ inside-entries c a names kind entries held (sym (is_dir_at-kind c (at names) kind held) ∙ there) open'
 
-  -- and of one that is, its fault
+  -- a closed directory gives its fault
   pub visited-shut : IsContent c → (names : Key) (kind : ErrorKind) → kind_at c (at names) ≡ Some (Shut kind) → is_listed a names ≡ true
       → visited c a names ≡ Unread names kind ∷ []
   visited-shut w names kind held listed =

@@ -1,4 +1,4 @@
--- What is left once the next work was taken from the way.
+-- What is left after the next work was taken from the way.
 use Rattle.std.proofs.Common.{◌≡◌, ◌≢◌, ℕ, zero, suc, ◌+◌, ◌-◌, ◌<◌, ◌≤◌, ⊎_elim, true, List, [], ◌∷◌, ◌++◌}
 use Rattle.std.proofs.Common.{flat_map, get_or, length, map, take, Option, Some, None, refl, ap, ap₂, sym, subst, ◌∙◌}
 use Rattle.std.proofs.Common.{arith}
@@ -19,12 +19,12 @@ use Rattle.glob_search.specs.Visiting.{Gift}
 use Rattle.glob_search.specs.Private.Engine.{AreFrames, HasWork, IsFor, IsFrame, IsLeft, IsOpening, IsReading}
 use Rattle.glob_search.specs.Private.Engine.{IsMet, IsReady, IsSound, Keeps, Reading, Ready, file_names, frame_names}
 use Rattle.glob_search.specs.Private.Engine.{lists_of, lists_up_to, met_in, work_left}
-use Rattle.glob_search.specs.Private.Hearing.{above_of, after, heard_of, lists_above, lists_at, lists_in}
+use Rattle.glob_search.specs.Private.Active.{above_of, after, active_lists, lists_above, lists_at, lists_in}
 use Rattle.glob_search.specs.Private.Listings.{IsEntry, names_down}
 use Rattle.glob_search.specs.Private.Steps.{IsAbsent, MeetsNext, LeavesNext, MayEnter, NextWork, Passes, ReadsNext}
 use Rattle.glob_search.specs.Private.Ways.{IsDone, entries_left, frame_left, met, opening_left, search_left, way_left}
 use Rattle.glob_search.specs.declared.frame.Frame.{Frame}
-use Rattle.glob_search.specs.declared.heard.FileRules.{FileRules}
+use Rattle.glob_search.specs.declared.active.FileRules.{FileRules}
 use Rattle.glob_search.specs.declared.frame.Opening.{Opening}
 use Rattle.glob_search.specs.declared.frame.Source.TheVariants.{LookedUp}
 use Rattle.glob_search.specs.declared.searcher.Searcher.{Searcher}
@@ -35,13 +35,13 @@ use Rattle.glob_search.proofs.EngineLemmas.Lasts.{All-before, All-last, reverse-
 use Rattle.glob_search.proofs.EngineLemmas.Passing.{no-items}
 use Rattle.glob_search.proofs.EngineLemmas.Stepping.{lists-below}
 
--- what is within does not depend on what stands for what is not
+-- an element inside a list does not depend on the default for elements outside
 pub get_or_within : (xs : List Text) (k : ℕ) (d e : Text) → k < length xs → get_or xs k d ≡ get_or xs k e
 get_or_within [] k d e h = absurd (omega (arith, h))
 get_or_within (x ∷ xs) zero d e h = refl
 get_or_within (x ∷ xs) (suc k) d e h = get_or_within xs k d e (omega (arith, h))
 
--- the rules of one file more
+-- the rules of one more file
 pub rules-next : (known : Text → Option Text) (files : List Text) (names : Key) (n : ℕ) → n < length files
     → rules_from known (take (n + 1) files) names
     ≡ rules_from known (take n files) names ++ cons_option (option_map rules_of (known (path_of (names ++ get_or files n [] ∷ [])))) []
@@ -54,7 +54,7 @@ module _ {A : Type 0} (c : Content) (a : Aim) (known : Text → Option Text) (fi
     (fit : AreTextsOf c a files known) (content : is_content c ≡ true)
     (f : Frame A) (names : Key) (there : is_dir_at c (c.current ++ names) ≡ true)
     (whole : f.source ≢ LookedUp → names_of (entries_of f.entries.items) ≡ names_down c names) where
-  -- a file that is not there has no rules
+  -- a missing file has no rules
   no-text : (n : ℕ) → n < length files → IsAbsent f (get_or files n []) → known (path_of (names ++ get_or files n [] ∷ [])) ≡ None
   no-text n within missing = by_text (known (path_of (names ++ get_or files n [] ∷ []))) refl
     where
@@ -68,7 +68,7 @@ module _ {A : Type 0} (c : Content) (a : Aim) (known : Text → Option Text) (fi
           (fit.held names (get_or files n []) there (n, within, get_or_within files n (get_or files n []) [] within)
           (subst IsSome (sym is) refl)))
 
-  -- so passing over files changes nothing
+  -- so skipping files changes nothing
   pub rules-passed : (low n : ℕ) → ((k : ℕ) → low ≤ k → k < n → IsAbsent f (get_or files k [])) → (m : ℕ) → low + m ≤ n → n ≤ length files
       → rules_from known (take (low + m) files) names ≡ rules_from known (take low files) names
   rules-passed low n missing zero upto within = ap (λ k. rules_from known (take k files) names) (let e : low + 0 ≡ low = omega arith in e)
@@ -100,7 +100,7 @@ module _ {A : Type 0} (c : Content) (a : Aim) (known : Text → Option Text) (fi
   lists-past n past = ap (λ rs. lists_above a names ++ after (above_of names) rs) (ap (λ fs. rules_from known fs names)
       (take_all n files past) ∙ sym (fit.rules names))
 
--- a frame of which other entries are left, and more files were read
+-- a frame with other entries left and more files read
 pub frame-goes : {A : Type 0} (c : Content) (a : Aim) (s : Searcher A) (last passed left : Frame A)
     (above : List (Frame A)) → passed ≡ record last { files = passed.files }
     → left ≡ record passed { entries = left.entries } → IsFrame c a s.beginnings last above → All
@@ -110,7 +110,7 @@ frame-goes {A} c a s last passed left above same other frame all =
     let g : Frame A → Frame A = λ h. record h { entries = left.entries } in
     let whole : left ≡ record last { files = passed.files; entries = left.entries } = other ∙ ap g same in
     let made : IsFrame c a s.beginnings (record last { files = passed.files; entries = left.entries }) above =
-    record { directory = frame.directory; below = frame.below; entries = all; heard = frame.heard } in
+    record { directory = frame.directory; below = frame.below; entries = all; active = frame.active } in
     subst (λ h. IsFrame c a s.beginnings h above) (sym whole) made
 
 -- the last directory, all of whose files were read
@@ -118,18 +118,18 @@ pub record IsTop {A : Type 0} (c : Content) (a : Aim) (s : Searcher A) (last : F
   pub for : IsFor a s
   pub frame : IsFrame c a s.beginnings last above
   pub others : AreFrames c a s.beginnings (length (file_names s)) above
-  pub heard : heard_of s.heard.files.items ≡ lists_at a (frame_names last)
+  pub active : active_lists s.active.files.items ≡ lists_at a (frame_names last)
 
 module _ {A : Type 0} (c : Content) (a : Aim) (known : Text → Option Text) (s : Searcher A) (fit : AreTextsOf c a
     (file_names s) known) (content : is_content c ≡ true) where
   abbrev files : List Text
   files = file_names s
 
-  pub reading-heard : (n : ℕ) (r : IsReading c a known s n) (upto : ℕ) → ((k : ℕ) → n ≤ k → k < upto → IsAbsent r.last
+  pub reading-active : (n : ℕ) (r : IsReading c a known s n) (upto : ℕ) → ((k : ℕ) → n ≤ k → k < upto → IsAbsent r.last
       (get_or files k [])) → n ≤ upto → upto ≤ length files
-      → heard_of s.heard.files.items ≡ lists_up_to known a files (frame_names r.last) upto
-  reading-heard n r upto missing le within =
-      r.heard ∙ lists-passed c a known files fit content r.last (frame_names r.last) r.frame.directory.there r.whole n
+      → active_lists s.active.files.items ≡ lists_up_to known a files (frame_names r.last) upto
+  reading-active n r upto missing le within =
+      r.active ∙ lists-passed c a known files fit content r.last (frame_names r.last) r.frame.directory.there r.whole n
       upto missing le within
 
   pub top-of : IsSound c a known s → (last passed : Frame A) (above : List (Frame A)) → reverse s.way.frames.items ≡
@@ -137,7 +137,7 @@ module _ {A : Type 0} (c : Content) (a : Aim) (known : Text → Option Text) (s 
       → IsTop c a s last above
   top-of (Ready r) last passed above is passes =
       let all = subst (AreFrames c a s.beginnings (length files)) is r.frames in
-      record { for = r.for; frame = all.0; others = all.2; heard = r.heard ∙ ap (lists_of a) is }
+      record { for = r.for; frame = all.0; others = all.2; active = r.active ∙ ap (lists_of a) is }
   top-of (Reading n r at) last passed above is passes =
       let same : r.last ∷ r.above ≡ last ∷ above = sym r.frames ∙ is in
       let first : r.last ≡ last = cc in
@@ -146,13 +146,13 @@ module _ {A : Type 0} (c : Content) (a : Aim) (known : Text → Option Text) (s 
         for = r.for;
         frame = subst (λ f. IsFrame c a s.beginnings f above) first (subst (IsFrame c a s.beginnings r.last) rest r.frame);
         others = subst (AreFrames c a s.beginnings (length files)) rest r.others;
-        heard = subst (λ f. heard_of s.heard.files.items ≡ lists_at a (frame_names f)) first (⊎_elim
-            (λ few. reading-heard n r (length files)
+        active = subst (λ f. active_lists s.active.files.items ≡ lists_at a (frame_names f)) first (⊎_elim
+            (λ few. reading-active n r (length files)
             (λ k low high. subst (λ f. IsAbsent f (get_or files k [])) (sym first) (passes.absent k (subst (λ m. m ≤ k)
             (sym at ∙ ap (λ f. f.files) first) low) high))
             (omega (arith, few)) (omega arith)
             ∙ lists-all c a known files fit content r.last (frame_names r.last) r.frame.directory.there r.whole)
-            (λ past. r.heard ∙ lists-past c a known files fit content r.last (frame_names r.last) r.frame.directory.there r.whole n past)
+            (λ past. r.active ∙ lists-past c a known files fit content r.last (frame_names r.last) r.frame.directory.there r.whole n past)
             (cases_lt n (length files)));
       }
 
@@ -176,10 +176,16 @@ module _ {A : Type 0} (c : Content) (a : Aim) (known : Text → Option Text) (s 
         let fs : reverse w.frames.items ≡ reverse s.way.frames.items = ap reverse same in (
           (
             record {
-              for = record { beginnings = r.for.beginnings; depth = r.for.depth; wanted = r.for.wanted; first = r.for.first };
+              for = record {
+                beginnings = r.for.beginnings;
+                depth = r.for.depth;
+                wanted = r.for.wanted;
+                first = r.for.first;
+                last = r.for.last;
+              };
               frames = subst (AreFrames c a s.beginnings (length files)) (sym fs) r.frames;
               opening = subst (λ e. ForSome e (IsOpening c s.beginnings (reverse w.frames.items))) (sym free) (λ d h. absurd (cc));
-              heard = r.heard ∙ sym (ap (lists_of a) fs);
+              active = r.active ∙ sym (ap (lists_of a) fs);
             },
             free,
             subst (λ gs. IsOpening c s.beginnings gs o) (sym fs) (r.opening o entering),
@@ -208,14 +214,20 @@ module _ {A : Type 0} (c : Content) (a : Aim) (known : Text → Option Text) (s 
         (subst (IsFrame c a s.beginnings r.last) rest r.frame)
         (subst (All (IsEntry c (frame_names r.last) r.last.source)) (sym (ap (λ h. h.entries.items) passed)) r.frame.entries) in
         let reading : IsReading c a known t n = record {
-          for = record { beginnings = r.for.beginnings; depth = r.for.depth; wanted = r.for.wanted; first = r.for.first };
+          for = record {
+            beginnings = r.for.beginnings;
+            depth = r.for.depth;
+            wanted = r.for.wanted;
+            first = r.for.first;
+            last = r.for.last;
+          };
           free = x.goes.still;
           last = x.passed;
           above = reverse x.goes.front;
           frames = reverse-from w.frames.items x.goes.front x.passed x.goes.after;
           frame = frame;
           others = subst (AreFrames c a s.beginnings (length files)) rest r.others;
-          heard = reading-heard m r n (λ k from below. subst (λ h. IsAbsent h (get_or files k [])) (sym first)
+          active = reading-active m r n (λ k from below. subst (λ h. IsAbsent h (get_or files k [])) (sym first)
               (passes.absent k (subst (λ j. j ≤ k) m-is from) below))
               (subst (λ j. j ≤ n) (sym m-is) low) (omega (arith, within))
               ∙ ap (λ ns. lists_up_to known a files ns n) named;
@@ -248,7 +260,13 @@ module _ {A : Type 0} (c : Content) (a : Aim) (known : Text → Option Text) (s 
         (All-last (IsEntry c (frame_names x.last) x.last.source) x.left.entries.items e all) in (
           (
             record {
-              for = record { beginnings = top.for.beginnings; depth = top.for.depth; wanted = top.for.wanted; first = top.for.first };
+              for = record {
+                beginnings = top.for.beginnings;
+                depth = top.for.depth;
+                wanted = top.for.wanted;
+                first = top.for.first;
+                last = top.for.last;
+              };
               frames = subst (AreFrames c a s.beginnings (length files)) (sym fs) (
                 frame,
                 subst (λ k. length files ≤ k)
@@ -256,7 +274,7 @@ module _ {A : Type 0} (c : Content) (a : Aim) (known : Text → Option Text) (s 
                 top.others,
               );
               opening = subst (λ o. ForSome o (IsOpening c s.beginnings (reverse w.frames.items))) (sym x.goes.still) (λ d h. absurd (cc));
-              heard = top.heard ∙ ap (lists_at a) (sym named) ∙ sym (ap (lists_of a) fs);
+              active = top.active ∙ ap (lists_at a) (sym named) ∙ sym (ap (lists_of a) fs);
             },
             x.goes.still,
             subst (λ gs. IsMet c gs e) (sym fs) entry,
@@ -280,12 +298,18 @@ module _ {A : Type 0} (c : Content) (a : Aim) (known : Text → Option Text) (s 
         let top = top-of sound x.last x.passed (reverse w.frames.items) (reverse-from s.way.frames.items w.frames.items
         x.last x.before) passes in
         let names = frame_names x.last in
-        let count : n ≡ length (lists_above a names) = x.heard ∙ top.frame.heard in (
+        let count : n ≡ length (lists_above a names) = x.active ∙ top.frame.active in (
           record {
-            for = record { beginnings = top.for.beginnings; depth = top.for.depth; wanted = top.for.wanted; first = top.for.first };
+            for = record {
+              beginnings = top.for.beginnings;
+              depth = top.for.depth;
+              wanted = top.for.wanted;
+              first = top.for.first;
+              last = top.for.last;
+            };
             free = x.still;
             frames = top.others;
-            heard = ap (take n) top.heard ∙ take_at (lists_above a names) (lists_in a names) n (sym count) ∙ sym
+            active = ap (take n) top.active ∙ take_at (lists_above a names) (lists_in a names) n (sym count) ∙ sym
                 (lists-below a names (reverse w.frames.items) top.frame.below);
           },
           frames-left x.last w.frames.items s.way x.free x.before
@@ -301,7 +325,7 @@ module _ {A : Type 0} (c : Content) (a : Aim) (known : Text → Option Text) (s 
     works-next sound (Meet e) x = meets-next sound e x
     works-next sound (Leave n) x = leaves-next sound n x
 
--- nothing is left where nothing is done next
+-- nothing is left if nothing is done next
 pub done-left : {A : Type 0} (c : Content) (a : Aim) (w : Way A) → IsDone w → way_left c a w ≡ []
 done-left c a w (free, none) = ap₂ (λ e fs. opening_left c a e ++ flat_map (frame_left c a) (reverse fs)) free (no-items w.frames none)
 
@@ -316,16 +340,16 @@ map-take f (suc n) (x ∷ xs) = ap (λ ys. f x ∷ ys) (map-take f n xs)
 
 -- a directory was left
 pub leaves-keeps : {A : Type 0} (c : Content) (a : Aim) (known : Text → Option Text) (s t : Searcher A) (n : ℕ) → IsLeft c a s n
-    → t ≡ record s { heard = record s.heard { files = t.heard.files } } → t.heard.files.items ≡ take n
-    s.heard.files.items → Keeps c a known (search_left c a s) t
+    → t ≡ record s { active = record s.active { files = t.active.files } } → t.active.files.items ≡ take n
+    s.active.files.items → Keeps c a known (search_left c a s) t
 leaves-keeps {A} c a known s t n l same cut =
-    let moved = record s { heard = record s.heard { files = t.heard.files } } in
+    let moved = record s { active = record s.active { files = t.active.files } } in
     let v : FileRules A → ℕ × Ignores = λ f. (f.above, f.list) in
     let ready : IsReady c a moved = record {
-      for = record { beginnings = l.for.beginnings; depth = l.for.depth; wanted = l.for.wanted; first = l.for.first };
+      for = record { beginnings = l.for.beginnings; depth = l.for.depth; wanted = l.for.wanted; first = l.for.first; last = l.for.last };
       frames = l.frames;
       opening = subst (λ e. ForSome e (IsOpening c s.beginnings (reverse s.way.frames.items))) (sym l.free) (λ d h. absurd (cc));
-      heard = ap heard_of cut ∙ map-take v n s.heard.files.items ∙ l.heard;
+      active = ap active_lists cut ∙ map-take v n s.active.files.items ∙ l.active;
     } in
     record { sound = subst (IsSound c a known) (sym same) (Ready ready); rest = ap (search_left c a) (sym same) }
 
@@ -338,12 +362,12 @@ keeps-at c a known before was s t same is k = record {
 }
 
 pub left-same : {A : Type 0} (s t : Searcher A) (v : Vec (FileRules A) A) → t ≡ record s {
-  heard = record s.heard
+  active = record s.active
       { files = v };
-} → t ≡ record s { heard = record s.heard { files = t.heard.files } }
+} → t ≡ record s { active = record s.active { files = t.active.files } }
 left-same {A} s t v is = let f : Vec (FileRules A) A → Searcher A = λ u. record s {
-  heard = record s.heard {
+  active = record s.active {
     files =
         u;
   };
-} in is ∙ ap f (sym (ap (λ x. x.heard.files) is))
+} in is ∙ ap f (sym (ap (λ x. x.active.files) is))

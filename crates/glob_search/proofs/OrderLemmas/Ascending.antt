@@ -1,4 +1,4 @@
--- What a search gives ascends.
+-- What a search gives is in ascending order.
 use Rattle.std.proofs.Common.{◌≡◌, ℕ, zero, suc, Bool, true, false, cond, ◌&&◌, ⊎_elim, List, [], ◌∷◌, ◌++◌, length}
 use Rattle.std.proofs.Common.{flat_map, filter_map, Option, Some, None, refl, ap, sym, subst, ◌∙◌, arith}
 use Rattle.std.specs.Prelude.{Contains, AllPairs, nat_lt}
@@ -20,12 +20,12 @@ use Rattle.glob_tree.specs.declared.kind.Kind.TheVariants.{Dir, Shut, Other}
 use Rattle.glob_tree.proofs.ContentLemmas.Contents.{IsContent, IsContent-from_test}
 use Rattle.glob_tree.proofs.ContentLemmas.Membership.{Contains-head, Contains-tail, Contains-nil, Contains-filter_map, All-from_contains}
 use Rattle.glob_tree.proofs.ContentLemmas.Sorting.{IsRising, IsRising-sorted_entries, children_apart}
-use Rattle.glob_search.specs.Laws.{FoundAscend, GiftsAscend, key_cmp, names_of, turn, gift_cmp, found_names}
+use Rattle.glob_search.specs.Laws.{FoundAscend, GiftsAscend, key_cmp, gift_names, turn, gift_cmp, found_names}
 use Rattle.glob_search.specs.Searching.{Aim, is_taken, goes_on, is_ignored, is_listed}
 use Rattle.glob_search.specs.Visiting.{Gift, Found, Unread, found_at, inside, visit, meet, gifts, levels}
 use Rattle.glob_search.proofs.OrderLemmas.Parts.{Contains-flat_map, Contains-one}
 
--- each element against those after it
+-- each element compared with the elements after it
 abbrev Pairs : {X : Type 0} → (X → X → Type 0) → List X → Type 0
 Pairs Q [] = Unit {0}
 Pairs Q (x ∷ xs) = ((y : _) → Contains xs y → Q x y) × Pairs Q xs
@@ -80,14 +80,14 @@ key-apart names m n ms ns less = key-under names (m ∷ ms) (n ∷ ns) ∙ ap (�
 abbrev Lesser : Gift → Gift → Type 0
 Lesser g h = gift_cmp g h ≡ Less
 
-lesser-from : (g h : Gift) (names others : Key) → names_of g ≡ names → names_of h ≡ others → key_cmp names others ≡ Less → Lesser g h
+lesser-from : (g h : Gift) (names others : Key) → gift_names g ≡ names → gift_names h ≡ others → key_cmp names others ≡ Less → Lesser g h
 lesser-from g h names others left right less =
-    ap (λ o. ordering_then o (nat_cmp (turn g) (turn h))) (ap (λ k. key_cmp k (names_of h)) left ∙ ap (key_cmp names) right ∙ less)
+    ap (λ o. ordering_then o (nat_cmp (turn g) (turn h))) (ap (λ k. key_cmp k (gift_names h)) left ∙ ap (key_cmp names) right ∙ less)
 
--- what comes of a directory: the error of the directory itself, or something of more names
+-- what a directory gives: the error of the directory itself, or something with more names
 data IsUnder (names : Key) (g : Gift) : Type 0 where
   Itself : (kind : ErrorKind) → g ≡ Unread names kind → IsUnder names g
-  Below : (n : Text) (ns : Key) → names_of g ≡ names ++ n ∷ ns → IsUnder names g
+  Below : (n : Text) (ns : Key) → gift_names g ≡ names ++ n ∷ ns → IsUnder names g
 
 module _ (c : Content) (a : Aim) where
   found_at-names : (names : Key) (o : Option Kind) (g : Gift) → Contains (found_at c a names o) g → g ≡ Found names
@@ -97,25 +97,25 @@ module _ (c : Content) (a : Aim) where
 
   meet-under : (levels : ℕ) (names : Key) (n : Text) (d : Bool) → ((g : Gift) → Contains (visit c a levels
       (names ++ n ∷ [])) g → IsUnder (names ++ n ∷ []) g)
-      → (g : Gift) → Contains (meet c a (visit c a levels) (names ++ n ∷ []) d) g → (ns : Key) × (names_of g ≡ names ++ n ∷ ns)
+      → (g : Gift) → Contains (meet c a (visit c a levels) (names ++ n ∷ []) d) g → (ns : Key) × (gift_names g ≡ names ++ n ∷ ns)
   meet-under levels names n d deeper g = by_test (is_ignored a (names ++ n ∷ []) d)
     where
-      below : IsUnder (names ++ n ∷ []) g → (ns : Key) × (names_of g ≡ names ++ n ∷ ns)
-      below (Itself kind same) = ([], ap names_of same)
+      below : IsUnder (names ++ n ∷ []) g → (ns : Key) × (gift_names g ≡ names ++ n ∷ ns)
+      below (Itself kind same) = ([], ap gift_names same)
       below (Below m ms same) = (m ∷ ms, same ∙ append_assoc names (n ∷ []) (m ∷ ms))
 
       by_test : (b : Bool) → Contains (cond b [] (found_at c a (names ++ n ∷ []) (kind_at c (c.current ++ (names ++ n ∷ [])))
           ++ cond (d && nat_lt (length (names ++ n ∷ [])) a.depth && goes_on a (names ++ n ∷ [])) (visit c a levels
           (names ++ n ∷ [])) [])) g
-          → (ns : Key) × (names_of g ≡ names ++ n ∷ ns)
+          → (ns : Key) × (gift_names g ≡ names ++ n ∷ ns)
       by_test true h = absurd (Contains-nil g h)
       by_test false h = ⊎_elim
-          (λ here. ([], ap names_of (found_at-names (names ++ n ∷ []) (kind_at c (c.current ++ (names ++ n ∷ []))) g here)))
+          (λ here. ([], ap gift_names (found_at-names (names ++ n ∷ []) (kind_at c (c.current ++ (names ++ n ∷ []))) g here)))
           (λ later. below (deeper g (Contains-cond (d && nat_lt (length (names ++ n ∷ [])) a.depth && goes_on a
           (names ++ n ∷ [])) (visit c a levels (names ++ n ∷ [])) g later)))
           (Contains-append_cases (found_at c a (names ++ n ∷ []) (kind_at c (c.current ++ (names ++ n ∷ [])))) _ g h)
 
-  -- the entries of a directory, each with what comes of it
+  -- the entries of a directory, each with what it gives
   abbrev entries : ℕ → Key → List DirEntry → List Gift
   entries levels names es = flat_map (λ e. meet c a (visit c a levels) (names ++ e.0 ∷ []) e.1) es
 
@@ -205,7 +205,7 @@ module _ (c : Content) (a : Aim) where
   unfolding gifts
   gifts-ordered w = Pairs-cond Lesser (nat_lt 0 a.depth) (visit c a (levels c) []) (visit-ordered w (levels c) [])
 
--- names that are found ascend where all that is given does
+-- if all that is given ascends, the names that are found ascend
 abbrev Rises : Key → Key → Type 0
 Rises names others = key_cmp names others ≡ Less
 

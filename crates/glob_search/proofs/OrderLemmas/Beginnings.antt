@@ -1,4 +1,4 @@
--- A beginning of what takes names takes the first of them.
+-- If components take names, a beginning of them takes the first names.
 use Rattle.std.proofs.Common.{◌≡◌, Bool, true, false, cond, ◌&&◌, ◌||◌, ◌⊎◌, inl, inr, ⊎_elim, List, [], ◌∷◌, ◌++◌}
 use Rattle.std.proofs.Common.{refl, ap, sym, subst, ◌∙◌}
 use Rattle.std.proofs.lemmas.Bool.{false≢true, and_parts, and_from, or_cases, or_left, or_right, cond-true, cond-false}
@@ -16,7 +16,7 @@ pub takes-recursive : (o : MatchOptions) (t : Text) (ts : List Text) (n : Text) 
     → takes o (t ∷ ts) (n ∷ ns) ≡ (takes o ts (n ∷ ns) || (is_open o n && takes o (t ∷ ts) ns))
 takes-recursive o t ts n ns r = cond-true (is_recursive t) _ _ r
 
--- another component takes one name
+-- any other component takes one name
 pub takes-other : (o : MatchOptions) (t : Text) (ts : List Text) (n : Text) (ns : Key) → is_recursive t ≡ false
     → takes o (t ∷ ts) (n ∷ ns) ≡ (is_match o (chars t) (chars n) && takes o ts ns)
 takes-other o t ts n ns r = cond-false (is_recursive t) _ _ r
@@ -25,8 +25,8 @@ pub ends-cons : (t : Text) (ts : List Text) → ends_recursive ts ≡ true → e
 ends-cons t [] e = absurd (false≢true e)
 ends-cons t (u ∷ us) e = e
 
--- What takes the first names is a beginning of what takes them all; it is less than that if there are more names,
--- unless that ends in `**`.
+-- A beginning takes the first names if the components take all; it is a proper beginning if there are more names,
+-- unless the components end in `**`.
 pub record Begun (o : MatchOptions) (components : List Text) (names more : Key) : Type 0 where
   pub front : List Text
   pub rest : List Text

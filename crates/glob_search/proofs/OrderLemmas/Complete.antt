@@ -1,4 +1,4 @@
--- What is to be found is given, and so is each directory that cannot be listed.
+-- A search gives all that is to be found, and each directory that cannot be listed.
 use Rattle.std.proofs.Common.{◌≡◌, ℕ, zero, suc, ◌<◌, ◌≤◌, Bool, true, false, not, ◌&&◌, ◌||◌, List, [], ◌∷◌, ◌++◌}
 use Rattle.std.proofs.Common.{length, flat_map, Some, refl, ap, ap₂, sym, subst, ◌∙◌, arith}
 use Rattle.std.specs.Prelude.{Contains, nat_lt, nat_le}
@@ -46,11 +46,11 @@ module _ (c : Content) (a : Aim) where
   abbrev GoesOnAbove : Key → Type 0
   GoesOnAbove names = (front : Key) (n : Text) (ns : Key) → names ≡ front ++ n ∷ ns → goes_on a front ≡ true
 
-  -- what comes of an entry that is not ignored
+  -- what an entry that is not ignored gives
   abbrev Comes : Key → (is_directory : Bool) → Gift → Type 0
   Comes names d g = (n : ℕ) → 0 < n → is_ignored a names d ≡ false → Contains (meet c a (visit c a n) names d) g
 
-  -- comes of a directory from which the entry is reached
+  -- is also given by a directory from which the entry is reached
   reaches : IsContent c → (levels : ℕ) (directory : Key) (n : Text) (ns names : Key) (kind : Kind) (g : Gift) → length (n ∷ ns) < levels
       → names ≡ directory ++ n ∷ ns → kind_at c (c.current ++ names) ≡ Some kind → reached_from c a directory (n ∷ ns) (is_dir kind) ≡ true
       → length names ≤ a.depth → GoesOnAbove names → Comes names (is_dir kind) g → Contains (visit c a levels directory) g
@@ -126,7 +126,7 @@ module _ (c : Content) (a : Aim) where
             (Contains-head (Found (n ∷ ns)) [])))),
       )
 
-  -- a directory that cannot be listed is reported where it is entered
+  -- a directory that cannot be listed is reported if it is entered
   unread-here : (names : Key) (kind : ErrorKind) (l : ℕ) → 0 < l → kind_at c (c.current ++ names) ≡ Some (Shut kind)
       → is_listed a names ≡ true
       → Contains (visit c a l names) (Unread names kind)

@@ -1,4 +1,4 @@
--- Something is alive in each directory above one in which something is, and above what is found.
+-- Something is alive in each directory above a directory in which something is alive, and above what is found.
 use Rattle.std.proofs.Common.{◌≡◌, true, false, not, ◌⊎◌, ⊎_elim, List, [], ◌∷◌, ◌++◌, flat_map, refl, ap, sym, subst, ◌∙◌}
 use Rattle.std.specs.Prelude.{Contains}
 use Rattle.std.specs.List.{list_any, list_all}
@@ -66,7 +66,7 @@ module _ (a : Aim) where
             (λ us. takes a.options us names) (sym front) ∙ taken;
       }
 
-  -- and each such beginning is alive
+  -- each such beginning is alive
   pub in_alive : (names : Key) → (l : Leads names) → Contains (alive a names) (l.front, l.next)
   unfolding begins
   in_alive names l = filter-contains (λ b. takes a.options b.0 names) begins (l.front, l.next)
@@ -101,7 +101,7 @@ module _ (a : Aim) where
     taken = taken;
   }
 
-  -- in a directory above
+  -- something goes on in each directory above
   pub goes_on-above : (names more : Key) → goes_on a (names ++ more) ≡ true → goes_on a names ≡ true
   goes_on-above names more h =
       let l = leads-from (names ++ more) h in
@@ -109,7 +109,7 @@ module _ (a : Aim) where
       goes_on-from names (leads-shorter names l.whole b.front b.rest l.next l.rest l.is_one
       (l.parts ∙ ap (λ us. us ++ l.next ∷ l.rest) b.parts ∙ append_assoc b.front b.rest (l.next ∷ l.rest)) b.takes_names)
 
-  -- above what a pattern takes
+  -- something goes on in each directory above what a pattern takes
   pub is_taken-above : (names : Key) (n : Text) (ns : Key) → is_taken a (names ++ n ∷ ns) ≡ true → goes_on a names ≡ true
   is_taken-above names n ns h =
       let (ts, one, taken) = list_any-some (λ ts. takes a.options ts (names ++ n ∷ ns)) (components a) h in

@@ -1,4 +1,4 @@
--- Where only literals go on, an entry that none of them matches gives nothing.
+-- If only literals go on, an entry that no literal matches gives nothing.
 use Rattle.std.proofs.Common.{◌≡◌, Bool, true, false, cond, not, ◌&&◌, ◌⊎◌, inl, inr, ⊎_elim, List, [], ◌∷◌, ◌++◌}
 use Rattle.std.proofs.Common.{Option, Some, None, refl, ap, ap₂, sym, subst, ◌∙◌, length}
 use Rattle.std.specs.Prelude.{Contains, nat_lt}
@@ -25,8 +25,8 @@ use Rattle.glob_search.proofs.OrderLemmas.Beginnings.{ends-cons, ended-ends, rec
 use Rattle.glob_search.proofs.OrderLemmas.GoingOn.{leads-from, in_alive}
 use Rattle.glob_search.proofs.OrderLemmas.Parts.{Contains-map, list_any-some}
 
--- What takes names and one more begins with what takes the names, and goes on by a component that takes the last, or `**`
--- is there.
+-- Components that take some names and one more begin with components that take the first names, and then a component
+-- takes the last name, or there is a `**`.
 record Last (o : MatchOptions) (whole : List Text) (names : Key) (n : Text) : Type 0 where
   front : List Text
   next : Text

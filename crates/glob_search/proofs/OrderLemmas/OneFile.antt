@@ -15,9 +15,9 @@ use Rattle.glob_tree.proofs.ContentLemmas.Directories.{IsName-from_proper}
 use Rattle.glob_rules.specs.Deciding.{rule_at, naming_rule, last_named, ignores, deciding_from, deciding, is_ignored as is_ignored_by}
 use Rattle.glob_rules.specs.Lists.{Ignores}
 use Rattle.glob_search.specs.Laws.{HasOneFile, OneFileDecides}
-use Rattle.glob_search.specs.Searching.{Aim, said, last_said, files_said, is_ignored, is_kept}
+use Rattle.glob_search.specs.Searching.{Aim, said, last_said, files_said, is_ignored, is_kept, outer_said}
 use Rattle.glob_search.proofs.EngineLemmas.Paths.{join-more}
-use Rattle.glob_search.proofs.HearingLemmas.{or-none}
+use Rattle.glob_search.proofs.ActiveLemmas.{or-none}
 
 join-two : (names : Key) (n m : Text) → join_with_byte slash ((names ++ n ∷ []) ++ m ∷ []) ≡ join_with_byte slash
     (names ++ n ∷ []) ++ slash ∷ m
@@ -48,8 +48,8 @@ module _ (a : Aim) (list : Ignores) (h : HasOneFile a list) where
   ignored n ns d =
       let path = join_with_byte slash (n ∷ ns) in
       ap (λ ls. unwrap_or (option_or (last_said ls path d) (option_or (files_said a [] (n ∷ ns) d)
-      (last_said a.last path d))) false) h.first
-      ∙ ap (λ ls. unwrap_or (option_or (files_said a [] (n ∷ ns) d) (last_said ls path d)) false) h.last
+      (outer_said a.last path d))) false) h.first
+      ∙ ap (λ ls. unwrap_or (option_or (files_said a [] (n ∷ ns) d) (outer_said ls path d)) false) h.last
       ∙ ap (λ o. unwrap_or o false) (or-none (files_said a [] (n ∷ ns) d) ∙ said-top n ns d)
       ∙ said-ignores path d
 
@@ -70,7 +70,7 @@ module _ (a : Aim) (list : Ignores) (h : HasOneFile a list) where
       ∙ past-name (front ++ x ∷ []) xs rest d later
       ∙ ap (λ f. deciding_from list f rest d) (append_assoc front (x ∷ []) xs)
 
-  -- what is ignored decides, and else what comes later
+  -- what is ignored decides, otherwise what comes later
   decides : (i later : Bool) (here other : Option ℕ) → ignores list here ≡ i → later ≡ not (ignores list other) →
       (not i && later) ≡ not (ignores list (cond i here other))
   decides true later here other is rest = sym (ap not is)

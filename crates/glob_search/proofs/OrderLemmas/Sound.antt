@@ -63,7 +63,7 @@ module _ (c : Content) (a : Aim) where
           subst IsRight (Contains-one (Found (names ++ n ∷ [])) g in') (record { kind = kind; held = held; is = is })
       by_test false h in' = absurd (Contains-nil g in')
 
-  -- what comes of an entry, if what comes of a directory is right one level down
+  -- what an entry gives, if what a directory gives is right one level down
   meet-right : IsContent c → (levels : ℕ) (names : Key) → Entered names → is_closed c a names ≡ false
       → (e : DirEntry) → Contains (children c (c.current ++ names)) e
       → (Entered (names ++ e.0 ∷ []) → Gives (visit c a levels (names ++ e.0 ∷ [])))

@@ -22,7 +22,7 @@ pub some-names : (ns : Key) (n : Text) → not (is_nil (ns ++ n ∷ [])) ≡ tru
 some-names [] n = refl
 some-names (m ∷ ms) n = refl
 
--- a search that came to a directory comes to the names below it
+-- a search that gets to a directory gets to the names below it
 abbrev pub reached_from : Content → Aim → (directory names : Key) → (is_directory : Bool) → Bool
 reached_from c a directory names d = is_visible c a directory names && is_kept a directory names d
 
@@ -65,7 +65,7 @@ module _ (c : Content) (a : Aim) where
         reached = reached-further (directory ++ m ∷ []) ms at n d (is ∙ sym (append_assoc directory (m ∷ []) ms)) f.reached closed ignored;
       })
 
-  -- what comes of a directory that is not closed is what comes of its entries
+  -- a directory that is not closed gives what its entries give
   pub inside-entries : (names : Key) (kind : Kind) (entries : List Gift) → kind_at c (c.current ++ names) ≡ Some kind
       → is_dir kind ≡ true → is_closed c a names ≡ false
       → inside a names (Some kind) entries ≡ entries

@@ -1,4 +1,4 @@
--- What holds of a search between two turns, if a known content gave the answers, and what a turn does to it.
+-- What holds for a search between two turns, if a known content gave the answers, and what a turn does to it.
 use Rattle.std.specs.Prelude.{◌≡◌, ◌≢◌, ℕ, suc, ◌<◌, ◌≤◌, Bool, true, false, List, [], ◌∷◌, ◌++◌, length, map, take}
 use Rattle.std.specs.Prelude.{reverse, Option, None, Some, Result, Ok, Err, String, Vec, string_bytes, vec_len}
 use Rattle.std.specs.Prelude.{if◌then◌else◌, ⊤}
@@ -13,10 +13,10 @@ use Rattle.glob_rules.specs.declared.error.RuleRefusal.{RuleRefusal}
 use Rattle.glob_tree.specs.Content.{Content, Key, is_dir, is_dir_at}
 use Rattle.glob_tree.specs.declared.kind.Kind.{Kind}
 use Rattle.glob_tree.specs.declared.tree.Entry.{Entry}
-use Rattle.glob_search.specs.Aims.{AreRefused, AreTextsOf, path_of, rules_from, wants}
+use Rattle.glob_search.specs.Aims.{AreRefused, AreTextsOf, outer_of, path_of, rules_from, wants}
 use Rattle.glob_search.specs.Searching.{Aim, is_ignored, is_listed}
 use Rattle.glob_search.specs.Visiting.{Gift, Found, Unread}
-use Rattle.glob_search.specs.Private.Hearing.{Hears, above_of, after, heard_of, lists_above, lists_at}
+use Rattle.glob_search.specs.Private.Active.{AreActive, above_of, after, active_lists, lists_above, lists_at}
 use Rattle.glob_search.specs.Private.Listings.{IsEntry, names_down}
 use Rattle.glob_search.specs.Private.Nodes.{AreAlive, AreBeginnings}
 use Rattle.glob_search.specs.Private.Ways.{entries_left, met, names_in, opening_left, search_left, visited}
@@ -43,13 +43,14 @@ frame_names f = names_in (string_bytes f.path)
 abbrev pub opening_names : {A : Type 0} → Opening A → Key
 opening_names o = names_in (string_bytes o.path)
 
--- the path leads to a directory of the content, and the numbers are those of the beginnings alive in it
+-- the path leads to a directory of the content, and the numbers are the beginnings alive in it
 pub record IsDirectory {A : Type 0} (c : Content) (b : Beginnings A) (text : Text) (numbers : List ℕ) : Type 0 where
   pub path : text ≡ path_of (names_in text)
   pub there : is_dir_at c (c.current ++ names_in text) ≡ true
   pub alive : AreAlive b (names_in text) numbers
 
--- the names are one longer than those of the last directory on the way (the first of the list), or it is the start
+-- If no directory is on the way, the names lead to the start; otherwise they are the names of the last directory on the
+-- way, which is the first of the list, and one more.
 abbrev pub IsBelow : {A : Type 0} → (names : Key) → List (Frame A) → Type 0
 IsBelow names [] = names ≡ []
 IsBelow names (f ∷ fs) = (n : Text) × (names ≡ frame_names f ++ n ∷ [])
@@ -58,23 +59,23 @@ pub record IsFrame {A : Type 0} (c : Content) (a : Aim) (b : Beginnings A) (f : 
   pub directory : IsDirectory c b (string_bytes f.path) f.alive.items
   pub below : IsBelow (frame_names f) fs
   pub entries : All (IsEntry c (frame_names f) f.source) f.entries.items
-  pub heard : f.heard ≡ length (lists_above a (frame_names f))
+  pub active : f.active ≡ length (lists_above a (frame_names f))
 
--- These are the directories on the way, the last one first. At least this many ignore files of each were dealt with.
+-- These are the directories on the way, the last one first. At least this many ignore files of each are done.
 abbrev pub AreFrames : {A : Type 0} → Content → Aim → Beginnings A → (files : ℕ) → List (Frame A) → Type 0
 AreFrames c a b files [] = ⊤
 AreFrames c a b files (f ∷ fs) = IsFrame c a b f fs × (files ≤ f.files) × AreFrames c a b files fs
 
--- the lists that apply in the last directory or, if there is none, before the start
+-- the lists of files that apply in the last directory, or none before the start
 abbrev pub lists_of : {A : Type 0} → Aim → List (Frame A) → List (ℕ × Ignores)
-lists_of a [] = after 0 a.last
+lists_of a [] = []
 lists_of a (f ∷ fs) = lists_at a (frame_names f)
 
 -- the lists that apply in a directory after this many of its ignore files were read
 abbrev pub lists_up_to : (known : Text → Option Text) → Aim → (files : List Text) → (names : Key) → ℕ → List (ℕ × Ignores)
 lists_up_to known a files names n = lists_above a names ++ after (above_of names) (rules_from known (take n files) names)
 
--- the directory that is entered next is in the last one on the way
+-- the directory that is entered next is in the last directory on the way
 pub record IsOpening {A : Type 0} (c : Content) (b : Beginnings A) (fs : List (Frame A)) (o : Opening A) : Type 0 where
   pub directory : IsDirectory c b (string_bytes o.path) o.alive.items
   pub below : IsBelow (opening_names o) fs
@@ -84,14 +85,15 @@ pub record IsFor {A : Type 0} (a : Aim) (s : Searcher A) : Type 0 where
   pub beginnings : AreBeginnings a.options a.patterns s.beginnings
   pub depth : a.depth ≡ s.depth
   pub wanted : (kind : Kind) → a.is_wanted kind ≡ wants s.wanted (is_dir kind)
-  pub first : heard_of s.heard.first.items ≡ after 0 a.first
+  pub first : active_lists s.active.first.items ≡ after 0 a.first
+  pub last : outer_of s.active.last.items ≡ a.last
 
 -- All ignore files of the directories on the way were read, and the directory that is entered next is below them.
 pub record IsReady {A : Type 0} (c : Content) (a : Aim) (s : Searcher A) : Type 0 where
   pub for : IsFor a s
   pub frames : AreFrames c a s.beginnings (length (file_names s)) (reverse s.way.frames.items)
   pub opening : ForSome s.way.entering (IsOpening c s.beginnings (reverse s.way.frames.items))
-  pub heard : heard_of s.heard.files.items ≡ lists_of a (reverse s.way.frames.items)
+  pub active : active_lists s.active.files.items ≡ lists_of a (reverse s.way.frames.items)
 
 -- So far this many ignore files of the last directory were read.
 pub record IsReading {A : Type 0} (c : Content) (a : Aim) (known : Text → Option Text) (s : Searcher A) (n : ℕ) : Type 0 where
@@ -102,7 +104,7 @@ pub record IsReading {A : Type 0} (c : Content) (a : Aim) (known : Text → Opti
   pub frames : reverse s.way.frames.items ≡ last ∷ above
   pub frame : IsFrame c a s.beginnings last above
   pub others : AreFrames c a s.beginnings (length (file_names s)) above
-  pub heard : heard_of s.heard.files.items ≡ lists_up_to known a (file_names s) (frame_names last) n
+  pub active : active_lists s.active.files.items ≡ lists_up_to known a (file_names s) (frame_names last) n
   pub whole : last.source ≢ LookedUp → names_of (entries_of last.entries.items) ≡ names_down c (frame_names last)
 
 -- a known content and known texts give the answers, and the rules of the search are those of the texts
@@ -117,7 +119,7 @@ pub data IsSound {A : Type 0} (c : Content) (a : Aim) (known : Text → Option T
   Ready : IsReady c a s → IsSound c a known s
   Reading : (n : ℕ) → (r : IsReading c a known s n) → r.last.files ≡ n → IsSound c a known s
 
--- The entry is one of the last directory.
+-- The entry belongs to the last directory.
 abbrev pub IsMet : {A : Type 0} → Content → List (Frame A) → Entry A → Type 0
 IsMet c [] e = ⊥
 IsMet c (f ∷ fs) e = IsEntry c (frame_names f) f.source e
@@ -127,7 +129,7 @@ pub record IsLeft {A : Type 0} (c : Content) (a : Aim) (s : Searcher A) (n : ℕ
   pub for : IsFor a s
   pub free : s.way.entering ≡ None
   pub frames : AreFrames c a s.beginnings (length (file_names s)) (reverse s.way.frames.items)
-  pub heard : take n (heard_of s.heard.files.items) ≡ lists_of a (reverse s.way.frames.items)
+  pub active : take n (active_lists s.active.files.items) ≡ lists_of a (reverse s.way.frames.items)
 
 -- what holds when the next work has been taken from the way
 abbrev pub HasWork : {A : Type 0} → Content → Aim → (known : Text → Option Text) → Searcher A → Work A → Type 0
@@ -205,7 +207,7 @@ pub record AreEntries {A : Type 0} (c : Content) (a : Aim) (names : Key) (source
   pub whole : source ≢ LookedUp → names_of (entries_of entries) ≡ names_down c names
   pub gives : entries_left c a names entries ≡ visited c a names
 
--- or the directory cannot be listed, and that is what it gives
+-- or the directory cannot be listed, and this is what it gives
 abbrev pub EntriesGive : {A : Type 0} → Content → Aim → (names : Key) → Source → (path : Text)
     → Result (Vec (Entry A) A) (SearchFault A) → Type 0
 EntriesGive c a names source path (Ok entries) = AreEntries c a names source entries.items
@@ -225,7 +227,8 @@ FitsSource a names Named = is_listed a names ≡ true
 -- the kinds of entries do not matter
 pub record IsKindless {A : Type 0} (s : Searcher A) : Type 0 where
   pub all : s.wanted ≡ Everything
-  pub none : (a : Aim) (directory : Key) (n : Text) (d : Bool) → Hears a directory s.heard → is_ignored a (directory ++ n ∷ []) d ≡ false
+  pub none : (a : Aim) (directory : Key) (n : Text) (d : Bool) → AreActive a directory s.active →
+      is_ignored a (directory ++ n ∷ []) d ≡ false
 
 -- the directory became the last one on the way
 pub record StepsInto {A : Type 0} (o : Opening A) (source : Source) (entries : Vec (Entry A) A) (old new : Searcher A) : Type 0 where
@@ -238,7 +241,7 @@ pub record StepsInto {A : Type 0} (o : Opening A) (source : Source) (entries : V
     source = source;
     entries = entries;
     files = 0;
-    heard = vec_len old.heard.files;
+    active = vec_len old.active.files;
   }
 
 -- the path that is found, if the test says so

@@ -13,7 +13,7 @@ is_last (fault.RefusedRules path refusals) = false
 is_last fault.Limit = true
 is_last fault.Memory = true
 
--- the fault is that a directory cannot be listed, which costs something, or it is the last
+-- the fault is that a directory cannot be listed, which costs something, or it is the last fault
 abbrev pub IsOfListing : {A : Type 0} → (before after : ℕ) → SearchFault A → Type 0
 IsOfListing before after (fault.Unread path e) = before < after
 IsOfListing before after (fault.UnreadRules path e) = ⊥
@@ -21,7 +21,7 @@ IsOfListing before after (fault.RefusedRules path refusals) = ⊥
 IsOfListing before after fault.Limit = ⊤
 IsOfListing before after fault.Memory = ⊤
 
--- it is one of a file with rules that has one of these names, or it is the last
+-- it is about an ignore file with one of these names, or it is the last fault
 abbrev pub IsOfRules : {A : Type 0} → (files : List Text) → SearchFault A → Type 0
 IsOfRules files (fault.Unread path e) = ⊥
 IsOfRules files (fault.UnreadRules path e) = IsRuleFile files (string_bytes path)

@@ -68,7 +68,7 @@ IsListed c names source path (Err (fault.RefusedRules text refusals)) = ⊥
 IsListed c names source path (Err fault.Limit) = ⊤
 IsListed c names source path (Err fault.Memory) = ⊤
 
--- each name is less than those before it, so each comes once
+-- each name is less than the names before it, so each comes once
 abbrev pub AreFalling : {A : Type 0} → List (Entry A) → Type 0
 AreFalling [] = ⊤
 AreFalling {A} (e ∷ es) =

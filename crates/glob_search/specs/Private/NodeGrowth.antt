@@ -70,7 +70,7 @@ pub record LeadsMore {A : Type 0} (o : MatchOptions) (front : ℕ → List Text)
   pub kept : (d : ℕ) → LeadsTo old d → LeadsTo new d
   pub whole : new.is_whole ≡ old.is_whole
 
--- Beginnings of a path were added to the tree, and none of them is whole.
+-- Beginnings of a path were added to the tree, and none of them is a whole pattern.
 pub record Grown {A : Type 0} (o : MatchOptions) (old new : List (Node A)) (front front' : ℕ → List Text) (path : List Text) : Type 0 where
   pub tree : IsTree o new front'
   pub longer : length old ≤ length new
@@ -89,7 +89,7 @@ pub record GrownTo {A : Type 0} (o : MatchOptions) (old new : List (Node A)) (fr
   pub there : c < length new
   pub is : front' c ≡ path
 
--- one component more; a second `**` changes nothing
+-- one more component; a second `**` changes nothing
 abbrev pub pushed : (front : List Text) → (component : Text) → List Text
 pushed front t = if ends_recursive front && is_recursive t then front else front ++ t ∷ []
 
@@ -97,7 +97,7 @@ pushed front t = if ends_recursive front && is_recursive t then front else front
 abbrev pub walked : (components : List Text) → List Text
 walked ts = fold pushed [] ts
 
--- one name more after `**`
+-- one more name after `**`
 abbrev pub finished : (front : List Text) → List Text
 finished front = if ends_recursive front then front ++ (star ∷ []) ∷ [] else front
 

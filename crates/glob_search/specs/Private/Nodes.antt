@@ -1,4 +1,4 @@
--- The tree of beginnings: each has a number, and leads to those of one component more.
+-- The tree of beginnings: each has a number, and leads to beginnings with one more component.
 use Rattle.std.specs.Prelude.{◌≡◌, ℕ, ◌<◌, ◌⊎◌, Bool, true, false, ◌&&◌, ◌||◌, not, option_map, unwrap_or}
 use Rattle.std.specs.Prelude.{if◌then◌else◌, List, [], ◌∷◌, ◌++◌, length, map, slice_get, string_bytes, Option, None}
 use Rattle.std.specs.Prelude.{Some, Contains, ◌≢◌}
@@ -78,12 +78,12 @@ abbrev pub Enlivens : {A : Type 0} → List (Node A) → (number k : ℕ) → Ty
 Enlivens {A} nodes number k =
     (number ≡ k) ⊎ ((node : Node A) × (slice_get nodes number ≡ Some node) × (node.deep ≡ Some k))
 
--- so do the literals of a node, for a name
+-- the literals of a node make alive what they lead to, for a name
 abbrev pub LiteralStep : {A : Type 0} → List (Node A) → (key : Text) → Node A → (k : ℕ) → Type 0
 LiteralStep {A} nodes key node k =
     (l : Literal A) × Contains node.literals.items l × (string_bytes l.text ≡ key) × Enlivens nodes l.node k
 
--- so do the components with wildcards that match a name
+-- the components with wildcards that match a name make alive what they lead to
 abbrev pub WildTakes : {A : Type 0} → List (Node A) → MatchOptions → (name : Text) → Wild A → (k : ℕ) → Type 0
 WildTakes nodes o name w k = (is_match o (chars w.pattern) (chars name) ≡ true) × Enlivens nodes w.node k
 
@@ -101,7 +101,7 @@ Steps {A} nodes o name key number k =
     × (Stays o name node number k
     ⊎ (LiteralStep nodes key node k ⊎ WildStep nodes o name node.wilds.items k))
 
--- they lead there from one of these numbers
+-- the name and its key lead there from one of these numbers
 abbrev pub StepsFrom : {A : Type 0} → List (Node A) → MatchOptions → (name key : Text) → (alive : List ℕ) → (k : ℕ) → Type 0
 StepsFrom nodes o name key alive k = (number : ℕ) × Contains alive number × Steps nodes o name key number k
 
@@ -110,12 +110,12 @@ abbrev pub folded : (case : Bool) → (name : Text) → Text
 folded true name = name
 folded false name = map to_ascii_lowercase name
 
--- of the numbers below n, these are the ones whose components take the names
+-- these are the numbers below n whose components take the names
 pub record AreTaken (o : MatchOptions) (front : ℕ → List Text) (count : ℕ) (names : Key) (numbers : List ℕ) : Type 0 where
   pub taken : All (λ k. (k < count) × (takes o (front k) names ≡ true)) numbers
   pub each : (k : ℕ) → k < count → takes o (front k) names ≡ true → Contains numbers k
 
--- the numbers are those of the beginnings that take the names
+-- the numbers are the beginnings that take the names
 unfoldable pub AreAlive : {A : Type 0} → Beginnings A → (names : Key) → (numbers : List ℕ) → Type 0
 AreAlive b names numbers =
     (front : ℕ → List Text) → IsTree b.options b.nodes.items front
@@ -125,7 +125,7 @@ AreAlive b names numbers =
 abbrev pub components_of : (patterns : List Text) → List (List Text)
 components_of patterns = map (λ p. ended (pieces p)) patterns
 
--- The nodes are the beginnings of these patterns, and mark those that are whole.
+-- The nodes are the beginnings of these patterns, and mark the whole patterns.
 pub record AreBeginnings {A : Type 0} (o : MatchOptions) (patterns : List Text) (b : Beginnings A) : Type 0 where
   pub options : b.options ≡ o
   pub front : ℕ → List Text

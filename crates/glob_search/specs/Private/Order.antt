@@ -19,7 +19,7 @@ use Rattle.glob_search.specs.declared.way.Way.{Way}
 use Rattle.glob_search.specs.declared.way.Work.{Work}
 use Rattle.glob_search.specs.declared.way.Work.TheVariants.{Enter, Read, Meet, Leave}
 
--- the names are the same as the other ones, or come before them
+-- the first names are the same as the second, or come before them
 abbrev pub IsUpTo : (past at : Key) → Type 0
 IsUpTo past at = (past ≡ at) ⊎ (key_cmp past at ≡ Less)
 
@@ -32,7 +32,7 @@ pub record IsOf {A : Type 0} (names : Key) (f : Frame A) : Type 0 where
 abbrev pub AreAfter : {A : Type 0} → Text → List (Entry A) → Type 0
 AreAfter {A} n entries = (e : Entry A) → Contains entries e → slice_cmp nat_cmp n e.name ≡ Less
 
--- The names are one below those of the last directory, where only greater names are left; and so on upwards.
+-- The names are one below the last directory, in which only greater names are left; and so on upwards.
 abbrev pub IsNested : {A : Type 0} → (names : Key) → List (Frame A) → Type 0
 IsNested names [] = ⊤
 IsNested names (f ∷ fs) =
@@ -79,7 +79,7 @@ pub record FindsLater {A : Type 0} (past : Key) (found : FoundPath A) (w : Way A
   pub later : key_cmp past names ≡ Less
   pub goes : IsPastWay names w
 
--- what a turn does to that, unless it ends the search
+-- what a turn does to this order, unless it ends the search
 abbrev pub TurnsLater : {A : Type 0} → (past : Key) → Result (Option (FoundPath A)) (SearchFault A) → Way A → Type 0
 TurnsLater past (Ok None) w = IsPastWay past w
 TurnsLater past (Ok (Some found)) w = FindsLater past found w

@@ -5,7 +5,7 @@ use Rattle.glob_pattern.specs.declared.error.PatternRefusal.TheVariants.{Syntax,
 use Rattle.glob_text.specs.Text.{Text}
 use Rattle.glob_search.specs.Refusals.{HasFault}
 
--- the fault of the first of some texts that has one, or a failed allocation
+-- the fault of the first text with a fault, or a failed allocation
 abbrev pub RefusesFirst : (texts : List Text) → PatternRefusal → Type 0
 RefusesFirst texts (Syntax e) = HasFault texts e
 RefusesFirst texts Memory = ⊤

@@ -14,7 +14,7 @@ use Rattle.glob_search.specs.declared.way.Way.{Way}
 use Rattle.glob_search.specs.declared.way.Work.{Work}
 use Rattle.glob_search.specs.declared.way.Work.TheVariants.{Enter, Read, Meet, Leave}
 
--- If the entries are all of a directory, none of them has the name.
+-- If these are all entries of a directory, none of them has the name.
 pub record IsAbsent {A : Type 0} (f : Frame A) (name : Text) : Type 0 where
   pub known : f.source ≢ LookedUp
   pub absent : (c : Content) (names : Key) → IsTrue (is_content c)
@@ -31,7 +31,7 @@ NextFile files old None new = Passes files old new (length files) × (length fil
 NextFile files old (Some n) new =
     Passes files old new n × (old.files ≤ n) × (n < length files) × (new.files ≡ suc n)
 
--- the last directory is another one, or is the same except for what was visited and read
+-- the last directory is another one, or it is the same apart from what was visited and read
 pub record LastGoes {A : Type 0} (old new : Way A) (f g : Frame A) : Type 0 where
   pub free : old.entering ≡ None
   pub still : new.entering ≡ None
@@ -62,7 +62,7 @@ pub record LeavesNext {A : Type 0} (files : List Text) (old : Way A) (n : ℕ) (
   pub before : old.frames.items ≡ new.frames.items ++ last ∷ []
   pub next : NextFile files last None passed
   pub none : last.entries.items ≡ []
-  pub heard : n ≡ last.heard
+  pub active : n ≡ last.active
 
 -- what comes next
 abbrev pub NextWork : {A : Type 0} → (files : List Text) → Way A → Option (Work A) → Way A → Type 0

@@ -37,7 +37,7 @@ abbrev pub opening_left : {A : Type 0} → Content → Aim → Option (Opening A
 opening_left c a None = []
 opening_left c a (Some o) = visited c a (names_in (string_bytes o.path))
 
--- The gifts that are left: of the directory entered next, and then of those on the way, the last one first.
+-- The gifts that are left: of the directory entered next, and then of the directories on the way, the last one first.
 abbrev pub way_left : {A : Type 0} → Content → Aim → Way A → List Gift
 way_left c a w = opening_left c a w.entering ++ flat_map (frame_left c a) (reverse w.frames.items)
 

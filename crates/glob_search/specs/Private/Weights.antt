@@ -33,7 +33,7 @@ work_weight (Leave n) = 1
 abbrev pub unmet : {A : Type 0} → Way A → ℕ
 unmet w = sum_by (λ f. vec_len f.entries) w.frames.items
 
--- a unit of the limit that is left, or an entry that was charged: each is for one path or fault
+-- a unit of the limit that is left, or an entry that was charged: each pays for one path or fault
 abbrev pub stock : {A : Type 0} → Meter → Way A → ℕ
 stock m w = (m.limit - m.spent) + unmet w
 
@@ -49,7 +49,7 @@ last_left (Some o) fs = 1
 last_left None [] = 0
 last_left None (f ∷ fs) = 1
 
--- at most so many paths and faults are still to come
+-- at most this many paths and faults are still to come
 abbrev pub items_left : {A : Type 0} → Meter → Way A → ℕ
 items_left m w = stock m w + last_left w.entering w.frames.items
 

@@ -41,7 +41,7 @@ impl<A: Allocator + Copy> Beginnings<A> {
         Ok(())
     }
 
-    /// Adds the beginnings that the components of a pattern lead to, one after another, and returns the last.
+    /// Adds the beginnings that the components of a pattern lead to, one after another, and returns the last one.
     fn walk(&mut self, pattern: &str) -> Result<usize, PatternRefusal>
         ensures options { self.new.options ≡ self.old.options }
         ensures within { IfOk result (λ node. node < vec_len self.new.nodes) }
@@ -60,7 +60,8 @@ impl<A: Allocator + Copy> Beginnings<A> {
         Ok(at)
     }
 
-    /// The beginning that is the whole pattern, given that of its last component: after `**`, one name further.
+    /// The beginning that is the whole pattern, given the beginning of its last component. They differ after `**`,
+    /// which needs one more name.
     fn end_of(&mut self, at: usize) -> Result<usize, PatternRefusal>
         requires { at < vec_len self.old.nodes }
         ensures options { self.new.options ≡ self.old.options }
@@ -88,7 +89,8 @@ impl<A: Allocator + Copy> Beginnings<A> {
         self.nodes[at].mark_whole();
     }
 
-    /// The beginning that a component leads to, added if it is missing. After `**`, another `**` leads to the same one.
+    /// The beginning that a component leads to, added if it is missing. After `**`, another `**` leads to the same
+    /// beginning.
     fn child(&mut self, at: usize, component: &str) -> Result<usize, PatternRefusal>
         requires { at < vec_len self.old.nodes }
         ensures options { self.new.options ≡ self.old.options }
@@ -110,7 +112,7 @@ impl<A: Allocator + Copy> Beginnings<A> {
         Ok(self.lead(at, component)?)
     }
 
-    /// Makes sets for the beginnings from which many components with wildcards lead on.
+    /// Makes a set for each beginning from which many components with wildcards lead on.
     pub(super) fn gather(&mut self) -> Result<(), AllocError>
         ensures begins { (o : MatchOptions) (patterns : List Text)
             → AreBeginnings o patterns self.old → AreBeginnings o patterns self.new }

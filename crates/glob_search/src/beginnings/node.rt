@@ -48,9 +48,9 @@ pub struct Wild<A: Allocator> {
 /// A beginning, and the components by which it leads to others.
 #[derive(Drop)]
 pub struct Node<A: Allocator> {
-    /// Literal ones, in ascending order.
+    /// Literal components, in ascending order.
     pub literals: Vec<Literal<A>, A>,
-    /// Those with wildcards, other than `**`.
+    /// Components with wildcards, other than `**`.
     pub wilds: Vec<Wild<A>, A>,
     /// The number of the beginning that `**` leads to, if there is one.
     pub deep: Option<usize>,
@@ -58,7 +58,7 @@ pub struct Node<A: Allocator> {
     pub is_deep: bool,
     /// Whether it is a whole pattern.
     pub is_whole: bool,
-    /// The components with wildcards as a set, where there are many.
+    /// The components with wildcards as a set, if there are many.
     pub set: Option<PatternSet<A>>,
     ghost gathered: { ForSome set (λ s. s.patterns ≡ map (λ w. w.pattern) wilds.items) },
 }
@@ -131,7 +131,7 @@ impl<A: Allocator + Copy> Node<A> {
         None
     }
 
-    /// The index of a literal component, or the one at which it belongs.
+    /// The index of a literal component, or the index at which it belongs.
     fn find_literal(&self, text: &str) -> Result<usize, usize>
         ensures within { IsSearchInRange result (vec_len self.now.literals) }
         ensures place { IsBinarySearchResult (λ l. slice_cmp nat_cmp (string_bytes l.text) text.now)
@@ -252,7 +252,7 @@ impl<A: Allocator + Copy> Node<A> {
         !self.is_literal() || !self.literals.is_empty()
     }
 
-    /// Whether it leads on by nothing but literal components.
+    /// Whether it leads on only by literal components.
     pub fn is_literal(&self) -> bool
         ensures { result ≡ has_only_literals self.now }
     {

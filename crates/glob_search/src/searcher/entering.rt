@@ -71,7 +71,7 @@ impl<A: Allocator + Copy> Searcher<A> {
         if entries.is_empty() {
             return Ok(());
         }
-        let heard = self.heard.files.len();
+        let active = self.active.files.len();
         let Opening { path, alive } = opening;
         self.way.frames.push(Frame {
             path,
@@ -79,13 +79,13 @@ impl<A: Allocator + Copy> Searcher<A> {
             source,
             entries,
             files: 0,
-            heard,
+            active,
         })?;
         Ok(())
     }
 
-    /// How to learn the entries of a directory. Names are looked up if only literals lead on. Otherwise it is listed,
-    /// without kinds if none are needed and only entries that literals name may be entered.
+    /// How to learn the entries of a directory. If only literals lead on, their names are looked up. Otherwise the
+    /// directory is listed, without kinds if no kinds are needed and only entries named by literals may be entered.
     fn source_of(&self, opening: &Opening<A>) -> Source
         ensures { (a : Aim) (names : Key) → AreBeginnings a.options a.patterns self.now.beginnings
             → AreAlive self.now.beginnings names opening.now.alive.items

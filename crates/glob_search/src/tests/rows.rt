@@ -5,7 +5,7 @@ pub const SOURCE: &str =
     "src/ src/a.c src/b.h src/sub/ src/sub/c.c lib/ lib/d.h doc/ doc/e.txt .git/ .git/f.c";
 
 /// Keys, patterns, letters, rules, names of files with rules, their texts, what is found, listings, lookups.
-pub static ROWS: [&str; 28] = [
+pub static ROWS: [&str; 35] = [
     "SOURCE|src/*.c lib/*.h|||||lib/d.h src/a.c|2|2",
     "SOURCE|src/*.c lib/*.h|i||||lib/d.h src/a.c|3|2",
     "SOURCE|**/*.c|||||.git/f.c src/a.c src/sub/c.c|6|0",
@@ -32,6 +32,13 @@ pub static ROWS: [&str; 28] = [
     "a/ a/.i a/.j a/b a/c|**/[bc]|||.i .j|a/.i:b [é] c [é];a/.j:!b|!a/.i a/b|2|0",
     "a/ a/b .i .j b|**/b|||.i .j|.i:[é];.j:[[:x:]] a/|!.i !.j b|1|0",
     "a/ a/.ignore a/b/ a/b/x b/ b/y .ignore|**/[xy]|||.ignore|.ignore:b/;a/.ignore:!b|a/b/x|3|0",
+    "a b c/ c/a|**||;:a|||b c|2|0",
+    "a b c/ c/a|**||;x/y:x/y/a /b|||b c c/a|2|0",
+    "a b c/ c/a|**||;x/y:y/a y/b/;y:y/a|||b c c/a|2|0",
+    "a b c/ c/a|**||;y:y/a;:/b|||c c/a|2|0",
+    "a b c/ c/a|**||;x/y:a b;y:!/y/a;:!b|||a b c|2|0",
+    "a b c/ c/a .i|**/[abc]||;x:/x/*;y:!c|.i|.i:!b|b c c/a|2|0",
+    "a b c/ c/a|**||!a;x:a y/b|||a b c c/a|2|0",
     "1a/ 1a/f 2b/ 2b/f 2b/g 13/ 13/f y/ y/f|0* 1*/f 2*/g 3* 4* 5* 6* 7* 8* 9* *3/f *b/f y*/**|||||13/f 1a/f 2b/f 2b/g y/f|2|4",
     "x/ x/A x/B3 x/b y7 c|**/*0 **/*1 **/*2 **/*3 **/*4 **/*5 **/*6 **/*7 **/*8 **/*9 **/*a **/*b|i||||x/A x/B3 x/b y7|2|0",
 ];

@@ -1,4 +1,4 @@
--- Keys: what all texts have that a pattern matches, and what a text is looked up by.
+-- Keys: what all texts matched by a pattern have, and what a text is looked up by.
 use Rattle.std.specs.Prelude.{◌≡◌, ℕ, ◌+◌, ◌*◌, ◌%◌, ◌^◌, ◌<◌, ◌≤◌, ◌⊎◌, bit_or, List, [], ◌∷◌, ◌++◌, length, drop}
 use Rattle.std.specs.Prelude.{reverse, slice_index_or, fold, Option, None, IfSome, IsTrue, chars}
 use Rattle.std.specs.List.{concat}

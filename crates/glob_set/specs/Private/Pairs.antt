@@ -51,7 +51,7 @@ pub record IsPairAt (pattern : Text) (number class : ℕ) : Type 0 where
   pub bits : HasBits pattern (class_bit class)
   pub last : HasCount (chars pattern) (number + 1) → HasClass pattern class
 
--- what every text has that the pattern matches
+-- what every text matched by the pattern has
 pub record IsNeed (pattern : Text) (need : Need) : Type 0 where
   pub bits : HasBits pattern need.bits
   pub class : IfSome need.class (HasClass pattern)

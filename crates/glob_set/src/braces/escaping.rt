@@ -5,8 +5,8 @@ ghost use Rattle.glob_set.specs.BraceEscaping.{StandsFor, escaped_character, esc
 use std::alloc::{AllocError, Allocator};
 
 /// Escapes a text to a pattern with braces that matches it: puts each `?`, `*`, `[`, `]`, `{` and `}` in a bracket of
-/// its own, and keeps every other character. `{a}*` becomes `[{]a[}][*]`, which is its own only alternative in
-/// [`expand`](crate::braces::expand). Fails only if allocation fails.
+/// its own, and keeps every other character. `{a}*` becomes `[{]a[}][*]`, which [`expand`](crate::braces::expand)
+/// returns as its only alternative. Fails only if allocation fails.
 pub fn escape<A: Allocator>(alloc: A, text: &str) -> Result<String<A>, AllocError>
     ensures escaped { IfOk result
         (λ escaped. chars (string_bytes escaped) ≡ escaped_text (chars text.now)) }

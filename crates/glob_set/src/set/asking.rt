@@ -11,7 +11,7 @@ use crate::pairs::{Need, text_bits, text_class};
 use crate::set::PatternSet;
 use std::alloc::{AllocError, Allocator};
 
-/// The bits of a text are computed if a list has at least this many patterns to ask. Fewer are asked faster without.
+/// How many patterns there must be to ask before the bits of a text are computed. Fewer are asked faster without them.
 const FEWEST_WITH_BITS: usize = 3;
 
 impl<A: Allocator + Copy> PatternSet<A> {
@@ -108,7 +108,7 @@ impl<A: Allocator + Copy> PatternSet<A> {
         self.push_of(found.numbers(), text, bits, numbers)
     }
 
-    /// Adds those of the asked numbers whose patterns match the text.
+    /// Adds the asked numbers whose patterns match the text.
     fn push_of<B: Allocator>(
         &self,
         asked: &[usize],

@@ -1,7 +1,7 @@
 use Rattle.std.proofs.Common.{◌<◌, ◌≤◌, ◌++◌, length, sym, ap, ◌∙◌, arith}
 use Rattle.std.specs.List.{filter}
 use Rattle.std.proofs.lemmas.List.{take_all}
-use Rattle.glob_rules.specs.Writings.{holds, held}
+use Rattle.glob_rules.specs.StepTexts.{holds, held}
 use Rattle.glob_rules.specs.declared.listing.TheConstants.{ORDER}
 use Rattle.glob_rules.proofs.LineLemmas.{filtered-yes, filtered-no}
 use Rattle.glob_rules.proofs.listing.write_held.Goals as goal

@@ -1,7 +1,7 @@
 -- The characters so far are written.
 use Rattle.std.proofs.Common.{◌≡◌, ◌++◌, take}
 use Rattle.std.specs.List.{filter}
-use Rattle.glob_rules.specs.Writings.{holds}
+use Rattle.glob_rules.specs.StepTexts.{holds}
 use Rattle.glob_rules.specs.declared.listing.TheConstants.{ORDER}
 use Rattle.glob_rules.proofs.listing.write_held.Given as goal
 

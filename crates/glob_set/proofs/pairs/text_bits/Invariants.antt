@@ -1,4 +1,4 @@
--- What is left gives the bits that are left.
+-- The bits so far and the bits of the bytes that are left are all bits of the text.
 use Rattle.std.proofs.Common.{◌≡◌, bit_or, drop}
 use Rattle.glob_set.specs.Private.Pairs.{pair_bits}
 use Rattle.glob_set.proofs.pairs.text_bits.Given as goal

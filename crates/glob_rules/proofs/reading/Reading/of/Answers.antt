@@ -7,7 +7,7 @@ use Rattle.glob_rules.specs.Readings.{Read, next_reading, reading_from}
 use Rattle.glob_rules.proofs.reading.Reading.of.Goals as goal
 use Rattle.glob_rules.proofs.reading.Reading.of.Goals.{in-empty, in-len1-up-ahead}
 
--- what was taken, but for its first byte
+-- what was taken, without its first byte
 tail_taken : (n c : ℕ) (cs : List ℕ) → drop 1 (take (1 + n) (c ∷ cs)) ≡ take n cs
 tail_taken n c cs = let e : 1 + n ≡ suc n = omega arith in rw e refl
 
@@ -23,7 +23,7 @@ ahead_more : (ahead rest : List ℕ) → 1 ≤ length rest → 1 ≤ length ahea
 ahead_more ahead [] long some is = absurd (omega (arith, long))
 ahead_more ahead (c ∷ cs) long some is = rw (take_rest (c ∷ cs) 1) (take_rest ahead 1 ∙ behind (c == close_bracket) c cs ahead refl some is)
 
--- one byte more is read
+-- one more byte is read
 one_read : (r next : Read) (ahead rest : List ℕ) → 1 ≤ length rest → ahead ≡ before_close (take (length rest - 1) (drop 1 rest))
     → next ≡ next_reading r (get_or rest 0 0) ahead → reading_from next (take (length rest - 1) (drop 1 rest)) ≡ reading_from r rest
 one_read r next ahead [] long is step = absurd (omega (arith, long))

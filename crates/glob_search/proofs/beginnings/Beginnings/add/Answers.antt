@@ -32,7 +32,8 @@ returns-clause-added g c front tree =
     (subst (λ o'. IsTree o' new both.front') (c.mark_whole.ensures.options ∙ same) marked) c.mark_whole.ensures.marked
 
 pub returns-clause-accepted : goal.returns-clause-accepted
-returns-clause-accepted g c = accepted-first c.args.pattern.now (pieces c.args.pattern.now) c.in_ok-new.ensures.accepted c.in_ok-at.ensures.accepted
+returns-clause-accepted g c = accepted-first c.args.pattern.now (pieces c.args.pattern.now) c.in_ok-new.ensures.accepted
+    c.in_ok-at.ensures.accepted
 
 pub returns-in_err-new-clause-refused : goal.returns-in_err-new-clause-refused
 returns-in_err-new-clause-refused g c =

@@ -10,14 +10,14 @@ use Rattle.glob_tree.proofs.ContentLemmas.Contents.{IsContent-from_test}
 use Rattle.glob_search.specs.Aims.{path_of, wants}
 use Rattle.glob_search.specs.Searching.{goes_on, is_ignored}
 use Rattle.glob_search.specs.Private.Engine.{Turns, found_if, frame_names}
-use Rattle.glob_search.specs.Private.Hearing.{Hears}
+use Rattle.glob_search.specs.Private.Active.{AreActive}
 use Rattle.glob_search.specs.Private.Listings.{known_kind}
 use Rattle.glob_search.specs.Private.Nodes.{AreAlive}
 use Rattle.glob_search.specs.Private.Order.{IsPastWay}
 use Rattle.glob_search.specs.Private.Steps.{MayEnter}
 use Rattle.glob_search.specs.Private.Ways.{search_left}
 use Rattle.glob_search.proofs.EngineLemmas.Ending.{enters-frames}
-use Rattle.glob_search.proofs.EngineLemmas.Meeting.{both-same, hears, ignored-same, met-ignored, met-nothing, met-of}
+use Rattle.glob_search.proofs.EngineLemmas.Meeting.{both-same, are_active, ignored-same, met-ignored, met-nothing, met-of}
 use Rattle.glob_search.proofs.EngineLemmas.Meeting.{on-else, on-then, passes, takes}
 use Rattle.glob_search.proofs.EngineLemmas.Past.{meets-past, skips-past}
 use Rattle.glob_search.proofs.EngineLemmas.Paths.{child-found, names-proper, proper-parts}
@@ -105,10 +105,10 @@ returns-then-branch-clause-turns g c = λ content a known answers (ready, free, 
     let matters = c.in_ok-is_dir.ensures.matters in
     let same = c.in_ok-is_dir.ensures.same in
     let u = c.kind_at.new.self in
-    let hears' : Hears a names u.heard = subst (λ x. Hears a names x.heard) (sym same) (hears content good a known s
+    let are_active' : AreActive a names u.active = subst (λ x. AreActive a names x.active) (sym same) (are_active content good a known s
     ready free m.f m.fs m.is n kind held) in
     let out : c.in_ok-is_left_out.field-0 ≡ is_ignored a key (is_dir kind) =
-    c.in_ok-is_left_out.ensures.out a known names n answers.same hears' proper (c.as_str-5.ensures.value ∙ path-is)
+    c.in_ok-is_left_out.ensures.out a known names n answers.same are_active' proper (c.as_str-5.ensures.value ∙ path-is)
     ∙ ap (is_ignored a key) c.unwrap_or.ensures
     ∙ ignored-same content good a known s ready free m.f m.fs m.is n kind held c.if-len-self.goes_on
     c.in_ok-is_dir.is_dir learned matters in
@@ -158,10 +158,10 @@ returns-clause-turns g c = λ content a known answers (ready, free, met).
     let matters = c.in_ok-is_dir.ensures.matters in
     let same = c.in_ok-is_dir.ensures.same in
     let u = c.kind_at.new.self in
-    let hears' : Hears a names u.heard = subst (λ x. Hears a names x.heard) (sym same) (hears content good a known s
+    let are_active' : AreActive a names u.active = subst (λ x. AreActive a names x.active) (sym same) (are_active content good a known s
     ready free m.f m.fs m.is n kind held) in
     let out : c.in_ok-is_left_out.field-0 ≡ is_ignored a key (is_dir kind) =
-    c.in_ok-is_left_out.ensures.out a known names n answers.same hears' proper (c.as_str-5.ensures.value ∙ path-is)
+    c.in_ok-is_left_out.ensures.out a known names n answers.same are_active' proper (c.as_str-5.ensures.value ∙ path-is)
     ∙ ap (is_ignored a key) c.unwrap_or.ensures
     ∙ ignored-same content good a known s ready free m.f m.fs m.is n kind held c.if-len-self.goes_on
     c.in_ok-is_dir.is_dir learned matters in
@@ -213,4 +213,5 @@ returns-clause-frames g c =
     let u = c.kind_at.new.self in
     let was : u.way.frames ≡ c.args.self.now.way.frames = ap (λ x. x.way.frames) c.in_ok-is_dir.ensures.same in
     subst (λ fs. OnOk c.take.result (c.take.new.self.way.frames ≡ fs)) was
-    (enters-frames _ (string_bytes c.in_ok-path.path) c.in_ok-alive.alive.items u.way c.take.new.self.way c.take.result c.take.ensures.enters)
+    (enters-frames _ (string_bytes c.in_ok-path.path) c.in_ok-alive.alive.items u.way c.take.new.self.way c.take.result
+    c.take.ensures.enters)

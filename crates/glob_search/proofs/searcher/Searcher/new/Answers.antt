@@ -12,8 +12,9 @@ returns g c = record {
       beginnings = c.in_ok-beginnings.ensures.beginnings;
       depth = refl;
       wanted = λ kind. refl;
-      first = c.in_ok-heard.ensures.first;
-    }) c.in_ok-heard.ensures.files c.new.ensures.items (record {
+      first = c.in_ok-active.ensures.first;
+      last = c.in_ok-active.ensures.last;
+    }) c.in_ok-active.ensures.files c.new.ensures.items (record {
       path = c.in_ok-path.path;
       alive = c.in_ok-alive.alive;
     }) w.entering-is c.in_ok-path.ensures.ok c.in_ok-alive.ensures.alive
@@ -22,8 +23,9 @@ returns g c = record {
       beginnings = c.in_ok-beginnings.ensures.beginnings;
       depth = refl;
       wanted = λ kind. refl;
-      first = c.in_ok-heard.ensures.first;
-    }) c.in_ok-heard.ensures.files c.new.ensures.items w.entering-is (omega (arith, w.if-depth-gt0.false))
+      first = c.in_ok-active.ensures.first;
+      last = c.in_ok-active.ensures.last;
+    }) c.in_ok-active.ensures.files c.new.ensures.items w.entering-is (omega (arith, w.if-depth-gt0.false))
   ];
   past = elim c.if-depth-gt0.branch [
     | then-depth-gt0 w ↦ start-past (record { entering = c.if-depth-gt0.entering; frames = c.new.result })

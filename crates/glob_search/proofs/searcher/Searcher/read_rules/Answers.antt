@@ -6,14 +6,15 @@ use Rattle.std.proofs.lemmas.List.{get_or-map, length-map}
 use Rattle.std.proofs.lemmas.Result.{err_from_is_err_and}
 use Rattle.glob_rules.specs.Lists.{refusals_of, rules_of}
 use Rattle.glob_search.specs.Private.Engine.{file_names, frame_names}
-use Rattle.glob_search.specs.Private.Hearing.{above_of, heard_of}
+use Rattle.glob_search.specs.Private.Active.{above_of, active_lists}
 use Rattle.glob_search.specs.Aims.{path_of}
 use Rattle.glob_tree.proofs.ContentLemmas.Contents.{IsContent-from_test}
 use Rattle.glob_tree.specs.Paths.{child}
 use Rattle.glob_search.proofs.EngineLemmas.Ending.{named-file}
 use Rattle.glob_search.proofs.EngineLemmas.Paths.{directory-proper}
-use Rattle.glob_search.proofs.HearingLemmas.{heard_of-push}
-use Rattle.glob_search.proofs.EngineLemmas.Reading.{last-get, path-above, path-in, read-none, read-same, read-some, reads-keeps, refused-at}
+use Rattle.glob_search.proofs.ActiveLemmas.{active_lists-push}
+use Rattle.glob_search.proofs.EngineLemmas.Reading.{last-get, path-in, read-same, reads-keeps, refused-at}
+use Rattle.glob_search.proofs.ReadLemmas.{path-above, read-none, read-some}
 use Rattle.glob_search.proofs.searcher.Searcher.read_rules.Goals as goal
 
 pub returns-in_err-push-clause-reads : goal.returns-in_err-push-clause-reads
@@ -43,8 +44,8 @@ returns-in_default-2-clause-reads g c = λ content a known good same fit (r, now
     let t = record s { meter = c.charge.new.self } in
     let none : None ≡ option_map rules_of (known (path_of (names ++ name ∷ []))) =
     (rw c.in_default-2.is at (c.in_ok-list.ensures.list known same)) ∙ ap (λ p. option_map rules_of (known p)) at in
-    reads-keeps content a known s n r now within name named t (read-same s t c.charge.new.self s.heard.files refl)
-    (read-none names (known (path_of (names ++ name ∷ []))) (heard_of s.heard.files.items) none)
+    reads-keeps content a known s n r now within name named t (read-same s t c.charge.new.self s.active.files refl)
+    (read-none names (known (path_of (names ++ name ∷ []))) (active_lists s.active.files.items) none)
 
 pub returns-then-is_empty-clause-reads : goal.returns-then-is_empty-clause-reads
 returns-then-is_empty-clause-reads g c = λ content a known good same fit (r, now, within).
@@ -79,12 +80,12 @@ returns-then-is_empty-clause-reads g c = λ content a known good same fit (r, no
     let list = c.in-Some-2.list in
     let rules : Some list ≡ option_map rules_of (known (path_of (names ++ name ∷ []))) =
     (rw c.in-Some-2.is at (c.in_ok-list.ensures.list known same)) ∙ ap (λ p. option_map rules_of (known p)) at in
-    let t = record s { meter = c.charge.new.self; heard = record s.heard { files = c.push.new.self } } in
+    let t = record s { meter = c.charge.new.self; active = record s.active { files = c.push.new.self } } in
     let keeps = reads-keeps content a known s n r now within name named t
     (read-same s t c.charge.new.self c.push.new.self refl)
-    (ap heard_of c.in_ok-push.ensures.items
-    ∙ heard_of-push s.heard.files.items (record { above = c.saturating_sub-above.result; list = list })
-    ∙ ap (λ ls. heard_of s.heard.files.items ++ ls)
+    (ap active_lists c.in_ok-push.ensures.items
+    ∙ active_lists-push s.active.files.items (record { above = c.saturating_sub-above.result; list = list })
+    ∙ ap (λ ls. active_lists s.active.files.items ++ ls)
     (read-some names c.saturating_sub-above.result list (known (path_of (names ++ name ∷ []))) above rules)) in
     keeps
 
@@ -121,12 +122,12 @@ returns-clause-reads g c = λ content a known good same fit (r, now, within).
     let list = c.in-Some-2.list in
     let rules : Some list ≡ option_map rules_of (known (path_of (names ++ name ∷ []))) =
     (rw c.in-Some-2.is at (c.in_ok-list.ensures.list known same)) ∙ ap (λ p. option_map rules_of (known p)) at in
-    let t = record s { meter = c.charge.new.self; heard = record s.heard { files = c.push.new.self } } in
+    let t = record s { meter = c.charge.new.self; active = record s.active { files = c.push.new.self } } in
     let keeps = reads-keeps content a known s n r now within name named t
     (read-same s t c.charge.new.self c.push.new.self refl)
-    (ap heard_of c.in_ok-push.ensures.items
-    ∙ heard_of-push s.heard.files.items (record { above = c.saturating_sub-above.result; list = list })
-    ∙ ap (λ ls. heard_of s.heard.files.items ++ ls)
+    (ap active_lists c.in_ok-push.ensures.items
+    ∙ active_lists-push s.active.files.items (record { above = c.saturating_sub-above.result; list = list })
+    ∙ ap (λ ls. active_lists s.active.files.items ++ ls)
     (read-some names c.saturating_sub-above.result list (known (path_of (names ++ name ∷ []))) above rules)) in
     let refusals = c.in-Some-2.refusals in
     let are : Some refusals.items ≡ option_map refusals_of (known (string_bytes c.in_ok-path.path)) =

@@ -1,5 +1,5 @@
 use Rattle.std.proofs.Common.{refl}
-use Rattle.glob_search.proofs.EngineLemmas.Stepping.{frame-heard}
+use Rattle.glob_search.proofs.EngineLemmas.Stepping.{frame-active}
 use Rattle.glob_search.proofs.searcher.Searcher.step_into.Goals as goal
 
 pub returns-clause-some : goal.returns-clause-some
@@ -10,9 +10,9 @@ returns-clause-some g c = λ _. record {
     source = c.args.source;
     entries = c.args.entries;
     files = 0;
-    heard = c.len-heard.result;
+    active = c.len-active.result;
   };
   frames = c.in_ok-push.ensures.items;
   still = refl;
-  is = frame-heard c.args.opening c.args.source c.args.entries c.len-heard.ensures;
+  is = frame-active c.args.opening c.args.source c.args.entries c.len-active.ensures;
 }

@@ -33,8 +33,8 @@ returns-clause-turns g c = λ content a known answers work.
           (subst (HasWork content a known s) w.in-Read.is work))
       | in-Leave w ↦ keeps-at content a known _ _ c.match-work.self c.match-work.self
           (ap (λ k. work_left content a s k ++ search_left content a s) w.in-Leave.is) refl
-          (leaves-keeps content a known s c.match-work.self w.in-Leave.heard (subst (HasWork content a known s) w.in-Leave.is work)
-          (left-same s c.match-work.self w.truncate.new.self w.self-is) (ap (λ x. x.heard.files.items) w.self-is
+          (leaves-keeps content a known s c.match-work.self w.in-Leave.active (subst (HasWork content a known s) w.in-Leave.is work)
+          (left-same s c.match-work.self w.truncate.new.self w.self-is) (ap (λ x. x.active.files.items) w.self-is
           ∙ w.truncate.ensures.items))
     ]
 

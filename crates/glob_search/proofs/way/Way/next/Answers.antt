@@ -81,5 +81,5 @@ returns-clause-work g c =
       before = k.whole ∙ ap (λ gs. gs ++ f ∷ []) popped.0;
       next = c.in_default-next_file.ensures.passes;
       none = no-items f.entries (ap (λ v. vec_len v) (sym c.next_file.ensures.entries) ∙ c.in_default-pop.ensures.cases.0);
-      heard = ap (λ h. h.heard) (sym popped.1) ∙ ap (λ h. h.heard) c.in_default-next_file.ensures.passes.0.same;
+      active = ap (λ h. h.active) (sym popped.1) ∙ ap (λ h. h.active) c.in_default-next_file.ensures.passes.0.same;
     }

@@ -1,4 +1,4 @@
--- None of the numbers so far is that of a match.
+-- No number so far is the number of a match.
 use Rattle.glob_set.proofs.AskingLemmas.{NoneBefore}
 use Rattle.glob_set.proofs.set.PatternSet.first_of.Given as goal
 

@@ -1,4 +1,4 @@
--- None of the numbers after those that are left is that of a match.
+-- No number after those that are left is the number of a match.
 use Rattle.std.proofs.Common.{◌≤◌, length}
 use Rattle.glob_set.proofs.AskingLemmas.{NoneAfter}
 use Rattle.glob_set.proofs.set.PatternSet.last_of.Given as goal

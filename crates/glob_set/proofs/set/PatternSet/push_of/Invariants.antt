@@ -1,4 +1,4 @@
--- The numbers so far are those of the matches among the ones asked.
+-- The numbers so far are the asked ones that match.
 use Rattle.glob_set.proofs.AskingLemmas.{PushedSoFar}
 use Rattle.glob_set.proofs.set.PatternSet.push_of.Given as goal
 

@@ -1,0 +1,228 @@
+-- Which rules are active in a directory. The last list that says something decides as the rules of the search's aim do.
+use Rattle.std.proofs.Common.{◌≡◌, ℕ, ◌+◌, ◌<◌, eqb, Bool, true, false, List, [], ◌∷◌, ◌++◌, length, take, drop, get_or, Option}
+use Rattle.std.proofs.Common.{Some, None, refl, ap, ap₂, sym, subst, ◌∙◌, arith}
+use Rattle.std.specs.Prelude.{unwrap_or, fold}
+use Rattle.std.specs.List.{All, join_with_byte}
+use Rattle.std.specs.Option.{option_or}
+use Rattle.std.specs.Path.{with_separator}
+use Rattle.std.specs.Str.{IsCharBoundary, IsUtf8}
+use Rattle.std.proofs.lemmas.Bool.{eqb-true}
+use Rattle.std.proofs.lemmas.List.{nil_from_length}
+use Rattle.std.proofs.lemmas.List.{append_assoc, append-nil, length-map, map-append, length-append, take-map, take_at}
+use Rattle.std.proofs.lemmas.List.{take-append-drop, drop_at, drop_more, get_or_at, get_or-map, length_push}
+use Rattle.std.proofs.lemmas.List.Elements.{All-append, All-get_or, All-map}
+use Rattle.std.proofs.lemmas.List.Folds.{fold-map}
+use Rattle.std.proofs.lemmas.List.Sums.{fold-append}
+use Rattle.std.proofs.lemmas.Str.{IsCharBoundary-start, IsCharBoundary-after_ascii}
+use Rattle.glob_text.specs.Characters.{slash}
+use Rattle.glob_text.specs.Text.{Text}
+use Rattle.glob_tree.specs.Content.{Key}
+use Rattle.glob_tree.specs.Paths.{join}
+use Rattle.glob_rules.specs.Lists.{Ignores}
+use Rattle.glob_search.specs.Private.Active.{active_lists, after, above_of, lists_in, lists_down, lists_above, lists_at}
+use Rattle.glob_search.specs.Private.Active.{active_said, AreActive}
+use Rattle.glob_search.specs.Aims.{outer_of}
+use Rattle.glob_search.specs.Searching.{Aim, said, last_said, files_said, is_ignored, outer_said}
+use Rattle.glob_search.specs.declared.active.FileRules.{FileRules}
+use Rattle.glob_search.specs.declared.active.ActiveRules.{ActiveRules}
+
+-- a path after an empty path stays as it is
+pub join-nothing : (prefix path : Text) → eqb (length prefix) 0 ≡ true → join prefix path ≡ path
+unfolding join
+join-nothing prefix path none = ap (λ p. with_separator p ++ path) (nil_from_length prefix (eqb-true (length prefix) 0 none))
+
+pub length-active_lists : {A : Type 0} (files : List (FileRules A)) → length (active_lists files) ≡ length files
+length-active_lists files = length-map files (λ f. (f.above, f.list))
+
+-- one more file
+pub active_lists-push : {A : Type 0} (files : List (FileRules A)) (f : FileRules A) → active_lists (files ++ f ∷ []) ≡ active_lists
+    files ++ (f.above, f.list) ∷ []
+active_lists-push files f = map-append (λ f. (f.above, f.list)) files (f ∷ [])
+
+-- only the first ones are left
+pub active_lists-take : {A : Type 0} (files : List (FileRules A)) (kept gone : List (ℕ × Ignores)) (n : ℕ) → active_lists files
+    ≡ kept ++ gone → n ≡ length kept
+    → active_lists (take n files) ≡ kept
+active_lists-take files kept gone n are len =
+    sym (take-map (λ f. (f.above, f.list)) n files) ∙ ap (take n) are ∙ take_at kept gone n (sym len)
+
+-- on the way down to one more name there is one more directory
+pub lists_down-child : (lists : List (ℕ × Ignores)) (a : Aim) (directory names : Key) (n : Text)
+    → lists_down lists a directory (names ++ n ∷ []) ≡ lists_down lists a directory names ++ lists_in a (directory ++ names)
+lists_down-child lists a directory [] n = ap (λ d. lists ++ lists_in a d) (sym (append-nil directory))
+lists_down-child lists a directory (m ∷ ms) n =
+    lists_down-child (lists ++ lists_in a directory) a (directory ++ m ∷ []) ms n
+    ∙ ap (λ d. lists_down (lists ++ lists_in a directory) a (directory ++ m ∷ []) ms ++ lists_in a d) (append_assoc directory (m ∷ []) ms)
+
+pub lists_above-child : (a : Aim) (directory : Key) (n : Text) → lists_above a (directory ++ n ∷ []) ≡ lists_at a directory
+lists_above-child a directory n = lists_down-child [] a [] directory n
+
+pub lists_at-child : (a : Aim) (directory : Key) (n : Text) → lists_at a (directory ++ n ∷ []) ≡ lists_at a directory
+    ++ lists_in a (directory ++ n ∷ [])
+lists_at-child a directory n = ap (λ lists. lists ++ lists_in a (directory ++ n ∷ [])) (lists_above-child a directory n)
+
+pub or-none : {A : Type 0} (o : Option A) → option_or o None ≡ o
+or-none None = refl
+or-none (Some x) = refl
+
+pub or_assoc : {A : Type 0} (o p q : Option A) → option_or o (option_or p q) ≡ option_or (option_or o p) q
+or_assoc None p q = refl
+or_assoc (Some x) p q = refl
+
+-- what later lists say overrides what earlier lists say
+said-after : (start : Option Bool) (lists : List (ℕ × Ignores)) (path : Text) (d : Bool)
+    → fold (λ before l. option_or (said l.1 (drop l.0 path) d) before) start lists ≡ option_or (active_said lists path d) start
+said-after start [] path d = refl
+said-after start (l ∷ ls) path d =
+    let here = said l.1 (drop l.0 path) d in
+    said-after (option_or here start) ls path d
+    ∙ or_assoc (active_said ls path d) here start
+    ∙ ap (λ o. option_or o start)
+    (ap (option_or (active_said ls path d)) (sym (or-none here)) ∙ sym (said-after (option_or here None) ls path d))
+
+said-append : (lists more : List (ℕ × Ignores)) (path : Text) (d : Bool)
+    → active_said (lists ++ more) path d ≡ option_or (active_said more path d) (active_said lists path d)
+said-append lists more path d =
+    fold-append (λ before l. option_or (said l.1 (drop l.0 path) d) before) None lists more
+    ∙ said-after (active_said lists path d) more path d
+
+-- lists that see a path after this many bytes
+said-below : (above : ℕ) (lists : List Ignores) (path : Text) (d : Bool) → active_said (after above lists) path d ≡
+    last_said lists (drop above path) d
+said-below above lists path d = fold-map (λ before l. option_or (said l.1 (drop l.0 path) d) before) (λ l. (above, l)) None lists
+
+join-append : (n : Text) (ns : Key) (m : Text) (ms : Key) → join_with_byte slash (n ∷ (ns ++ m ∷ ms)) ≡ join_with_byte
+    slash (n ∷ ns) ++ slash ∷ join_with_byte slash (m ∷ ms)
+join-append n [] m ms = refl
+join-append n (p ∷ ps) m ms =
+    ap (λ t. n ++ slash ∷ t) (join-append p ps m ms) ∙ sym (append_assoc n (slash ∷ join_with_byte slash (p ∷ ps))
+    (slash ∷ join_with_byte slash (m ∷ ms)))
+
+-- the names after a directory's in a path
+pub drop-above : (directory : Key) (m : Text) (ms : Key) → drop (above_of directory) (join_with_byte slash
+    (directory ++ m ∷ ms)) ≡ join_with_byte slash (m ∷ ms)
+drop-above [] m ms = refl
+drop-above (n ∷ ns) m ms =
+    let front = join_with_byte slash (n ∷ ns) in
+    let rest = join_with_byte slash (m ∷ ms) in
+    ap (drop (length front + 1)) (join-append n ns m ms ∙ sym (append_assoc front (slash ∷ []) rest))
+    ∙ drop_at (front ++ slash ∷ []) rest (length front + 1) (length_push front slash)
+
+-- on the way down the files of each directory are asked, the deeper ones first
+said-down : (lists : List (ℕ × Ignores)) (a : Aim) (directory names : Key) (path : Text) (d : Bool)
+    → path ≡ join_with_byte slash (directory ++ names)
+    → active_said (lists_down lists a directory names) path d ≡ option_or (files_said a directory names d) (active_said lists path d)
+said-down lists a directory [] path d is = refl
+said-down lists a directory (n ∷ ns) path d is =
+    let deeper = files_said a (directory ++ n ∷ []) ns d in
+    let below = last_said (a.rules_in directory) (join_with_byte slash (n ∷ ns)) d in
+    let own : active_said (lists_in a directory) path d ≡ below =
+    said-below (above_of directory) (a.rules_in directory) path d
+    ∙ ap (λ p. last_said (a.rules_in directory) p d) (ap (drop (above_of directory)) is ∙ drop-above directory n ns) in
+    said-down (lists ++ lists_in a directory) a (directory ++ n ∷ []) ns path d (is ∙ ap (join_with_byte slash)
+    (sym (append_assoc directory (n ∷ []) ns)))
+    ∙ ap (option_or deeper) (said-append lists (lists_in a directory) path d ∙ ap (λ o. option_or o (active_said lists path d)) own)
+    ∙ or_assoc deeper below (active_said lists path d)
+
+-- the rules that are active in a directory decide about a name in it
+pub is_ignored-active : {A : Type 0} (a : Aim) (directory : Key) (n : Text) (h : ActiveRules A) (path : Text) (d : Bool)
+    → AreActive a directory h
+    → path ≡ join_with_byte slash (directory ++ n ∷ [])
+    → is_ignored a (directory ++ n ∷ []) d ≡ unwrap_or (option_or (active_said (active_lists h.first.items) path d)
+    (option_or (active_said (active_lists h.files.items) path d) (outer_said (outer_of h.last.items) path d))) false
+is_ignored-active a directory n h path d are_active is =
+    let first : last_said a.first path d ≡ active_said (active_lists h.first.items) path d =
+    sym (ap (λ lists. active_said lists path d) are_active.first ∙ said-below 0 a.first path d) in
+    let files : files_said a [] (directory ++ n ∷ []) d ≡ active_said (active_lists h.files.items) path d =
+    sym (ap (λ lists. active_said lists path d) (are_active.files ∙ sym (lists_above-child a directory n))
+    ∙ said-down [] a [] (directory ++ n ∷ []) path d is
+    ∙ or-none (files_said a [] (directory ++ n ∷ []) d)) in
+    let last : outer_said a.last path d ≡ outer_said (outer_of h.last.items) path d =
+    sym (ap (λ lists. outer_said lists path d) are_active.last) in
+    ap (λ p. unwrap_or (option_or (last_said a.first p d) (option_or (files_said a [] (directory ++ n ∷ []) d)
+    (outer_said a.last p d))) false) (sym is)
+    ∙ ap₂ (λ o p. unwrap_or (option_or o p) false) first (ap₂ option_or files last)
+
+-- a path may be cut after a directory on its way
+above-boundary : (directory : Key) (m : Text) (ms : Key) (path : Text) → path ≡ join_with_byte slash (directory ++ m ∷ ms) → IsUtf8 path
+    → IsCharBoundary path (above_of directory)
+above-boundary [] m ms path is utf8 = IsCharBoundary-start path utf8
+above-boundary (n ∷ ns) m ms path is utf8 =
+    let front = join_with_byte slash (n ∷ ns) in
+    let rest = join_with_byte slash (m ∷ ms) in
+    let split : path ≡ front ++ slash ∷ rest = is ∙ join-append n ns m ms in
+    let within : length front < length path = omega (arith, ap length split ∙ length-append front (slash ∷ rest)) in
+    let there : get_or path (length front) 0 ≡ slash = ap (λ p. get_or p (length front) 0) split ∙ get_or_at front
+    slash rest 0 (length front) refl in
+    IsCharBoundary-after_ascii path (length front) utf8 within (omega (arith, there))
+
+-- lists that see a path after this many bytes, where it may be cut
+after-boundaries : (above : ℕ) (lists : List Ignores) (path : Text) → IsCharBoundary path above → All
+    (λ l. IsCharBoundary path l.0) (after above lists)
+after-boundaries above lists path cut = All-map (λ l. IsCharBoundary path l.0) (λ l. (above, l)) lists (λ k d lt. cut)
+
+down-boundaries : (lists : List (ℕ × Ignores)) (a : Aim) (directory names : Key) (path : Text) → path ≡ join_with_byte
+    slash (directory ++ names) → IsUtf8 path
+    → All (λ l. IsCharBoundary path l.0) lists → All (λ l. IsCharBoundary path l.0) (lists_down lists a directory names)
+down-boundaries lists a directory [] path is utf8 all = all
+down-boundaries lists a directory (n ∷ ns) path is utf8 all =
+    down-boundaries (lists ++ lists_in a directory) a (directory ++ n ∷ []) ns path (is ∙ ap (join_with_byte slash)
+    (sym (append_assoc directory (n ∷ []) ns))) utf8
+    (All-append (λ l. IsCharBoundary path l.0) lists (lists_in a directory) all
+    (after-boundaries (above_of directory) (a.rules_in directory) path (above-boundary directory n ns path is utf8)))
+
+-- each list that is active in a directory sees the path of a name in it
+pub active-boundaries : {A : Type 0} (a : Aim) (directory : Key) (n : Text) (h : ActiveRules A) (path : Text) → AreActive a directory h
+    → path ≡ join_with_byte slash (directory ++ n ∷ []) → IsUtf8 path
+    → All (λ l. IsCharBoundary path l.0) (active_lists h.first.items) × All (λ l. IsCharBoundary path l.0) (active_lists h.files.items)
+active-boundaries a directory n h path are_active is utf8 =
+    let start = IsCharBoundary-start path utf8 in (
+      subst (All (λ l. IsCharBoundary path l.0)) (sym are_active.first) (after-boundaries 0 a.first path start),
+      subst (All (λ l. IsCharBoundary path l.0)) (lists_above-child a directory n ∙ sym are_active.files)
+          (down-boundaries [] a [] (directory ++ n ∷ []) path is utf8 (after-boundaries 0 [] path start)),
+    )
+
+-- a path may be cut where one of these lists begins to see it
+pub boundary-at : {A : Type 0} (files : List (FileRules A)) (i : ℕ) (file : FileRules A) (path : Text) → i < length files
+    → file ≡ get_or files i file
+    → All (λ l. IsCharBoundary path l.0) (active_lists files) → IsCharBoundary path file.above
+boundary-at {A} files i file path lt is cuts =
+    let pair : FileRules A → ℕ × Ignores = λ f. (f.above, f.list) in
+    subst (λ l. IsCharBoundary path l.0) (get_or-map pair files i file (pair file) lt ∙ ap pair (sym is))
+    (All-get_or (λ l. IsCharBoundary path l.0) (active_lists files) i (pair file) (omega (arith, length-active_lists files)) cuts)
+
+-- what a list says if no later list says anything
+pub said-here : {A : Type 0} (files : List (FileRules A)) (i later : ℕ) (file : FileRules A) (path below : Text)
+    (d : Bool) (answer : Option Bool)
+    → i < length files → later ≡ i + 1 → file ≡ get_or files i file → (IsCharBoundary path file.above → below ≡ drop file.above path)
+    → answer ≡ said file.list below d → All (λ l. IsCharBoundary path l.0) (active_lists files) → active_said
+    (active_lists (drop later files)) path d ≡ None
+    → active_said (active_lists (drop i files)) path d ≡ answer
+said-here files i later file path below d answer lt next is cut says cuts silent =
+    let here = said file.list (drop file.above path) d in
+    ap (λ fs. active_said (active_lists fs) path d) (drop_more files i file lt ∙ ap₂ (λ f k. f ∷ drop k files) (sym is) (sym next))
+    ∙ said-after (option_or here None) (active_lists (drop later files)) path d
+    ∙ ap (λ o. option_or o (option_or here None)) silent
+    ∙ or-none here
+    ∙ sym (says ∙ ap (λ p. said file.list p d) (cut (boundary-at files i file path lt is cuts)))
+
+-- what some last lists say, whatever is before them
+pub said-found : {A : Type 0} (files : List (FileRules A)) (i : ℕ) (path : Text) (d answer : Bool) → active_said
+    (active_lists (drop i files)) path d ≡ Some answer
+    → active_said (active_lists files) path d ≡ Some answer
+said-found files i path d answer says =
+    ap (λ fs. active_said (active_lists fs) path d) (sym (take-append-drop i files))
+    ∙ ap (λ lists. active_said lists path d) (map-append (λ f. (f.above, f.list)) (take i files) (drop i files))
+    ∙ said-append (active_lists (take i files)) (active_lists (drop i files)) path d
+    ∙ ap (λ o. option_or o (active_said (active_lists (take i files)) path d)) says
+
+-- if no rule is active, nothing is ignored
+pub is_ignored-silent : {A : Type 0} (a : Aim) (directory : Key) (n : Text) (h : ActiveRules A) (d : Bool)
+    → AreActive a directory h → h.first.items ≡ [] → h.files.items ≡ [] → h.last.items ≡ []
+    → is_ignored a (directory ++ n ∷ []) d ≡ false
+is_ignored-silent a directory n h d are_active first files last =
+    let path = join_with_byte slash (directory ++ n ∷ []) in
+    is_ignored-active a directory n h path d are_active refl
+    ∙ ap₂ (λ xs ys. unwrap_or (option_or (active_said (active_lists xs) path d) (option_or (active_said (active_lists ys) path d)
+    (outer_said (outer_of h.last.items) path d))) false) first files
+    ∙ ap (λ zs. unwrap_or (outer_said (outer_of zs) path d) false) last
