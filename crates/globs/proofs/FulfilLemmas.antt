@@ -12,6 +12,7 @@ use Rattle.globs.specs.Explain.Outcomes.{Answers, ExplainsWord}
 use Rattle.globs.specs.Faults.{WritesUsage, usage_words}
 use Rattle.globs.specs.Find.Outcomes.{FindsUnignored}
 use Rattle.globs.specs.Matching.{CopiesMatches}
+use Rattle.globs.specs.Naming.{IgnoresPaths, NamesRules}
 use Rattle.globs.specs.Outcomes.{Fulfils, World}
 use Rattle.globs.specs.Reading.{Request, Runs, Helps, VersionLine, Refused}
 use Rattle.globs.specs.Requests.{IsWrongRequest, request_of}
@@ -23,8 +24,9 @@ use Rattle.globs.specs.declared.name.Name.TheVariants.{Find, Match, Ignore, Expl
 use Rattle.globs.specs.declared.usage.UsageFault.{UsageFault}
 use Rattle.globs.specs.declared.usage.UsageFault.TheVariants.{Word, Memory}
 
--- a pattern and a text are answered as their question is
-pub answers_two : {W : Type 0} (contents : W → Option (List ℕ)) (o : MatchOptions) (operands : List (Bor (List ℕ))) (none other : Bor (List ℕ)) (old new : W) (status : ℕ)
+-- the answer for a pattern and a text is the answer to their question
+pub answers_two : {W : Type 0} (contents : W → Option (List ℕ)) (o : MatchOptions) (operands : List (Bor (List ℕ)))
+    (none other : Bor (List ℕ)) (old new : W) (status : ℕ)
     → 2 ≤ length operands → length operands < 3
     → ExplainsWord contents o (get_or operands 0 none).now (get_or operands 1 other).now old new status
     → Answers contents o (map (λ w. w.now) operands) old new status
@@ -44,10 +46,10 @@ module _ {W : Type 0} (contents : W → Option (List ℕ)) (known : W) (status :
 
   -- a fault before anything was done with the output fulfils each request
   pub fulfils_refused : (world : World) (request : Request) → IsUnread world.input → Fulfils contents world request known known status
-  unfolding Fulfils FindsUnignored CopiesMatches CopiesUnignored WritesEscaped
+  unfolding Fulfils FindsUnignored CopiesMatches IgnoresPaths NamesRules CopiesUnignored WritesEscaped
   fulfils_refused world (Runs Find o operands) unread = (unread, inl (is, refl))
   fulfils_refused world (Runs Match o operands) unread = inl (unread, (is, refl))
-  fulfils_refused world (Runs Ignore o operands) unread = inl (unread, (is, refl))
+  fulfils_refused world (Runs Ignore o operands) unread = (λ _. inl (unread, (is, refl)), λ _. inl (unread, (is, refl)))
   fulfils_refused world (Runs Explain o operands) unread = (unread, answers_refused o.settings.options operands)
   fulfils_refused world (Runs Escape o operands) unread = (unread, inl (is, Keeps-refl (contents known)))
   fulfils_refused world (Helps name) unread = (unread, text_at_fault _ (contents known) status is)
@@ -55,15 +57,17 @@ module _ {W : Type 0} (contents : W → Option (List ℕ)) (known : W) (status :
   fulfils_refused world (Refused name why word) unread = (unread, (is, refl))
 
 module _ {E : Type 0} (contents : E → Option (List ℕ)) (prefix : Text) (old new : E) where
-  -- of what is no usage fault nothing is said
-  pub no_usage : {A : Type 0} (command : Command A) (request : Request) → request ≡ request_of command → WritesUsage contents prefix request old new
+  -- nothing is said about anything but a usage fault
+  pub no_usage : {A : Type 0} (command : Command A) (request : Request) → request ≡ request_of command →
+      WritesUsage contents prefix request old new
   unfolding WritesUsage
   no_usage (command.Run name asked) request is = subst (λ r. WritesUsage contents prefix r old new) (sym is) tt
   no_usage (command.Help name) request is = subst (λ r. WritesUsage contents prefix r old new) (sym is) tt
   no_usage command.Version request is = subst (λ r. WritesUsage contents prefix r old new) (sym is) tt
 
   -- the line that memory was missing
-  memory_usage : (request : Request) → WritesLine prefix (codes "out of memory") (contents old) (contents new) → WritesUsage contents prefix request old new
+  memory_usage : (request : Request) → WritesLine prefix (codes "out of memory") (contents old) (contents new) →
+      WritesUsage contents prefix request old new
   unfolding WritesUsage
   memory_usage (Runs name o operands) wrote = tt
   memory_usage (Helps name) wrote = tt
@@ -72,8 +76,10 @@ module _ {E : Type 0} (contents : E → Option (List ℕ)) (prefix : Text) (old 
   memory_usage (Refused name why word) (inr wrote) = inr wrote
 
   -- the line of a fault
-  pub line_usage : (name : Option names.Name) (fault : UsageFault) (request : Request) → IsWrongRequest request (record { name = name; fault = fault })
-      → WritesLine prefix (usage_words (record { name = name; fault = fault })) (contents old) (contents new) → WritesUsage contents prefix request old new
+  pub line_usage : (name : Option names.Name) (fault : UsageFault) (request : Request) →
+      IsWrongRequest request (record { name = name; fault = fault })
+      → WritesLine prefix (usage_words (record { name = name; fault = fault })) (contents old) (contents new) →
+      WritesUsage contents prefix request old new
   unfolding WritesUsage
   line_usage name (Word why word) request is wrote = subst (λ r. WritesUsage contents prefix r old new) (sym is) wrote
   line_usage name Memory request is wrote = memory_usage request wrote

@@ -1,10 +1,13 @@
+pub mod AboveLemmas
 pub mod AimLemmas
 pub mod CopyLemmas
+pub mod EachLemmas
 pub mod EscapeLemmas
 pub mod FilterLemmas
 pub mod FulfilLemmas
-pub mod LessLemmas
+pub mod LeadLemmas
 pub mod ListLemmas
+pub mod NamingLemmas
 pub mod RequestLemmas
 pub mod SearchedLemmas
 pub mod SourceLemmas

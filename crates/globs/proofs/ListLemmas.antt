@@ -1,5 +1,6 @@
--- With rules of the command line alone, what is ignored on the way to a path is what their list ignores.
-use Rattle.std.proofs.Common.{◌≡◌, Bool, true, false, cond, not, ◌&&◌, ◌||◌, List, [], ◌∷◌, ◌++◌, Option, Some, None, refl, ap, ap₂, sym, ◌∙◌}
+-- If there are only the rules of the command line, what is ignored on the way to a path is what their list ignores.
+use Rattle.std.proofs.Common.{◌≡◌, Bool, true, false, cond, not, ◌&&◌, ◌||◌, List, [], ◌∷◌, ◌++◌, Option, Some, None}
+use Rattle.std.proofs.Common.{refl, ap, ap₂, sym, ◌∙◌}
 use Rattle.std.specs.Prelude.{unwrap_or, if◌then◌else◌}
 use Rattle.std.specs.List.{list_all, join_with_byte}
 use Rattle.std.specs.Option.{option_or}
@@ -10,7 +11,7 @@ use Rattle.glob_tree.specs.Paths.{is_proper}
 use Rattle.glob_rules.specs.Deciding.{is_ignored as is_ignored_by}
 use Rattle.glob_rules.specs.Lists.{Ignores}
 use Rattle.glob_search.specs.Laws.{HasOneFile}
-use Rattle.glob_search.specs.Searching.{Aim, files_said, is_ignored, is_kept, is_nil, last_said, said}
+use Rattle.glob_search.specs.Searching.{Aim, files_said, is_ignored, is_kept, is_nil, last_said, outer_said, said}
 use Rattle.glob_search.specs.Aims.{rules_from}
 use Rattle.glob_search.proofs.OrderLemmas.OneFile.{one_file_decides}
 use Rattle.std.proofs.lemmas.Bool.{false≢true}
@@ -22,7 +23,7 @@ or_none : {A : Type 0} (o : Option A) → option_or o None ≡ o
 or_none None = refl
 or_none (Some x) = refl
 
--- the aim, with its list as the one file at the top
+-- the aim, with its list as the only file at the top
 abbrev top_lists : Ignores → (directory : Key) → List Ignores
 top_lists list [] = list ∷ []
 top_lists list (n ∷ ns) = []
@@ -38,13 +39,15 @@ said_below a list x xs [] d = refl
 said_below a list x xs (n ∷ ns) d = ap (λ o. option_or o None) (said_below a list x (xs ++ n ∷ []) ns d)
 
 -- with the file
-by_file : (a : Aim) (list : Ignores) (n : Text) (ns : Key) (d : Bool) → is_ignored (with_file a list) (n ∷ ns) d ≡ unwrap_or (said list (join_with_byte slash (n ∷ ns)) d) false
+by_file : (a : Aim) (list : Ignores) (n : Text) (ns : Key) (d : Bool) → is_ignored (with_file a list) (n ∷ ns) d ≡
+    unwrap_or (said list (join_with_byte slash (n ∷ ns)) d) false
 by_file a list n ns d =
     let o = said list (join_with_byte slash (n ∷ ns)) d in
     ap (λ x. unwrap_or (option_or x None) false) (ap (λ x. option_or x (option_or o None)) (said_below a list n [] ns d))
     ∙ ap (λ x. unwrap_or x false) (or_none (option_or o None) ∙ or_none o)
 
-module _ (a : Aim) (list : Ignores) (first : a.first ≡ list ∷ []) (none : (directory : Key) → a.rules_in directory ≡ []) (last : a.last ≡ []) where
+module _ (a : Aim) (list : Ignores) (first : a.first ≡ list ∷ []) (none : (directory : Key) → a.rules_in directory ≡ [])
+    (last : a.last ≡ []) where
   files_none : (directory ns : Key) (d : Bool) → files_said a directory ns d ≡ None
   files_none directory [] d = refl
   files_none directory (n ∷ ns) d =
@@ -53,12 +56,14 @@ module _ (a : Aim) (list : Ignores) (first : a.first ≡ list ∷ []) (none : (d
   by_list : (names : Key) (d : Bool) → is_ignored a names d ≡ unwrap_or (said list (join_with_byte slash names) d) false
   by_list names d =
       let path = join_with_byte slash names in
-      ap (λ ls. unwrap_or (option_or (last_said ls path d) (option_or (files_said a [] names d) (last_said a.last path d))) false) first
-      ∙ ap (λ o. unwrap_or (option_or (option_or (said list path d) None) (option_or o (last_said a.last path d))) false) (files_none [] names d)
-      ∙ ap (λ ls. unwrap_or (option_or (option_or (said list path d) None) (last_said ls path d)) false) last
+      ap (λ ls. unwrap_or (option_or (last_said ls path d) (option_or (files_said a [] names d) (outer_said a.last path d))) false) first
+      ∙ ap (λ o. unwrap_or (option_or (option_or (said list path d) None) (option_or o (outer_said a.last path d)))
+      false) (files_none [] names d)
+      ∙ ap (λ ls. unwrap_or (option_or (option_or (said list path d) None) (outer_said ls path d)) false) last
       ∙ ap (λ o. unwrap_or o false) (or_none (option_or (said list path d) None) ∙ or_none (said list path d))
 
-  same_ignored : (directory : Key) (n : Text) (d : Bool) → is_ignored a (directory ++ n ∷ []) d ≡ is_ignored (with_file a list) (directory ++ n ∷ []) d
+  same_ignored : (directory : Key) (n : Text) (d : Bool) → is_ignored a (directory ++ n ∷ []) d ≡
+      is_ignored (with_file a list) (directory ++ n ∷ []) d
   same_ignored [] n d = by_list (n ∷ []) d ∙ sym (by_file a list n [] d)
   same_ignored (x ∷ xs) n d = by_list (x ∷ (xs ++ n ∷ [])) d ∙ sym (by_file a list x (xs ++ n ∷ []) d)
 
@@ -76,8 +81,8 @@ no_names [] e = refl
 no_names (n ∷ ns) e = absurd (false≢true (sym e))
 
 pub ignores_by_list : (o : Chosen) → IgnoresByList o
-ignores_by_list o list patterns known quiet ruled =
-    list_decides (aim o list patterns known) list
+ignores_by_list o list patterns place known quiet ruled =
+    list_decides (aim o list patterns place known) list
     (ap (λ r. first_lists o.settings.is_git r list) ruled ∙ ap (λ g. git_lists g ++ list ∷ []) (unheeded o quiet))
     (λ directory. ap (λ files. rules_from known files directory) (no_names (rule_files o) quiet))
-    (ap (λ g. last_lists g known) (unheeded o quiet))
+    (ap (λ g. last_lists g place known) (unheeded o quiet))

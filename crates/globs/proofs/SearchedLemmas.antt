@@ -1,5 +1,6 @@
 -- A search whose gifts are written as they come.
-use Rattle.std.proofs.Common.{◌≡◌, ◌≢◌, ℕ, true, false, Option, None, Some, List, [], ◌∷◌, ◌++◌, Bool, ◌==◌, Result, Ok, Err, inl, inr, refl, ap, sym, eq-eqb}
+use Rattle.std.proofs.Common.{◌≡◌, ◌≢◌, ℕ, true, false, Option, None, Some, List, [], ◌∷◌, ◌++◌, Bool, ◌==◌, Result, Ok}
+use Rattle.std.proofs.Common.{Err, inl, inr, refl, ap, sym, eq-eqb}
 use Rattle.std.proofs.Common.{subst, ◌∙◌, append-nil, string_bytes, cond}
 use Rattle.std.specs.Io.KnownBytes.{Appends}
 use Rattle.std.specs.declared.io.ErrorKind.{ErrorKind}
@@ -26,10 +27,16 @@ use Rattle.globs.specs.Find.Kinds.{keeps_gift, kept}
 use Rattle.globs.specs.Find.Writing.{WritesGifts, found_paths, has_unread, is_last, item_record, noting, search_status, status_of}
 use Rattle.globs.specs.declared.find.searching.Findings.{Findings}
 
-found_paths-append : (gs hs : List Gift) → found_paths (gs ++ hs) ≡ found_paths gs ++ found_paths hs
-found_paths-append [] hs = refl
-found_paths-append (Found n ∷ gs) hs = ap (λ ps. path_of n ∷ ps) (found_paths-append gs hs)
-found_paths-append (Unread n k ∷ gs) hs = found_paths-append gs hs
+found_paths-append : (lead : Text) (gs hs : List Gift) → found_paths lead (gs ++ hs) ≡ found_paths lead gs ++ found_paths lead hs
+found_paths-append lead [] hs = refl
+found_paths-append lead (Found n ∷ gs) hs = ap (λ ps. (lead ++ path_of n) ∷ ps) (found_paths-append lead gs hs)
+found_paths-append lead (Unread n k ∷ gs) hs = found_paths-append lead gs hs
+
+-- whether there is a path does not depend on the lead
+any_led : (lead : Text) (gs : List Gift) → has_any (found_paths lead gs) ≡ has_any (found_paths [] gs)
+any_led lead [] = refl
+any_led lead (Found n ∷ gs) = refl
+any_led lead (Unread n k ∷ gs) = any_led lead gs
 
 has_unread-found : (gs : List Gift) (n : Key) → has_unread (gs ++ Found n ∷ []) ≡ has_unread gs
 has_unread-found [] n = refl
@@ -59,69 +66,70 @@ has_unread-kept keeps [] = refl
 has_unread-kept keeps (Found n ∷ gs) = unread-cond (keeps (path_of n)) n (kept keeps gs) (has_unread gs) (has_unread-kept keeps gs)
 has_unread-kept keeps (Unread n k ∷ gs) = refl
 
--- the records of what is kept of some gifts are a beginning of those of all
-records_begin : (end : ℕ) (keeps : Text → Bool) (paths : List Text) (given more all : List Gift)
-    → paths ≡ found_paths (kept keeps given) → all ≡ given ++ more
-    → with_ends end (found_paths (kept keeps all)) ≡ with_ends end paths ++ with_ends end (found_paths (kept keeps more))
-records_begin end keeps paths given more all are split =
-    let rest : List Text = found_paths (kept keeps more) in
-    ap (λ gs. with_ends end (found_paths (kept keeps gs))) split
-    ∙ ap (λ gs. with_ends end (found_paths gs)) (filter-append (keeps_gift keeps) given more)
-    ∙ ap (with_ends end) (found_paths-append (kept keeps given) (kept keeps more) ∙ ap (λ ps. ps ++ rest) (sym are))
+-- the records of what is kept of the first gifts are a prefix of the records of all
+records_begin : (end : ℕ) (keeps : Text → Bool) (lead : Text) (paths : List Text) (given more all : List Gift)
+    → paths ≡ found_paths lead (kept keeps given) → all ≡ given ++ more
+    → with_ends end (found_paths lead (kept keeps all)) ≡ with_ends end paths ++ with_ends end (found_paths lead (kept keeps more))
+records_begin end keeps lead paths given more all are split =
+    let rest : List Text = found_paths lead (kept keeps more) in
+    ap (λ gs. with_ends end (found_paths lead (kept keeps gs))) split
+    ∙ ap (λ gs. with_ends end (found_paths lead gs)) (filter-append (keeps_gift keeps) given more)
+    ∙ ap (with_ends end) (found_paths-append lead (kept keeps given) (kept keeps more) ∙ ap (λ ps. ps ++ rest) (sym are))
     ∙ flat_map-append (ended_record end) paths rest
 
 -- one more path
-paths_push : (keeps : Text → Bool) (paths : List Text) (given : List Gift) (path : Text) (names : Key)
-    → paths ≡ found_paths (kept keeps given) → path ≡ path_of names → keeps path ≡ true
-    → paths ++ path ∷ [] ≡ found_paths (kept keeps (given ++ Found names ∷ []))
-paths_push keeps paths given path names are is kept_is =
-    ap (λ ps. ps ++ path ∷ []) are ∙ ap (λ p. found_paths (kept keeps given) ++ p ∷ []) is
-    ∙ sym (found_paths-append (kept keeps given) (Found names ∷ []))
-    ∙ ap found_paths (sym (kept-push keeps given names (subst (λ p. keeps p ≡ true) is kept_is)))
+paths_push : (keeps : Text → Bool) (lead : Text) (paths : List Text) (given : List Gift) (path : Text) (names : Key)
+    → paths ≡ found_paths lead (kept keeps given) → path ≡ path_of names → keeps path ≡ true
+    → paths ++ (lead ++ path) ∷ [] ≡ found_paths lead (kept keeps (given ++ Found names ∷ []))
+paths_push keeps lead paths given path names are is kept_is =
+    ap (λ ps. ps ++ (lead ++ path) ∷ []) are ∙ ap (λ p. found_paths lead (kept keeps given) ++ (lead ++ p) ∷ []) is
+    ∙ sym (found_paths-append lead (kept keeps given) (Found names ∷ []))
+    ∙ ap (found_paths lead) (sym (kept-push keeps given names (subst (λ p. keeps p ≡ true) is kept_is)))
 
-paths_skip : (keeps : Text → Bool) (paths : List Text) (given : List Gift) (path : Text) (names : Key)
-    → paths ≡ found_paths (kept keeps given) → path ≡ path_of names → keeps path ≡ false
-    → paths ≡ found_paths (kept keeps (given ++ Found names ∷ []))
-paths_skip keeps paths given path names are is kept_not =
-    are ∙ ap found_paths (sym (kept-skip keeps given names (subst (λ p. keeps p ≡ false) is kept_not)))
+paths_skip : (keeps : Text → Bool) (lead : Text) (paths : List Text) (given : List Gift) (path : Text) (names : Key)
+    → paths ≡ found_paths lead (kept keeps given) → path ≡ path_of names → keeps path ≡ false
+    → paths ≡ found_paths lead (kept keeps (given ++ Found names ∷ []))
+paths_skip keeps lead paths given path names are is kept_not =
+    are ∙ ap (found_paths lead) (sym (kept-skip keeps given names (subst (λ p. keeps p ≡ false) is kept_not)))
 
-paths_same : (keeps : Text → Bool) (paths : List Text) (given : List Gift) (names : Key) (kind : ErrorKind)
-    → paths ≡ found_paths (kept keeps given) → paths ≡ found_paths (kept keeps (given ++ Unread names kind ∷ []))
-paths_same keeps paths given names kind are =
-    are ∙ sym (append-nil (found_paths (kept keeps given)))
-    ∙ sym (found_paths-append (kept keeps given) (Unread names kind ∷ []))
-    ∙ ap found_paths (sym (kept-unread keeps given names kind))
+paths_same : (keeps : Text → Bool) (lead : Text) (paths : List Text) (given : List Gift) (names : Key) (kind : ErrorKind)
+    → paths ≡ found_paths lead (kept keeps given) → paths ≡ found_paths lead (kept keeps (given ++ Unread names kind ∷ []))
+paths_same keeps lead paths given names kind are =
+    are ∙ sym (append-nil (found_paths lead (kept keeps given)))
+    ∙ sym (found_paths-append lead (kept keeps given) (Unread names kind ∷ []))
+    ∙ ap (found_paths lead) (sym (kept-unread keeps given names kind))
 
 -- the record of a path that is kept, or is not
-module _ {A : Type 0} (keeps : Text → Bool) (end : ℕ) (found : FoundPath A) where
-  pub record-kept : keeps (string_bytes found.path) ≡ true → item_record keeps end (Ok found) ≡ ended_record end (string_bytes found.path)
-  record-kept kept_is = ap (λ b. cond b (ended_record end (string_bytes found.path)) []) kept_is
+module _ {A : Type 0} (keeps : Text → Bool) (lead : Text) (end : ℕ) (found : FoundPath A) where
+  pub record-kept : keeps (string_bytes found.path) ≡ true → item_record keeps lead end (Ok found) ≡
+      ended_record end (lead ++ string_bytes found.path)
+  record-kept kept_is = ap (λ b. cond b (ended_record end (lead ++ string_bytes found.path)) []) kept_is
 
-  pub record-skipped : keeps (string_bytes found.path) ≡ false → item_record keeps end (Ok found) ≡ []
-  record-skipped kept_not = ap (λ b. cond b (ended_record end (string_bytes found.path)) []) kept_not
+  pub record-skipped : keeps (string_bytes found.path) ≡ false → item_record keeps lead end (Ok found) ≡ []
+  record-skipped kept_not = ap (λ b. cond b (ended_record end (lead ++ string_bytes found.path)) []) kept_not
 
-  -- where it is not kept, nothing is written and nothing waits
+  -- if it is not kept, nothing is written and nothing waits
   pub Queues-skipped : (held : Option (List ℕ)) (waiting : List ℕ) → keeps (string_bytes found.path) ≡ false
-      → Queues held waiting held waiting (item_record keeps end (Ok found))
+      → Queues held waiting held waiting (item_record keeps lead end (Ok found))
   Queues-skipped held waiting kept_not =
       subst (Queues held waiting held waiting) (sym (record-skipped kept_not)) ([], Appends-nil held, append-nil waiting)
 
--- what holds of a search from its beginning on, over a known content and known texts
+-- what holds for a search from its beginning on, over a known content and known texts
 abbrev pub Over : {P : Progress} {X Y : Type 0} → (X → Option Content) → (Y → Option (Text → Option Text)) → X → Y → SearchState P
     → (Content → Aim → (Text → Option Text) → List Gift → Type 0) → Type 0
 Over tells texts of on first Q =
     (c : Content) (a : Aim) (known : Text → Option Text) → IsTold (tells of) c → texts on ≡ Some known
     → AreTextsOf c a first.files known → (all : List Gift) → HasGiven all c a known [] first → Q c a known all
 
--- These paths are those kept of the gifts so far, among which a directory that cannot be listed is a fault.
-abbrev pub Goes : {P : Progress} → (keeps : Text → Bool) → (paths : List Text) → Findings → SearchState P → Content → Aim
+-- These are the paths kept of the gifts so far; a directory that cannot be listed counts as a fault.
+abbrev pub Goes : {P : Progress} → (keeps : Text → Bool) → (lead : Text) → (paths : List Text) → Findings → SearchState P → Content → Aim
     → (known : Text → Option Text) → List Gift → Type 0
-Goes keeps paths findings search c a known all =
-    (given : List Gift) × HasGiven all c a known given search × (paths ≡ found_paths (kept keeps given))
+Goes keeps lead paths findings search c a known all =
+    (given : List Gift) × HasGiven all c a known given search × (paths ≡ found_paths lead (kept keeps given))
     × (has_unread given ≡ true → findings.has_fault ≡ true)
 
 -- A search between two of its gifts. The paths before were written, or wait.
-pub record Searched {P : Progress} {X Y : Type 0} (keeps : Text → Bool) (end : ℕ) (tells : X → Option Content)
+pub record Searched {P : Progress} {X Y : Type 0} (keeps : Text → Bool) (lead : Text) (end : ℕ) (tells : X → Option Content)
     (texts : Y → Option (Text → Option Text)) (of : X) (on : Y) (first : SearchState P) (old : Option (List ℕ)) (tree : X)
     (files : Y) (search : SearchState P) (findings : Findings) (held : Option (List ℕ)) (waiting : List ℕ) : Type 0 where
   pub paths : List Text
@@ -130,12 +138,12 @@ pub record Searched {P : Progress} {X Y : Type 0} (keeps : Text → Bool) (end :
   pub names : search.files ≡ first.files
   pub queued : Queues old [] held waiting (with_ends end paths)
   pub path : findings.has_path ≡ has_any paths
-  pub goes : Over tells texts of on first (Goes keeps paths findings search)
+  pub goes : Over tells texts of on first (Goes keeps lead paths findings search)
 
-pub Searched-first : {P : Progress} {X Y : Type 0} (keeps : Text → Bool) (end : ℕ) (tells : X → Option Content)
+pub Searched-first : {P : Progress} {X Y : Type 0} (keeps : Text → Bool) (lead : Text) (end : ℕ) (tells : X → Option Content)
     (texts : Y → Option (Text → Option Text)) (of : X) (on : Y) (first : SearchState P) (old : Option (List ℕ)) (findings : Findings)
-    → findings.has_path ≡ false → Searched keeps end tells texts of on first old of on first findings old []
-Searched-first keeps end tells texts of on first old findings path = record {
+    → findings.has_path ≡ false → Searched keeps lead end tells texts of on first old of on first findings old []
+Searched-first keeps lead end tells texts of on first old findings path = record {
   paths = [];
   same = refl;
   same_texts = refl;
@@ -146,23 +154,25 @@ Searched-first keeps end tells texts of on first old findings path = record {
 }
 
 -- at status 2 the first records were written
-pub WritesGifts-fault : (end : ℕ) (all : List Gift) (old held : Option (List ℕ)) (status : ℕ) → status ≡ 2
-    → AppendsFront old held (with_ends end (found_paths all)) → WritesGifts end all old held status
+pub WritesGifts-fault : (lead : Text) (end : ℕ) (all : List Gift) (old held : Option (List ℕ)) (status : ℕ) → status ≡ 2
+    → AppendsFront old held (with_ends end (found_paths lead all)) → WritesGifts lead end all old held status
 unfolding WritesGifts
-WritesGifts-fault end all old held status is some = ((λ other. absurd (other is)), λ _. some)
+WritesGifts-fault lead end all old held status is some = ((λ other. absurd (other is)), λ _. some)
 
 -- all gifts were given
-WritesGifts-all : (end : ℕ) (all : List Gift) (old held : Option (List ℕ)) (status : ℕ) → (status ≢ 2 → status ≡ search_status all)
-    → Appends old held (with_ends end (found_paths all)) → WritesGifts end all old held status
+WritesGifts-all : (lead : Text) (end : ℕ) (all : List Gift) (old held : Option (List ℕ)) (status : ℕ) →
+    (status ≢ 2 → status ≡ search_status all)
+    → Appends old held (with_ends end (found_paths lead all)) → WritesGifts lead end all old held status
 unfolding WritesGifts
-WritesGifts-all end all old held status is wrote =
+WritesGifts-all lead end all old held status is wrote =
     ((λ other. (wrote, is other)), λ _. AppendsFront-front old held _ _ [] (sym (append-nil _)) wrote)
 
 -- the first records were written whatever the status
-pub WritesGifts-front : (end : ℕ) (all : List Gift) (old held : Option (List ℕ)) (status : ℕ) → WritesGifts end all old held status
-    → AppendsFront old held (with_ends end (found_paths all))
+pub WritesGifts-front : (lead : Text) (end : ℕ) (all : List Gift) (old held : Option (List ℕ)) (status : ℕ) →
+    WritesGifts lead end all old held status
+    → AppendsFront old held (with_ends end (found_paths lead all))
 unfolding WritesGifts
-WritesGifts-front end all old held status (other, two') = elim (cases_Bool (status == 2)) [
+WritesGifts-front lead end all old held status (other, two') = elim (cases_Bool (status == 2)) [
   | inl is ↦ two' (eqb-true status 2 is)
   | inr not ↦ AppendsFront-front old held _ _ [] (sym (append-nil _)) (other (λ is. absurd (false≢true (sym not ∙ eq-eqb status 2 is)))).0
 ]
@@ -171,8 +181,8 @@ WritesGifts-front end all old held status (other, two') = elim (cases_Bool (stat
 two : (findings : Findings) → findings.has_fault ≡ true → status_of findings ≡ 2
 two findings is = rw is refl
 
--- the status of findings that are those of all gifts, if it is not 2
-same_status : (findings : Findings) (all : List Gift) → findings.has_path ≡ has_any (found_paths all)
+-- the status of the findings of all gifts, if it is not 2
+same_status : (findings : Findings) (all : List Gift) → findings.has_path ≡ has_any (found_paths [] all)
     → (has_unread all ≡ true → findings.has_fault ≡ true) → status_of findings ≢ 2 → status_of findings ≡ search_status all
 same_status findings all path faults other = by_fault (findings.has_fault) refl (has_unread all) refl
   where
@@ -182,38 +192,43 @@ same_status findings all path faults other = by_fault (findings.has_fault) refl 
     by_fault false is false un = rw (path, is, un) refl
 
 -- what a search gives next
-module _ {P : Progress} {X Y : Type 0} (keeps : Text → Bool) (end : ℕ) (tells : X → Option Content) (texts : Y → Option (Text → Option Text)) (of : X)
+module _ {P : Progress} {X Y : Type 0} (keeps : Text → Bool) (lead : Text) (end : ℕ) (tells : X → Option Content)
+    (texts : Y → Option (Text → Option Text)) (of : X)
     (on : Y) (first : SearchState P) (old : Option (List ℕ)) (tree : X) (files : Y) (search : SearchState P) (findings : Findings)
-    (held : Option (List ℕ)) (waiting : List ℕ) (w : Searched keeps end tells texts of on first old tree files search findings held waiting) where
-  -- some of what waits was written
+    (held : Option (List ℕ)) (waiting : List ℕ) (w : Searched keeps lead end tells texts of on first old tree files
+    search findings held waiting) where
+  -- some of the waiting bytes were written
   pub Searched-cut : (held' : Option (List ℕ)) → AppendsFront held held' waiting
-      → Over tells texts of on first (λ c a known all. AppendsFront old held' (with_ends end (found_paths (kept keeps all))))
+      → Over tells texts of on first (λ c a known all. AppendsFront old held' (with_ends end (found_paths lead (kept keeps all))))
   Searched-cut held' some c a known told is fit all begun =
       let (given, has, are, _) = w.goes c a known told is fit all begun in
-      Queues-some old held held' _ waiting (with_ends end w.paths) _ (records_begin end keeps w.paths given _ all are has.upto) w.queued some
+      Queues-some old held held' _ waiting (with_ends end w.paths) _
+      (records_begin end keeps lead w.paths given _ all are has.upto) w.queued some
 
   module _ {A : Type 0} (tree' : X) (files' : Y) (search' : SearchState P) (next : Option (Result (FoundPath A) (SearchFault A)))
       (told' : tells tree' ≡ tells tree) (told_texts' : texts files' ≡ texts files) (names' : search'.files ≡ search.files)
       (gives : (c : Content) (a : Aim) (known : Text → Option Text) → IsTold (tells tree) c → texts files ≡ Some known
       → AreTextsOf c a search.files known → (all given : List Gift) → HasGiven all c a known given search
       → GivesNext all c a known given next search') where
-    abbrev Gives : (next : Option (Result (FoundPath A) (SearchFault A))) → Content → Aim → (known : Text → Option Text) → List Gift → Type 0
+    abbrev Gives : (next : Option (Result (FoundPath A) (SearchFault A))) → Content → Aim →
+        (known : Text → Option Text) → List Gift → Type 0
     Gives it c a known all =
-        (given : List Gift) × GivesNext all c a known given it search' × (w.paths ≡ found_paths (kept keeps given))
+        (given : List Gift) × GivesNext all c a known given it search' × (w.paths ≡ found_paths lead (kept keeps given))
         × (has_unread given ≡ true → findings.has_fault ≡ true)
 
     gives_next : Over tells texts of on first (Gives next)
     gives_next c a known told is fit all begun =
         let (given, has, are, faults) = w.goes c a known told is fit all begun in (
           given,
-          gives c a known (w.same ∙ told.0, told.1) (w.same_texts ∙ is) (subst (λ ns. AreTextsOf c a ns known) (sym w.names) fit) all given has,
+          gives c a known (w.same ∙ told.0, told.1) (w.same_texts ∙ is)
+              (subst (λ ns. AreTextsOf c a ns known) (sym w.names) fit) all given has,
           are,
           faults,
         )
 
     -- nothing is left, and all was written
     pub Searched-none : next ≡ None → (held' : Option (List ℕ)) (waiting' : List ℕ) → Queues held waiting held' waiting' [] → waiting' ≡ []
-        → Over tells texts of on first (λ c a known all. WritesGifts end (kept keeps all) old held' (status_of findings))
+        → Over tells texts of on first (λ c a known all. WritesGifts lead end (kept keeps all) old held' (status_of findings))
     Searched-none none held' waiting' queued empty c a known told is fit all begun =
         let still : Queues old [] held' [] (with_ends end w.paths) =
         subst (λ l. Queues old [] held' l (with_ends end w.paths)) empty
@@ -221,9 +236,9 @@ module _ {P : Progress} {X Y : Type 0} (keeps : Text → Bool) (end : ℕ) (tell
         (Queues-trans old held held' [] waiting waiting' (with_ends end w.paths) [] w.queued queued)) in
         let (given, given_all, are, faults) = gives_next c a known told is fit all begun in
         let whole : all ≡ given = subst (λ n. GivesNext all c a known given n search') none given_all in
-        let paths : w.paths ≡ found_paths (kept keeps all) = are ∙ ap (λ gs. found_paths (kept keeps gs)) (sym whole) in
-        WritesGifts-all end (kept keeps all) old held' _
-        (same_status findings (kept keeps all) (w.path ∙ ap has_any paths)
+        let paths : w.paths ≡ found_paths lead (kept keeps all) = are ∙ ap (λ gs. found_paths lead (kept keeps gs)) (sym whole) in
+        WritesGifts-all lead end (kept keeps all) old held' _
+        (same_status findings (kept keeps all) (w.path ∙ ap has_any paths ∙ any_led lead (kept keeps all))
         (λ u. faults (ap has_unread (sym whole) ∙ sym (has_unread-kept keeps all) ∙ u)))
         (subst (λ ps. Appends old held' (with_ends end ps)) paths (Queues-all old held' _ still))
 
@@ -233,67 +248,74 @@ module _ {P : Progress} {X Y : Type 0} (keeps : Text → Bool) (end : ℕ) (tell
           subst (λ n. Gives n c a known all) is_item (gives_next c a known told is fit all begun)
 
       -- an item could not be written
-      pub Searched-fault : (held' : Option (List ℕ)) → AppendsFront held held' (waiting ++ item_record keeps end item)
-          → Over tells texts of on first (λ c a known all. AppendsFront old held' (with_ends end (found_paths (kept keeps all))))
+      pub Searched-fault : (held' : Option (List ℕ)) → AppendsFront held held' (waiting ++ item_record keeps lead end item)
+          → Over tells texts of on first (λ c a known all. AppendsFront old held' (with_ends end (found_paths lead (kept keeps all))))
       Searched-fault held' some c a known told is fit all begun =
           let (given, next, are, _) = gives_item c a known told is fit all begun in by_item item refl given next are
         where
-          waits : item_record keeps end item ≡ [] → AppendsFront held held' waiting
+          waits : item_record keeps lead end item ≡ [] → AppendsFront held held' waiting
           waits none = subst (AppendsFront held held') (ap (λ l. waiting ++ l) none ∙ append-nil waiting) some
 
           by_path : (found : FoundPath A) → Ok found ≡ item → (b : Bool) → keeps (string_bytes found.path) ≡ b → (given : List Gift)
-              → GivesNext all c a known given (Some (Ok found)) search' → w.paths ≡ found_paths (kept keeps given)
-              → AppendsFront old held' (with_ends end (found_paths (kept keeps all)))
+              → GivesNext all c a known given (Some (Ok found)) search' → w.paths ≡ found_paths lead (kept keeps given)
+              → AppendsFront old held' (with_ends end (found_paths lead (kept keeps all)))
           by_path found same false kept_not given next are =
-              Searched-cut held' (waits (ap (item_record keeps end) (sym same) ∙ ap (λ b. cond b (ended_record end (string_bytes found.path)) []) kept_not))
+              Searched-cut held' (waits (ap (item_record keeps lead end) (sym same) ∙
+              ap (λ b. cond b (ended_record end (lead ++ string_bytes found.path)) []) kept_not))
               c a known told is fit all begun
           by_path found same true kept_is given next are =
               let path : Text = string_bytes found.path in
+              let line : Text = lead ++ path in
               let rest : List Gift = P.left c a search'.state in
-              let after : List ℕ = with_ends end (found_paths (kept keeps rest)) in
-              let split : with_ends end (found_paths (kept keeps all)) ≡ with_ends end (w.paths ++ path ∷ []) ++ after =
-              records_begin end keeps (w.paths ++ path ∷ []) (given ++ Found next.names ∷ []) rest all
-              (paths_push keeps w.paths given path next.names are next.path kept_is) next.goes.upto in
-              let record_is : item_record keeps end item ≡ ended_record end path =
-              ap (item_record keeps end) (sym same) ∙ ap (λ b. cond b (ended_record end path) []) kept_is in
-              Queues-more old held held' _ waiting (with_ends end w.paths) (ended_record end path) after
-              (split ∙ ap (λ l. l ++ after) (records_push end w.paths path)) w.queued
+              let after : List ℕ = with_ends end (found_paths lead (kept keeps rest)) in
+              let split : with_ends end (found_paths lead (kept keeps all)) ≡ with_ends end (w.paths ++ line ∷ []) ++ after =
+              records_begin end keeps lead (w.paths ++ (lead ++ path) ∷ []) (given ++ Found next.names ∷ []) rest all
+              (paths_push keeps lead w.paths given path next.names are next.path kept_is) next.goes.upto in
+              let record_is : item_record keeps lead end item ≡ ended_record end line =
+              ap (item_record keeps lead end) (sym same) ∙ ap (λ b. cond b (ended_record end line) []) kept_is in
+              Queues-more old held held' _ waiting (with_ends end w.paths) (ended_record end line) after
+              (split ∙ ap (λ l. l ++ after) (records_push end w.paths line)) w.queued
               (subst (λ r. AppendsFront held held' (waiting ++ r)) record_is some)
 
-          by_item : (it : Result (FoundPath A) (SearchFault A)) → it ≡ item → (given : List Gift) → GivesNext all c a known given (Some it) search'
-              → w.paths ≡ found_paths (kept keeps given) → AppendsFront old held' (with_ends end (found_paths (kept keeps all)))
+          by_item : (it : Result (FoundPath A) (SearchFault A)) → it ≡ item → (given : List Gift) →
+              GivesNext all c a known given (Some it) search'
+              → w.paths ≡ found_paths lead (kept keeps given) → AppendsFront old held' (with_ends end (found_paths lead (kept keeps all)))
           by_item (Ok found) same given next are = by_path found same (keeps (string_bytes found.path)) refl given next are
           by_item (Err e) same given next are =
-              Searched-cut held' (waits (ap (item_record keeps end) (sym same))) c a known told is fit all begun
+              Searched-cut held' (waits (ap (item_record keeps lead end) (sym same))) c a known told is fit all begun
 
       -- the item was written, or waits
-      module _ (held' : Option (List ℕ)) (waiting' : List ℕ) (queued : Queues held waiting held' waiting' (item_record keeps end item))
+      module _ (held' : Option (List ℕ)) (waiting' : List ℕ) (queued : Queues held waiting held' waiting' (item_record keeps lead end item))
           (findings' : Findings) (noted : findings' ≡ noting keeps findings item) where
         -- it was the last
         pub Searched-last : is_last item ≡ true → waiting' ≡ []
-            → Over tells texts of on first (λ c a known all. WritesGifts end (kept keeps all) old held' (status_of findings'))
+            → Over tells texts of on first (λ c a known all. WritesGifts lead end (kept keeps all) old held' (status_of findings'))
         Searched-last last empty c a known told is fit all begun = by_item item refl last
           where
-            by_item : (it : Result (FoundPath A) (SearchFault A)) → it ≡ item → is_last it ≡ true → WritesGifts end (kept keeps all) old held' (status_of findings')
+            by_item : (it : Result (FoundPath A) (SearchFault A)) → it ≡ item → is_last it ≡ true →
+                WritesGifts lead end (kept keeps all) old held' (status_of findings')
             by_item (Ok found) same never = absurd (false≢true never)
             by_item (Err e) same ends =
                 let faults : findings'.has_fault ≡ true = ap (λ f. f.has_fault) (noted ∙ ap (noting keeps findings) (sym same)) in
                 let still : Queues held waiting held' [] [] =
                 subst (λ l. Queues held waiting held' l []) empty
-                (subst (λ i. Queues held waiting held' waiting' (item_record keeps end i)) (sym same) queued) in
+                (subst (λ i. Queues held waiting held' waiting' (item_record keeps lead end i)) (sym same) queued) in
                 let all_wait : AppendsFront held held' waiting =
                 AppendsFront-front held held' waiting waiting [] (sym (append-nil waiting)) (written still) in
-                WritesGifts-fault end (kept keeps all) old held' _ (two findings' faults) (Searched-cut held' all_wait c a known told is fit all begun)
+                WritesGifts-fault lead end (kept keeps all) old held' _ (two findings' faults)
+                (Searched-cut held' all_wait c a known told is fit all begun)
               where
                 written : Queues held waiting held' [] [] → Appends held held' waiting
                 written (bytes, wrote, split) = subst (Appends held held') (sym (append-nil bytes) ∙ sym split ∙ append-nil waiting) wrote
 
         -- it was not the last
-        pub Searched-next : is_last item ≡ false → Searched keeps end tells texts of on first old tree' files' search' findings' held' waiting'
+        pub Searched-next : is_last item ≡ false → Searched keeps lead end tells texts of on first old tree' files'
+            search' findings' held' waiting'
         Searched-next goes_on = by_item item refl goes_on
           where
-            more : (it : Result (FoundPath A) (SearchFault A)) → it ≡ item → Queues held waiting held' waiting' (item_record keeps end it)
-            more it same = subst (λ i. Queues held waiting held' waiting' (item_record keeps end i)) (sym same) queued
+            more : (it : Result (FoundPath A) (SearchFault A)) → it ≡ item →
+                Queues held waiting held' waiting' (item_record keeps lead end it)
+            more it same = subst (λ i. Queues held waiting held' waiting' (item_record keeps lead end i)) (sym same) queued
 
             notes : (it : Result (FoundPath A) (SearchFault A)) → it ≡ item → findings' ≡ noting keeps findings it
             notes it same = noted ∙ ap (noting keeps findings) (sym same)
@@ -302,8 +324,9 @@ module _ {P : Progress} {X Y : Type 0} (keeps : Text → Bool) (end : ℕ) (tell
             given_as it same c a known told is fit all begun =
                 subst (λ i. Gives (Some i) c a known all) (sym same) (gives_item c a known told is fit all begun)
 
-            with_fault : (it : SearchFault A) → Err it ≡ item → (findings'.has_fault ≡ true → Over tells texts of on first (Goes keeps w.paths findings' search'))
-                → Searched keeps end tells texts of on first old tree' files' search' findings' held' waiting'
+            with_fault : (it : SearchFault A) → Err it ≡ item →
+                (findings'.has_fault ≡ true → Over tells texts of on first (Goes keeps lead w.paths findings' search'))
+                → Searched keeps lead end tells texts of on first old tree' files' search' findings' held' waiting'
             with_fault it same goes = record {
               paths = w.paths;
               same = told' ∙ w.same;
@@ -317,12 +340,13 @@ module _ {P : Progress} {X Y : Type 0} (keeps : Text → Bool) (end : ℕ) (tell
 
             -- the path is not kept
             skipped : (found : FoundPath A) → Ok found ≡ item → keeps (string_bytes found.path) ≡ false
-                → Searched keeps end tells texts of on first old tree' files' search' findings' held' waiting'
+                → Searched keeps lead end tells texts of on first old tree' files' search' findings' held' waiting'
             skipped found same kept_not =
                 let still : findings' ≡ findings =
                 notes (Ok found) same ∙ ap (λ b. cond b (record findings { has_path = true }) findings) kept_not in
                 let none : Queues held waiting held' waiting' [] =
-                subst (Queues held waiting held' waiting') (ap (λ b. cond b (ended_record end (string_bytes found.path)) []) kept_not)
+                subst (Queues held waiting held' waiting') (ap
+                (λ b. cond b (ended_record end (lead ++ string_bytes found.path)) []) kept_not)
                 (more (Ok found) same) in
                 record {
                   paths = w.paths;
@@ -336,53 +360,57 @@ module _ {P : Progress} {X Y : Type 0} (keeps : Text → Bool) (end : ℕ) (tell
                       let (given, next, are, faults) = given_as (Ok found) same c a known told is fit all begun in (
                         given ++ Found next.names ∷ [],
                         next.goes,
-                        paths_skip keeps w.paths given _ next.names are next.path kept_not,
+                        paths_skip keeps lead w.paths given _ next.names are next.path kept_not,
                         λ u. ap (λ f. f.has_fault) still ∙ faults (sym (has_unread-found given next.names) ∙ u),
                       );
                 }
 
             -- the path is kept
             pushed : (found : FoundPath A) → Ok found ≡ item → keeps (string_bytes found.path) ≡ true
-                → Searched keeps end tells texts of on first old tree' files' search' findings' held' waiting'
+                → Searched keeps lead end tells texts of on first old tree' files' search' findings' held' waiting'
             pushed found same kept_is =
                 let noted_path : findings' ≡ record findings { has_path = true } =
                 notes (Ok found) same ∙ ap (λ b. cond b (record findings { has_path = true }) findings) kept_is in
-                let one : Queues held waiting held' waiting' (ended_record end (string_bytes found.path)) =
-                subst (Queues held waiting held' waiting') (ap (λ b. cond b (ended_record end (string_bytes found.path)) []) kept_is)
+                let one : Queues held waiting held' waiting' (ended_record end (lead ++ string_bytes found.path)) =
+                subst (Queues held waiting held' waiting') (ap
+                (λ b. cond b (ended_record end (lead ++ string_bytes found.path)) []) kept_is)
                 (more (Ok found) same) in
                 record {
-                  paths = w.paths ++ string_bytes found.path ∷ [];
+                  paths = w.paths ++ (lead ++ string_bytes found.path) ∷ [];
                   same = told' ∙ w.same;
                   same_texts = told_texts' ∙ w.same_texts;
                   names = names' ∙ w.names;
-                  queued = subst (Queues old [] held' waiting') (sym (records_push end w.paths (string_bytes found.path)))
-                      (Queues-trans old held held' [] waiting waiting' (with_ends end w.paths) (ended_record end (string_bytes found.path))
+                  queued = subst (Queues old [] held' waiting') (sym (records_push end w.paths (lead ++ string_bytes found.path)))
+                      (Queues-trans old held held' [] waiting waiting' (with_ends end w.paths)
+                      (ended_record end (lead ++ string_bytes found.path))
                       w.queued one);
-                  path = ap (λ f. f.has_path) noted_path ∙ sym (has_any-push w.paths (string_bytes found.path));
+                  path = ap (λ f. f.has_path) noted_path ∙ sym (has_any-push w.paths (lead ++ string_bytes found.path));
                   goes = λ c a known told is fit all begun.
                       let still : findings'.has_fault ≡ findings.has_fault = ap (λ f. f.has_fault) noted_path in
                       let (given, next, are, faults) = given_as (Ok found) same c a known told is fit all begun in (
                         given ++ Found next.names ∷ [],
                         next.goes,
-                        paths_push keeps w.paths given _ next.names are next.path kept_is,
+                        paths_push keeps lead w.paths given _ next.names are next.path kept_is,
                         λ u. still ∙ faults (sym (has_unread-found given next.names) ∙ u),
                       );
                 }
 
             by_path : (found : FoundPath A) → Ok found ≡ item → (b : Bool) → keeps (string_bytes found.path) ≡ b
-                → Searched keeps end tells texts of on first old tree' files' search' findings' held' waiting'
+                → Searched keeps lead end tells texts of on first old tree' files' search' findings' held' waiting'
             by_path found same true kept_is = pushed found same kept_is
             by_path found same false kept_not = skipped found same kept_not
 
             by_item : (it : Result (FoundPath A) (SearchFault A)) → it ≡ item → is_last it ≡ false
-                → Searched keeps end tells texts of on first old tree' files' search' findings' held' waiting'
+                → Searched keeps lead end tells texts of on first old tree' files' search' findings' held' waiting'
             by_item (Ok found) same _ = by_path found same (keeps (string_bytes found.path)) refl
             by_item (Err (fault.Unread path e)) same _ = with_fault (fault.Unread path e) same (λ set c a known told is fit all begun.
                 let (given, next, are, _) = given_as (Err (fault.Unread path e)) same c a known told is fit all begun in
-                (_, next.goes, paths_same keeps w.paths given next.names _ are, λ _. set))
-            by_item (Err (fault.UnreadRules path e)) same _ = with_fault (fault.UnreadRules path e) same (λ set c a known told is fit all begun.
+                (_, next.goes, paths_same keeps lead w.paths given next.names _ are, λ _. set))
+            by_item (Err (fault.UnreadRules path e)) same _ =
+                with_fault (fault.UnreadRules path e) same (λ set c a known told is fit all begun.
                 let (_, next, _, _) = given_as (Err (fault.UnreadRules path e)) same c a known told is fit all begun in absurd next)
-            by_item (Err (fault.RefusedRules path refusals)) same _ = with_fault (fault.RefusedRules path refusals) same (λ set c a known told is fit all begun.
+            by_item (Err (fault.RefusedRules path refusals)) same _ =
+                with_fault (fault.RefusedRules path refusals) same (λ set c a known told is fit all begun.
                 let (given, next, are, _) = given_as (Err (fault.RefusedRules path refusals)) same c a known told is fit all begun in
                 (given, next.goes, are, λ _. set))
             by_item (Err fault.Limit) same never = absurd (false≢true (sym never))

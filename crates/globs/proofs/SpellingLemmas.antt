@@ -12,14 +12,15 @@ use Rattle.globs.specs.declared.options.Valued.{Valued}
 use Rattle.globs.proofs.CopyLemmas.{no_text}
 
 module _ (name : Name) (letter : ℕ) (s : Settings) where
-  -- a letter sets what the word of a hyphen and the letter does
+  -- a letter sets the same as the word made of a hyphen and the letter
   pub one_letter : (flag : Text) → flag ≡ 45 ∷ letter ∷ [] → IsUtf8 (45 ∷ letter ∷ []) → with_flag name flag s ≡ with_letter name letter s
   one_letter flag is utf8 = rw (is_utf8-from_IsUtf8 (45 ∷ letter ∷ []) utf8) (rw is refl)
 
-  -- a byte that is no letter of ASCII sets nothing
+  -- a byte that is not an ASCII letter sets nothing
   pub no_letter : ¬ (IsUtf8 (45 ∷ letter ∷ [])) → None ≡ with_letter name letter s
   no_letter fails = rw (no_text (45 ∷ letter ∷ []) fails) refl
 
--- a search that finds no option and value gives none
-pub none_found : (r : Option (Valued × Bor Text)) (all : Option (Valued × Text)) → option_map (λ it. (it.0, it.1.now)) r ≡ all → r ≡ None → all ≡ None
+-- a search that finds no option and value returns none
+pub none_found : (r : Option (Valued × Bor Text)) (all : Option (Valued × Text)) →
+    option_map (λ it. (it.0, it.1.now)) r ≡ all → r ≡ None → all ≡ None
 none_found r all is none = sym is ∙ ap (option_map (λ it. (it.0, it.1.now))) none

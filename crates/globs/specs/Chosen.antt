@@ -3,8 +3,8 @@ use Rattle.std.specs.Prelude.{List}
 use Rattle.glob_text.specs.Text.{Text}
 use Rattle.globs.specs.declared.options.Settings.{Settings}
 
--- The settings; the ignore files, and the single rules, which come after those of the files; the names of the ignore
--- files in each directory; and the start directory of a search, empty for the current one.
+-- The settings; the ignore files, and the single rules, which come after the rules of the files; the names of the
+-- ignore files in each directory; and the start directory of a search, which is empty for the current one.
 pub record Chosen : Type 0 where
   pub settings : Settings
   pub files : List Text

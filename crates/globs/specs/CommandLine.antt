@@ -1,13 +1,15 @@
 -- What a command line asks for, or its first wrong word.
-use Rattle.std.specs.Prelude.{◌||◌, ◌&&◌, not, Bool, true, false, List, [], ◌∷◌, Option, None, Some, Ok, Err, is_some, if◌then◌else◌, codes, bytes_eq, option_map, unwrap_or}
+use Rattle.std.specs.Prelude.{◌||◌, ◌&&◌, not, Bool, true, false, List, [], ◌∷◌, Option, None, Some, Ok, Err, is_some}
+use Rattle.std.specs.Prelude.{if◌then◌else◌, codes, bytes_eq, option_map, unwrap_or}
 use Rattle.glob_text.specs.Text.{Text}
 use Rattle.glob_console.specs.Words.{is_option}
 use Rattle.globs.specs.Chosen.{Chosen}
-use Rattle.globs.specs.Options.{new_options, value_taken, valued_of}
+use Rattle.globs.specs.Options.{new_options, new_settings, value_taken, valued_of}
 use Rattle.globs.specs.Reading.{Reading, Asks, Page, Wrong, Request, Runs, Helps, VersionLine, Refused}
 use Rattle.globs.specs.Spelling.{attached, with_flags}
 use Rattle.globs.specs.declared.name.Name.{Name}
 use Rattle.globs.specs.declared.name.Name.TheVariants.{Find, Match, Ignore, Explain, Escape}
+use Rattle.globs.specs.declared.usage.Why.{Why}
 use Rattle.globs.specs.declared.usage.Why.TheVariants as why
 
 -- the command that the word names
@@ -39,6 +41,17 @@ extra_word name (text ∷ []) = None
 extra_word name (text ∷ extra ∷ words) =
     if has_text name && (not (is_option text) && not (is_option extra)) then Some extra else None
 
+-- the word asks for a help page
+abbrev pub is_help : Text → Bool
+is_help word = bytes_eq word (codes "-h") || bytes_eq word (codes "--help")
+
+-- why a word that begins with a hyphen is wrong after an operand: it is an option that comes too late, or not an option
+abbrev pub late_why : Name → Text → Why
+late_why name word =
+    if is_help word || (bytes_eq word (codes "--") || (is_some (valued_of name word)
+    || (is_some (attached name word) || is_some (with_flags name word (new_settings name)))))
+    then why.Late else why.Unknown
+
 -- the operands, which all come after the options; after `--` they may begin with a hyphen
 abbrev pub operands_asked : Name → Chosen → List Text → Reading
 operands_asked name o [] = Wrong why.Bare []
@@ -49,14 +62,15 @@ operands_asked name o (word ∷ next ∷ words) =
     if bytes_eq word (codes "--") then Asks o (next ∷ words)
     else (if is_option word then Wrong why.Unknown word
     else unwrap_or (option_map (Wrong why.Extra) (extra_word name (next ∷ words)))
-    (unwrap_or (option_map (Wrong why.Late) (first_option (next ∷ words))) (Asks o (word ∷ next ∷ words))))
+    (unwrap_or (option_map (λ late. Wrong (late_why name late) late) (first_option (next ∷ words))) (Asks o (word ∷ next ∷ words))))
 
--- the word asks for a help page
-abbrev pub is_help : Text → Bool
-is_help word = bytes_eq word (codes "-h") || bytes_eq word (codes "--help")
+-- no words follow
+abbrev pub is_last : List Text → Bool
+is_last [] = true
+is_last (word ∷ words) = false
 
--- The remaining words of a command, after the options in `o`. An option with a value takes the word after it, unless its
--- own word has one. Words after one that asks for help are ignored.
+-- The remaining words of a command, after the options in `o`. An option with a value takes the word after it, unless
+-- its own word has one. Words after one that asks for help are ignored.
 abbrev pub reading : Name → Chosen → List Text → Reading
 reading name o [] = Wrong why.Bare []
 reading name o (word ∷ []) =
@@ -69,7 +83,10 @@ reading name o (word ∷ []) =
 reading name o (word ∷ next ∷ words) =
     if is_help word then Page
     else elim (valued_of name word) [
-      | Some option ↦ elim (value_taken option next o) [ Ok taken ↦ reading name taken words | Err w ↦ Wrong w next ]
+      | Some option ↦ elim (value_taken option next o) [
+        | Ok taken ↦ if is_last words then Wrong why.Taken next else reading name taken words
+        | Err w ↦ Wrong w next
+      ]
       | None ↦ elim (attached name word) [
         | Some it ↦ elim (value_taken it.0 it.1 o) [ Ok taken ↦ reading name taken (next ∷ words) | Err w ↦ Wrong w it.1 ]
         | None ↦ elim (with_flags name word o.settings) [
@@ -79,12 +96,12 @@ reading name o (word ∷ next ∷ words) =
       ]
     ]
 
--- the page that the word after `help` names: that of a command or, for `help` itself, of the program
+-- the page that the word after `help` names: a command's page or, for `help` itself, the program's
 abbrev pub page_named : Text → Option (Option Name)
 page_named word =
     if bytes_eq word (codes "help") || is_help word then Some None else option_map (λ name. Some name) (name_of word)
 
--- the words after `help`, at most one
+-- the words after `help`; there may be at most one
 abbrev pub help_asked : List Text → Request
 help_asked [] = Helps None
 help_asked (word ∷ []) = unwrap_or (option_map Helps (page_named word)) (Refused None why.Command word)
@@ -106,10 +123,9 @@ unfoldable pub command_asked : Text → List Text → Request
 command_asked word words =
     unwrap_or (option_map (λ name. words_asked name words) (name_of word)) (Refused None why.Command word)
 
--- the words after the program's name; words after those that ask for help or for the version are ignored
+-- the words after the program's name; words after the one that asks for the version are ignored
 unfoldable pub request_asked : List Text → Request
 request_asked [] = Refused None why.Empty []
 request_asked (word ∷ words) =
     if bytes_eq word (codes "--version") then VersionLine
-    else (if is_help word then Helps None
-    else (if bytes_eq word (codes "help") then help_asked words else command_asked word words))
+    else (if is_help word || bytes_eq word (codes "help") then help_asked words else command_asked word words)

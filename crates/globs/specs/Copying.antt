@@ -1,7 +1,7 @@
--- The outcome of copying records: its status, and what its output gained.
+-- The outcome of copying or rewriting records: its status, and what its output gained.
 use Rattle.std.specs.Prelude.{◌≡◌, ◌≢◌, ℕ, ◌<◌, Bool, false, List, Option, IsTrue}
 use Rattle.std.specs.Io.KnownBytes.{IsAtEnd}
-use Rattle.glob_lines.specs.Lines.{CopiesSelected, CopiesSelectedBytes, CopiesWholeSelected}
+use Rattle.glob_lines.specs.Lines.{Rewrites, RewritesBytes, RewritesWhole, ended_record}
 use Rattle.glob_lines.specs.Watch.{Watched}
 
 -- the known input before and after a run, and whether a read of it failed
@@ -19,15 +19,19 @@ input_of remaining old new =
 abbrev pub IsUnread : Input → Type 0
 IsUnread input = (input.failed ≡ false) × (input.after ≡ input.before)
 
--- Status 0: some records are selected, and exactly those were written, in order. Status 1: none are selected, and none
--- were written. Both mean that all input was read. Status 2: the first n bytes of the selected records were written,
--- for some n. After a failed read, the status is 2, and exactly the selected ones of the records read to their end were
--- written.
-unfoldable pub Copies : (end : ℕ) → (selects : List ℕ → Bool) → Input → (old new : Option (List ℕ)) → (status : ℕ)
-    → Type 0
-Copies end selects input old new status =
-    (status ≡ 0 → (n : ℕ) × (0 < n) × CopiesSelected end selects input.before old new n)
-    × (status ≡ 1 → CopiesSelected end selects input.before old new 0)
+-- Status 0: records are selected, and exactly what `write` gives for them was written, in order. Status 1: no record is
+-- selected, and nothing was written. In both cases all input was read. Status 2: the first n bytes of this output were
+-- written, for some n. After a failed read, the status is 2, and exactly what `write` gives for the selected records
+-- that were read to their end was written.
+unfoldable pub WritesSelected : (end : ℕ) → (selects : List ℕ → Bool) → (write : List ℕ → List ℕ) → Input
+    → (old new : Option (List ℕ)) → (status : ℕ) → Type 0
+WritesSelected end selects write input old new status =
+    (status ≡ 0 → (n : ℕ) × (0 < n) × Rewrites end selects write input.before old new n)
+    × (status ≡ 1 → Rewrites end selects write input.before old new 0)
     × (status ≢ 2 → IsAtEnd input.after)
-    × (status ≡ 2 → CopiesSelectedBytes end selects input.before old new)
-    × (IsTrue input.failed → (status ≡ 2) × CopiesWholeSelected end selects input.before input.after old new)
+    × (status ≡ 2 → RewritesBytes end selects write input.before old new)
+    × (IsTrue input.failed → (status ≡ 2) × RewritesWhole end selects write input.before input.after old new)
+
+-- the same for records that are written as they are, each with its end
+abbrev pub Copies : (end : ℕ) → (selects : List ℕ → Bool) → Input → (old new : Option (List ℕ)) → (status : ℕ) → Type 0
+Copies end selects input old new status = WritesSelected end selects (ended_record end) input old new status

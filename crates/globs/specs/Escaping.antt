@@ -5,7 +5,7 @@ use Rattle.glob_console.specs.Outcomes.{WritesText}
 use Rattle.glob_set.specs.BraceEscaping.{StandsFor, escaped_text}
 use Rattle.glob_text.specs.Text.{Text}
 
--- the pattern that matches the text literally, also where braces are expanded, and the character that ends each record
+-- the pattern that matches the text literally, even after braces are expanded, and the character that ends each record
 abbrev pub IsEscapedRecord : (end : ℕ) → (text written : Text) → Type 0
 IsEscapedRecord end text written =
     (escaped : Text) × (chars escaped ≡ escaped_text (chars text)) × StandsFor escaped text
@@ -18,8 +18,8 @@ AreEscaped end (text ∷ texts) records =
     (first : Text) × (rest : Text) × IsEscapedRecord end text first × AreEscaped end texts rest
     × (records ≡ first ++ rest)
 
--- The records were written, and the status is 0; or the status is 2, and none or only the first of their bytes were
--- written.
+-- The records were written, and the status is 0; or the status is 2, and only their first bytes were written, perhaps
+-- none.
 unfoldable pub WritesEscaped : (end : ℕ) → (texts : List Text) → (old new : Option (List ℕ)) → (status : ℕ) → Type 0
 WritesEscaped end texts old new status =
     ((status ≡ 2) × Keeps old new)

@@ -1,5 +1,5 @@
 -- The printed texts of faults. Control characters in words from outside are escaped.
-use Rattle.std.specs.Prelude.{ℕ, Bool, true, false, ◌&&◌, ◌||◌, if◌then◌else◌, List, [], ◌++◌, ◌∷◌, Option, None, Some, ⊤, bytes_eq, codes, decimal}
+use Rattle.std.specs.Prelude.{ℕ, Bool, true, false, if◌then◌else◌, List, [], ◌++◌, ◌∷◌, Option, None, Some, ⊤, codes, decimal}
 use Rattle.glob_console.specs.Lines.{WritesLine}
 use Rattle.glob_pattern.specs.Grammar.Faults.{kind_of, message_of}
 use Rattle.glob_pattern.specs.declared.error.PatternErrorKind.{PatternErrorKind}
@@ -9,6 +9,7 @@ use Rattle.glob_set.specs.Words.{brace_error_words}
 use Rattle.glob_set.specs.declared.braces.error.BraceError.{BraceError}
 use Rattle.glob_set.specs.declared.braces.error.BraceError.TheVariants.{Unmatched, Unclosed, TooMany}
 use Rattle.glob_text.specs.Text.{Text}
+use Rattle.globs.specs.Foreign.{foreign_words, habit_words}
 use Rattle.globs.specs.Reading.{Request, Runs, Helps, VersionLine, Refused}
 use Rattle.globs.specs.Visible.{caret_lines, visible}
 use Rattle.globs.specs.declared.braces.AlternativeLines.{AlternativeLines}
@@ -38,28 +39,29 @@ help_words (Some name) = codes "try globs help " ++ name_word name
 
 -- which operand is missing
 abbrev pub bare_words : Option Name → Text
-bare_words None = codes "there is no PATTERN"
-bare_words (Some Find) = codes "there is no PATTERN"
-bare_words (Some Match) = codes "there is no PATTERN"
-bare_words (Some Ignore) = codes "there is no FILE"
-bare_words (Some Explain) = codes "there is no PATTERN"
-bare_words (Some Escape) = codes "there is no TEXT"
+bare_words None = codes "missing PATTERN"
+bare_words (Some Find) = codes "missing PATTERN"
+bare_words (Some Match) = codes "missing PATTERN"
+bare_words (Some Ignore) = codes "missing FILE"
+bare_words (Some Explain) = codes "missing PATTERN"
+bare_words (Some Escape) = codes "missing TEXT"
 
 -- what is wrong with a word of a command line
 abbrev pub why_words : Option Name → Why → Text
-why_words name why.Unknown = codes " is no option"
+why_words name why.Unknown = codes " is not an option"
 why_words name why.Valueless = codes " needs a value"
-why_words name why.Limit = codes " is no limit: -n takes a number below 2 to the power of 64"
-why_words name why.Depth = codes " is no depth: --max-depth takes a number below 2 to the power of 64"
-why_words name why.Kind = codes " is no kind: -t takes f, d or l, and may be given again"
-why_words name why.RuleFile = codes " is no name: --ignore-files takes one, such as .gitignore"
-why_words name why.Late = codes " stands after an operand, where it may be a name: options come first"
+why_words name why.Limit = codes " is not a limit: -n needs a whole number below 2^64"
+why_words name why.Depth = codes " is not a depth: --max-depth needs a whole number below 2^64"
+why_words name why.Kind = codes " is not a kind: use -t f, -t d or -t l, or several of them"
+why_words name why.RuleFile = codes " is not a file name: --ignore-files needs one, such as .gitignore"
+why_words name why.Late = codes " comes after an operand, where it could be a name: put options first"
+why_words name why.Taken = codes " is the value of the option before it, and no PATTERN follows"
 why_words name why.Bare = bare_words name
-why_words name why.Textless = codes "there is no text"
-why_words name why.Extra = codes " stands after the text: quote the pattern"
-why_words name why.Surplus = codes " is too much: help takes one command"
-why_words name why.Command = codes " is no command"
-why_words name why.Empty = codes "there is no command"
+why_words name why.Textless = codes "missing TEXT"
+why_words name why.Extra = codes " comes after the text: quote the pattern"
+why_words name why.Surplus = codes " is one word too many: ask help about one command"
+why_words name why.Command = codes " is not a command"
+why_words name why.Empty = codes "missing command"
 
 -- a word of the command line, in backquotes
 abbrev pub quoted : (word : Text) → Text
@@ -74,6 +76,7 @@ subject_words why.Depth word = quoted word
 subject_words why.Kind word = quoted word
 subject_words why.RuleFile word = quoted word
 subject_words why.Late word = quoted word
+subject_words why.Taken word = quoted word
 subject_words why.Bare word = []
 subject_words why.Textless word = []
 subject_words why.Extra word = quoted word
@@ -81,33 +84,7 @@ subject_words why.Surplus word = quoted word
 subject_words why.Command word = quoted word
 subject_words why.Empty word = []
 
--- what to write instead of an option that other tools have
-abbrev pub foreign_words : (word : Text) → Text
-foreign_words word =
-    if bytes_eq word (codes "-type") || bytes_eq word (codes "--type")
-    then codes "; -t f, -t d and -t l ask for kinds"
-    else (if bytes_eq word (codes "-maxdepth") || bytes_eq word (codes "--depth")
-    then codes "; --max-depth N says how deep"
-    else (if bytes_eq word (codes "-name") || (bytes_eq word (codes "-path") || (bytes_eq word (codes "-g") || bytes_eq word (codes "--glob")))
-    then codes "; a pattern says what names: '**/*.rs'"
-    else (if bytes_eq word (codes "-iname") || bytes_eq word (codes "-ipath")
-    then codes "; -i and a pattern say what names: -i '**/*.rs'"
-    else (if bytes_eq word (codes "-e") || bytes_eq word (codes "--extension")
-    then codes "; a pattern says which extension: '**/*.rs'"
-    else (if bytes_eq word (codes "-print0") || bytes_eq word (codes "--print0")
-    then codes "; -0 ends each path in a NUL"
-    else (if bytes_eq word (codes "-exec") || bytes_eq word (codes "--exec")
-    then codes "; -0 and xargs -0 run a command on the paths"
-    else (if bytes_eq word (codes "-not") || (bytes_eq word (codes "-prune") || (bytes_eq word (codes "-E") || bytes_eq word (codes "--exclude")))
-    then codes "; -x RULE ignores what RULE names"
-    else (if bytes_eq word (codes "-H") || (bytes_eq word (codes "--hidden") || (bytes_eq word (codes "-u") || bytes_eq word (codes "--no-ignore")))
-    then codes "; nothing is hidden or ignored by default"
-    else (if bytes_eq word (codes "-follow") || bytes_eq word (codes "--follow")
-    then codes "; -L follows links"
-    else (if bytes_eq word (codes "-o") || bytes_eq word (codes "-or")
-    then codes "; several patterns may be given" else []))))))))))
-
--- the fault is of an option that the command does not know, or that comes too late
+-- the fault is about an option that the command does not know, or that comes too late
 abbrev pub is_of_option : Why → Bool
 is_of_option why.Unknown = true
 is_of_option why.Valueless = false
@@ -116,6 +93,7 @@ is_of_option why.Depth = false
 is_of_option why.Kind = false
 is_of_option why.RuleFile = false
 is_of_option why.Late = true
+is_of_option why.Taken = false
 is_of_option why.Bare = false
 is_of_option why.Textless = false
 is_of_option why.Extra = false
@@ -123,19 +101,29 @@ is_of_option why.Surplus = false
 is_of_option why.Command = false
 is_of_option why.Empty = false
 
-abbrev pub is_for_find : Option Name → Bool
-is_for_find None = false
-is_for_find (Some Find) = true
-is_for_find (Some Match) = false
-is_for_find (Some Ignore) = false
-is_for_find (Some Explain) = false
-is_for_find (Some Escape) = false
+-- the fault is about a word that is not a command
+abbrev pub is_of_command : Why → Bool
+is_of_command why.Unknown = false
+is_of_command why.Valueless = false
+is_of_command why.Limit = false
+is_of_command why.Depth = false
+is_of_command why.Kind = false
+is_of_command why.RuleFile = false
+is_of_command why.Late = false
+is_of_command why.Taken = false
+is_of_command why.Bare = false
+is_of_command why.Textless = false
+is_of_command why.Extra = false
+is_of_command why.Surplus = false
+is_of_command why.Command = true
+is_of_command why.Empty = false
 
--- what is said further of a word of `find`
+-- what to write instead of a word that another tool would know
 abbrev pub instead_words : Option Name → Why → (word : Text) → Text
-instead_words name w word = if is_of_option w && is_for_find name then foreign_words word else []
+instead_words None w word = if is_of_command w then habit_words word else []
+instead_words (Some name) w word = if is_of_option w then foreign_words name word else []
 
--- the text about a wrong word, of a command or before one
+-- the text about a wrong word, after a command or in its place
 abbrev pub word_fault_words : Option Name → Why → (word : Text) → Text
 word_fault_words name w word =
     subject_words w word ++ (why_words name w ++ (instead_words name w word ++ (codes ": " ++ help_words name)))
@@ -178,7 +166,7 @@ abbrev pub fault_words : FaultLines → Text
 fault_words lines = elim lines.fault [
   | pattern.Astray text column ↦
       marked_words lines.name (codes "no component may be empty, `.` or `..`") text.now column
-  | pattern.Parted text column ↦ marked_words lines.name (codes "find takes no / in a bracket") text.now column
+  | pattern.Parted text column ↦ marked_words lines.name (codes "in find, a bracket must not contain /") text.now column
   | pattern.Syntax text e ↦ marked_words lines.name (message_words (kind_of e.msg.now)) text.now e.pos
   | pattern.Braces text e ↦ brace_lines text.now e ++ 10 ∷ help_words (Some lines.name)
   | pattern.Memory ↦ codes "out of memory"

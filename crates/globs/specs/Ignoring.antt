@@ -22,19 +22,19 @@ IsUnmarked text other = (text ≡ mark ++ other) ⊎ (((rest : Text) → text �
 abbrev pub texts_of : {A : Type 0} → List (Source A) → List Text
 texts_of sources = map (λ s. string_bytes s.text) sources
 
--- the text is the known one of a file, without a byte order mark; any text, if none is known
+-- the text of a file, if it is known, without a byte order mark; any text if it is not known
 abbrev pub IsRead : (known : Option Text) → (text : Text) → Type 0
 IsRead None text = (held : Text) × IsUnmarked held text
 IsRead (Some held) text = IsUnmarked held text
 
--- the texts of the files of these names, without byte order marks
+-- the texts of the files with these names, without byte order marks
 abbrev pub AreRead : (holds : Text → Option Text) → (names texts : List Text) → Type 0
 AreRead holds [] [] = ⊤
 AreRead holds [] (text ∷ texts) = ⊥
 AreRead holds (name ∷ names) [] = ⊥
 AreRead holds (name ∷ names) (text ∷ texts) = IsRead (holds name) text × AreRead holds names texts
 
--- the list has the rules of the files of these names and then the single rules, and all are accepted
+-- the list has the rules of the files with these names and then the single rules, and all are accepted
 unfoldable pub HasRules : (holds : Text → Option Text) → (names rules : List Text) → Ignores → Type 0
 HasRules holds names rules list =
     (texts : List Text) × AreRead holds names texts × AreTaken (with_ends line_feed (texts ++ rules))

@@ -5,9 +5,11 @@ pub mod Escaping
 pub mod Explain
 pub mod Faults
 pub mod Find
+pub mod Foreign
 pub mod Help
 pub mod Ignoring
 pub mod Matching
+pub mod Naming
 pub mod Options
 pub mod Outcomes
 pub mod Patterns

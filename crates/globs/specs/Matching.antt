@@ -13,12 +13,12 @@ use Rattle.globs.specs.declared.options.Settings.{Settings}
 abbrev pub is_record_match : Set → (bytes : List ℕ) → Bool
 is_record_match set bytes = is_utf8 bytes && is_any_match set bytes
 
--- some pattern matches the record or, inverted, none does
+-- some pattern matches the record or, inverted, no pattern does
 abbrev pub is_chosen : Set → (inverts : Bool) → (bytes : List ℕ) → Bool
 is_chosen set inverts bytes = if inverts then not (is_record_match set bytes) else is_record_match set bytes
 
--- Either the patterns are refused before anything is read or written, or each is accepted, and the records were copied
--- that some pattern matches or, inverted, that none does.
+-- Either the patterns are refused before anything is read or written, or all are accepted, and the records that some
+-- pattern matches (inverted: that no pattern matches) were copied.
 unfoldable pub CopiesChosen : {W : Type 0} → (contents : W → Option (List ℕ)) → Settings → (patterns : List Text)
     → Input → (old new : W) → (status : ℕ) → Type 0
 CopiesChosen contents settings patterns input old new status =

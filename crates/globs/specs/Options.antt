@@ -1,5 +1,6 @@
 -- The options of the commands: which command accepts each, and what it sets.
-use Rattle.std.specs.Prelude.{◌^◌, ◌-◌, ◌&&◌, ◌||◌, not, Bool, true, false, [], ◌∷◌, ◌++◌, Option, None, Some, Result, Ok, Err, if◌then◌else◌, codes, bytes_eq, ok_or, option_map}
+use Rattle.std.specs.Prelude.{◌^◌, ◌-◌, ◌&&◌, ◌||◌, not, Bool, true, false, [], ◌∷◌, ◌++◌, Option, None, Some, Result}
+use Rattle.std.specs.Prelude.{Ok, Err, if◌then◌else◌, codes, bytes_eq, ok_or, option_map}
 use Rattle.glob_text.specs.Text.{Text}
 use Rattle.glob_lines.specs.Lines.{line_feed}
 use Rattle.glob_console.specs.Words.{limit_of, option_set}
@@ -25,11 +26,11 @@ is_find Ignore = false
 is_find Explain = false
 is_find Escape = false
 
--- no kind is asked for, so that each path is written
+-- no kind is asked for, so each path is written
 abbrev pub no_kinds : Kinds
 no_kinds = record { files = false; directories = false; links = false }
 
--- the kinds and one more
+-- the kinds, and one more
 abbrev pub with_kind : kinds.Kind → Kinds → Kinds
 with_kind kind.File asked = record asked { files = true }
 with_kind kind.Directory asked = record asked { directories = true }
@@ -41,6 +42,7 @@ new_settings name = record {
   options = record match_options { require_literal_separator = is_find name };
   end = line_feed;
   inverts = false;
+  names_rules = false;
   limit = 2 ^ 64 - 1;
   depth = None;
   kinds = no_kinds;
@@ -82,16 +84,25 @@ is_match Ignore = false
 is_match Explain = false
 is_match Escape = false
 
+-- the command is `ignore`
+abbrev pub is_ignore : Name → Bool
+is_ignore Find = false
+is_ignore Match = false
+is_ignore Ignore = true
+is_ignore Explain = false
+is_ignore Escape = false
+
 -- the settings with a flag set, if the word is a flag of the command: an option without a value
 abbrev pub with_flag : Name → Text → Settings → Option Settings
 with_flag name word s =
     if bytes_eq word (codes "-0") && has_records name then Some (record s { end = 0 })
     else (if bytes_eq word (codes "-v") && is_match name then Some (record s { inverts = true })
+    else (if bytes_eq word (codes "-v") && is_ignore name then Some (record s { names_rules = true })
     else (if bytes_eq word (codes "-L") && is_find name then Some (record s { follows = true })
     else (if bytes_eq word (codes "--git") && is_find name then Some (record s { is_git = true })
     else (if bytes_eq word (codes "--utf8-only") && is_find name then Some (record s { is_utf8_only = true })
     else (if bytes_eq word (codes "-s") && is_find name then None
-    else (if has_pattern name then option_map (λ o. record s { options = o }) (option_set word s.options) else None))))))
+    else (if has_pattern name then option_map (λ o. record s { options = o }) (option_set word s.options) else None)))))))
 
 -- the option that the word names, if it has a value and the command accepts it
 abbrev pub valued_of : Name → Text → Option Valued
@@ -112,8 +123,8 @@ kind_of word =
     else (if bytes_eq word (codes "d") then Some kind.Directory
     else (if bytes_eq word (codes "l") then Some kind.Link else None))
 
--- the options with one set to its value, or why the word is not a value of it; any word may be a rule, a file or a
--- directory, and a kind comes to those before
+-- the options with one option set to its value, or why the word is not a value of it; any word may be a rule, a file or
+-- a directory, and a kind is added to the kinds before it
 abbrev pub value_taken : Valued → Text → Chosen → Result Chosen Why
 value_taken Limit word o =
     ok_or (option_map (λ n. record o { settings = record o.settings { limit = n } }) (limit_of word)) why.Limit

@@ -21,14 +21,14 @@ set_of o patterns = record { patterns = patterns; options = o }
 unfoldable pub is_any_match : Set → (text : Text) → Bool
 is_any_match set text = list_any (λ pattern. is_match set.options (chars pattern) (chars text)) set.patterns
 
--- it is the first of the texts with an empty component, `.` or `..`
+-- the first of the texts with an empty component, `.` or `..`
 abbrev pub IsFirstAstray : (texts : List Text) → (text : Text) → Type 0
 IsFirstAstray texts text =
     (before after : List Text) × (texts ≡ before ++ text ∷ after)
     × (are_below before ≡ true) × (is_below text ≡ false)
 
--- The fault is that of the first text with an empty component, `.` or `..`; or of the first that is not a valid
--- pattern; or of the braces of some text; or an allocation failed. A bracket with a `/` is none of a valid pattern.
+-- The fault is about the first text with an empty component, `.` or `..`; or about the first text that is not a valid
+-- pattern; or about the braces of some text; or an allocation failed. A pattern with a `/` in a bracket is not valid.
 abbrev pub IsPatternFault : (texts : List Text) → PatternFault → Type 0
 IsPatternFault texts (Astray pattern column) = IsFirstAstray texts pattern.now
 IsPatternFault texts (Parted pattern column) = ⊥

@@ -11,8 +11,8 @@ pub data Reading : Type 0 where
   Page : Reading
   Wrong : Why → (word : Text) → Reading
 
--- all words: a command to run; the help page of a command, or of the program; the version; or a wrong word, of a
--- command or before one
+-- all words: a command to run; the help page of a command, or of the program; the version; or a wrong word, after a
+-- command or in its place
 pub data Request : Type 0 where
   Runs : Name → Chosen → (operands : List Text) → Request
   Helps : Option Name → Request

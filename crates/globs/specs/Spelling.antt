@@ -1,5 +1,6 @@
 -- How options are written: several flags in one word, and a value in the word of its option.
-use Rattle.std.specs.Prelude.{ℕ, ◌==◌, ◌&&◌, not, Bool, [], ◌∷◌, List, Option, None, Some, if◌then◌else◌, is_some, length, nat_lt, option_map}
+use Rattle.std.specs.Prelude.{ℕ, ◌==◌, ◌&&◌, not, Bool, [], ◌∷◌, List, Option, None, Some, if◌then◌else◌, is_some}
+use Rattle.std.specs.Prelude.{length, nat_lt, option_map}
 use Rattle.std.specs.List.{after_first, before_first, position_or_len}
 use Rattle.std.specs.Str.{is_utf8}
 use Rattle.glob_text.specs.Pieces.{is_empty}
@@ -25,7 +26,7 @@ abbrev pub with_joined : Name → Text → Settings → Option Settings
 with_joined name [] s = None
 with_joined name (dash ∷ letters) s = if dash == 45 && not (is_empty letters) then with_letters name letters s else None
 
--- the settings with the flags of a word set: with one flag, or with several that are joined
+-- the settings with the flags of a word set: one flag, or several joined ones
 abbrev pub with_flags : Name → Text → Settings → Option Settings
 with_flags name word s =
     if is_some (with_flag name word s) then with_flag name word s else with_joined name word s
@@ -34,7 +35,7 @@ with_flags name word s =
 abbrev pub is_equals : ℕ → Bool
 is_equals c = c == 61
 
--- the option of a word that also has its value, and the value: they are in front of the first `=`, and behind it
+-- the option and the value in a word that has both: before and after the first `=`
 abbrev pub attached : Name → Text → Option (Valued × Text)
 attached name word =
     if nat_lt (position_or_len is_equals word) (length word)

@@ -1,5 +1,6 @@
 -- Texts with their control characters escaped.
-use Rattle.std.specs.Prelude.{ℕ, ◌==◌, ◌||◌, ◌&&◌, Bool, List, [], ◌∷◌, ◌++◌, false, true, if◌then◌else◌, chars, codes, encode_utf8, nat_le, nat_lt, replicate, take}
+use Rattle.std.specs.Prelude.{ℕ, ◌==◌, ◌||◌, ◌&&◌, Bool, List, [], ◌∷◌, ◌++◌, false, true, if◌then◌else◌, chars, codes}
+use Rattle.std.specs.Prelude.{encode_utf8, nat_le, nat_lt, replicate, take}
 use Rattle.std.specs.Char.{is_control}
 use Rattle.std.specs.Fmt.{digits}
 use Rattle.std.specs.List.{flat_map}
@@ -10,8 +11,8 @@ use Rattle.globs.specs.declared.wide.TheConstants.{WIDE}
 abbrev pub escape : (letter : ℕ) → Text
 escape letter = 92 ∷ letter ∷ []
 
--- what is printed for a character: for a control character an escape, `\t`, `\n`, `\r` or one as `\u{1b}`; for every
--- other, itself
+-- what is printed for a character: for a control character an escape (`\t`, `\n`, `\r`, or one like `\u{1b}`), and for
+-- any other character itself
 abbrev pub visible_character : ℕ → Text
 visible_character c =
     if c == 9 then escape 116

@@ -1,5 +1,5 @@
 //! Expands the braces of patterns on the command line.
-ghost use Rattle.std.specs.Prelude.{◌≡◌, Some, IfOk, IfErr, chars, map, string_bytes};
+ghost use Rattle.std.specs.Prelude.{◌≡◌, Some, IfOk, chars, map, string_bytes};
 ghost use Rattle.glob_set.specs.Braces.{AreAlternatives};
 ghost use Rattle.glob_set.specs.BraceSets.{AreAlternativesOf};
 ghost use Rattle.globs.specs.Faults.{alternative_words};
@@ -17,25 +17,29 @@ use std::alloc::Allocator;
 use std::fmt::{self, Display};
 use std::io::Write;
 
+/// A fault that was reported.
+#[derive(Clone, Copy)]
+pub struct Reported;
+
 /// Expands the braces of each word, in order: `*.{c,h}` and `a` give `*.c`, `*.h` and `a`.
 ///
-/// A word with refused braces or a refused alternative is reported on `errors`, as is a failed allocation. The error is
-/// then the exit status.
+/// The error is a word with refused braces or a refused alternative, or a failed allocation. It has been reported on
+/// `errors`.
 pub fn expand_words<A: Allocator + Copy, E: Write>(
     alloc: A,
     name: Name,
     words: &[&str],
     errors: &mut ErrorLines<'_, A, E>,
-) -> Result<Vec<String<A>, A>, u8>
-    ensures texts { IfOk result (λ texts.
+) -> Result<Vec<String<A>, A>, Reported>
+    ensures { IfOk result (λ texts.
         AreAlternativesOf (map (λ w. w.now) words.now) (map string_bytes texts.items)) }
-    ensures status { IfErr result (λ status. status ≡ 2) }
 {
     let mut texts = Vec::new(alloc);
     for word in words {
         let mut alternatives = expand_word(alloc, name, word, errors)?;
         let Ok(()) = texts.append(&mut alternatives) else {
-            return Err(errors.fault("out of memory"));
+            errors.write(&"out of memory");
+            return Err(Reported);
         };
     }
     Ok(texts)
@@ -47,10 +51,9 @@ fn expand_word<A: Allocator + Copy, E: Write>(
     name: Name,
     word: &str,
     errors: &mut ErrorLines<'_, A, E>,
-) -> Result<Vec<String<A>, A>, u8>
-    ensures texts { IfOk result (λ texts.
+) -> Result<Vec<String<A>, A>, Reported>
+    ensures { IfOk result (λ texts.
         AreAlternatives (chars word.now) (map string_bytes texts.items)) }
-    ensures status { IfErr result (λ status. status ≡ 2) }
 {
     match expand(alloc, word) {
         Ok(alternatives) => {
@@ -59,7 +62,8 @@ fn expand_word<A: Allocator + Copy, E: Write>(
         }
         Err(refusal) => {
             let fault = brace_fault(word, refusal);
-            Err(errors.fault(FaultLines { name, fault }))
+            errors.write(&FaultLines { name, fault });
+            Err(Reported)
         }
     }
 }
@@ -80,22 +84,22 @@ fn check_alternatives<A: Allocator + Copy, E: Write>(
     word: &str,
     alternatives: &[String<A>],
     errors: &mut ErrorLines<'_, A, E>,
-) -> Result<(), u8>
-    ensures { IfErr result (λ status. status ≡ 2) }
-{
+) -> Result<(), Reported> {
     for alternative in alternatives {
         let alternative = alternative.as_str();
         if let Some(fault) = pattern_fault(alloc, name, alternative) {
             if alternative == word {
-                return Err(errors.fault(FaultLines { name, fault }));
+                errors.write(&FaultLines { name, fault });
+            } else {
+                errors.write(&lines_of(name, word, fault));
             }
-            return Err(errors.fault(lines_of(name, word, fault)));
+            return Err(Reported);
         }
     }
     Ok(())
 }
 
-/// Why the command refuses a pattern. `None` if it does not, or if an allocation fails.
+/// Why the command refuses a pattern; `None` if it accepts the pattern, or if an allocation fails.
 fn pattern_fault<A: Allocator + Copy>(
     alloc: A,
     name: Name,

@@ -1,14 +1,14 @@
 //! Parses the command line.
 ghost use Rattle.std.specs.Prelude.{◌≡◌, IfOk, IfErr, map, option_map, Option, None};
 ghost use Rattle.globs.specs.Options.{new_options};
-ghost use Rattle.globs.specs.CommandLine.{command_asked, extra_word, first_option, help_asked, is_help};
+ghost use Rattle.globs.specs.CommandLine.{command_asked, extra_word, first_option, help_asked, is_help, late_why};
 ghost use Rattle.globs.specs.CommandLine.{operands_asked, page_named, reading, request_asked};
 ghost use Rattle.globs.specs.Chosen.{Chosen};
 ghost use Rattle.globs.specs.Reading.{Asks};
 ghost use Rattle.globs.specs.Requests.{IsWrong, IsWrongRequest, asked_reading, request_of};
 
 use crate::name::Name;
-use crate::options::{Options, Valued};
+use crate::options::{Options, Settings, Valued};
 use crate::spelling::{attached, with_flags};
 use crate::usage::{UsageFault, UsageLine, Why};
 use std::alloc::Allocator;
@@ -44,14 +44,13 @@ impl<'a, A: Allocator + Copy> Command<'a, A> {
             [] => Err(UsageLine::new(None, Why::Empty, "")),
             [word, rest @ ..] => match *word {
                 "--version" => Ok(Command::Version),
-                "-h" | "--help" => Ok(Command::Help(None)),
-                "help" => Self::parse_help(rest),
+                "-h" | "--help" | "help" => Self::parse_help(rest),
                 word => Self::parse_named(alloc, word, rest),
             },
         }
     }
 
-    /// Parses the words after `help`.
+    /// Parses the words after `help`, `-h` or `--help`.
     fn parse_help(words: &'a [&'a str]) -> Result<Self, UsageLine<'a>>
         ensures asked { IfOk result (λ command.
             help_asked (map (λ w. w.now) words.now) ≡ request_of command) }
@@ -92,7 +91,8 @@ impl<'a, A: Allocator + Copy> Command<'a, A> {
     }
 }
 
-/// The page that the word after `help` names: that of a command or, for `help` itself, of the program, which is `None`.
+/// The page that the word after `help` names: a command's page, or `None` for `help` itself, which means the program's
+/// page.
 fn page_named(word: &str) -> Option<Option<Name>>
     ensures { result ≡ page_named word.now }
 {
@@ -130,6 +130,9 @@ impl<'a, A: Allocator + Copy> Asked<'a, A> {
                     return Err(UsageFault::Word(Why::Valueless, word));
                 };
                 options.take(option, value)?;
+                let [_next, ..] = others else {
+                    return Err(UsageFault::Word(Why::Taken, value));
+                };
                 others
             } else if let Some((option, value)) = attached(name, word) {
                 options.take(option, value)?;
@@ -181,11 +184,23 @@ fn operands_of<'a>(name: Name, words: &'a [&'a str]) -> Result<&'a [&'a str], Us
                 return Err(UsageFault::Word(Why::Extra, word));
             }
             match first_option(others) {
-                Some(word) => Err(UsageFault::Word(Why::Late, word)),
+                Some(word) => Err(UsageFault::Word(late_why(name, word), word)),
                 None => Ok(words),
             }
         }
     }
+}
+
+/// Why a word that begins with `-` is wrong after an operand: it is an option that comes too late, or not an option.
+fn late_why(name: Name, word: &str) -> Why
+    ensures { result ≡ late_why name word.now }
+{
+    let is_known = asks_help(word)
+        || word == "--"
+        || Valued::asked(name, word).is_some()
+        || attached(name, word).is_some()
+        || with_flags(Settings::new(name), name, word).is_some();
+    if is_known { Why::Late } else { Why::Unknown }
 }
 
 /// For `explain`, the surplus word after the text, if neither begins with `-`. `words` come after the pattern.

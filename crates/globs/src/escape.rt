@@ -7,8 +7,8 @@ use glob_set::braces::escape;
 use std::alloc::{AllocError, Allocator};
 use std::io::Write;
 
-/// Writes a record for each text, with the pattern that matches that text and no other, its braces escaped too, and the
-/// character `end`. Returns the status.
+/// Writes a record for each text: the pattern that matches only this text, with braces escaped too, and the character
+/// `end`. Returns the status.
 ///
 /// With a line feed the texts `*.rs` and `{a}` are written as `"[*].rs\n[{]a[}]\n"`.
 pub fn run_escape<A: Allocator + Copy, W: Write, E: Write>(
@@ -24,7 +24,7 @@ pub fn run_escape<A: Allocator + Copy, W: Write, E: Write>(
 {
     match escaped_records(alloc, end, texts) {
         Ok(records) => write_text(records.as_str(), output, errors),
-        Err(_) => errors.fault("out of memory"),
+        Err(_) => errors.memory_fault(),
     }
 }
 

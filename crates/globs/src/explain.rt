@@ -1,39 +1,42 @@
-//! `globs explain`: what `match` and `find` do with a text by a pattern, and why. It writes which piece of the text
-//! each token matches, or how far the match got and what is wanted there, and what to write instead.
+//! `globs explain`: what `match` and `find` do with a text for a pattern, and why. It writes which piece of the text
+//! each token matches; or how far the match got, what is wanted there, and what to write instead.
 ghost use Rattle.std.specs.Prelude.{◌≡◌, ◌≤◌, ◌⊎◌, IfOk, map};
 ghost use Rattle.glob_console.specs.Outcomes.{IsRefused};
 ghost use Rattle.glob_set.specs.BraceSets.{AreAccepted};
 ghost use Rattle.globs.specs.Explain.Outcomes.{Answers, Explains, ExplainsWord};
 ghost use Rattle.globs.specs.Explain.Verdict.{by_find};
+ghost use Rattle.globs.specs.Find.Leads.{lead_of, led};
 ghost use Rattle.globs.specs.Patterns.{set_of};
 
 mod alternative;
 mod deeper;
 mod explanation;
-mod foreign;
+pub mod foreign;
 pub mod hints;
-mod instead;
+pub mod instead;
 pub mod notes;
 mod offers;
 mod refusal;
 pub mod rows;
 mod stop;
+mod swapped;
 mod verdict;
 
 use crate::braces::brace_fault;
+use crate::find::leads::{led_patterns, split_lead};
 use crate::name::Name;
 use crate::patterns::{FaultLines, PatternFault, read_set};
 use crate::usage::{UsageLine, Why};
 use explanation::{Question, Sets, explain};
-use glob_console::{ErrorLines, FOUND, UNFOUND, words_of, write_text};
+use glob_console::{ErrorLines, FOUND, UNFOUND, as_strs, write_text};
 use glob_pattern::{MatchOptions, PatternError};
 use glob_set::braces::expand;
 use refusal::explain_refusal;
 use std::alloc::Allocator;
 use std::io::Write;
 
-/// Explains whether `match` accepts a text and `find` finds it, by the alternatives of a pattern's braces, and returns
-/// the exit status: 0 if one of them matches the text under the options, 1 if none does, and 2 after a fault. The
+/// Explains whether `match` accepts a text and `find` finds it, for the alternatives of a pattern's braces, and returns
+/// the exit status: 0 if an alternative matches the text under the options, 1 if none does, and 2 after a fault. The
 /// operands are the pattern and the text.
 ///
 /// Faults are reported on `errors`. A wrong number of operands, or a refused pattern, leaves the output unchanged.
@@ -86,8 +89,8 @@ fn explain_word<A: Allocator + Copy, W: Write, E: Write>(
             });
         }
     };
-    let Ok(patterns) = words_of(alloc, expanded.as_slice()) else {
-        return errors.fault("out of memory");
+    let Ok(patterns) = as_strs(alloc, expanded.as_slice()) else {
+        return errors.memory_fault();
     };
     let question = Question {
         options,
@@ -112,7 +115,7 @@ fn answer<A: Allocator + Copy, W: Write, E: Write>(
         × Explains question.entry.options (map (λ p. p.now) question.entry.patterns.now)
         question.entry.text.now (W.contents output.old) (W.contents output.new) result) }
 {
-    match read_sets(alloc, question.patterns, question.options) {
+    match read_sets(alloc, question.patterns, question.text, question.options) {
         Ok(sets) => write_explained(alloc, &sets, question, output, errors),
         Err(PatternFault::Syntax(pattern, error)) => {
             refuse(alloc, question, pattern, error, errors)
@@ -124,25 +127,32 @@ fn answer<A: Allocator + Copy, W: Write, E: Write>(
     }
 }
 
-/// The sets of the patterns for `match` and for `find`. The errors are those of [`read_set`].
+/// The sets of the patterns for `match` and for `find`, given a text. Errors are as for [`read_set`].
 fn read_sets<'a, A: Allocator + Copy>(
     alloc: A,
     patterns: &[&'a str],
+    text: &str,
     options: MatchOptions,
 ) -> Result<Sets<A>, PatternFault<'a>>
     ensures matching { IfOk result (λ sets.
         sets.matching ≡ set_of options (map (λ p. p.now) patterns.now)) }
-    ensures finding { IfOk result (λ sets.
-        sets.finding ≡ set_of (by_find options) (map (λ p. p.now) patterns.now)) }
+    ensures finding { IfOk result (λ sets. sets.finding ≡ set_of (by_find options)
+        (led (lead_of text.now) (map (λ p. p.now) patterns.now))) }
+    ensures parting { IfOk result (λ sets. sets.parting ≡ set_of options
+        (led (lead_of text.now) (map (λ p. p.now) patterns.now))) }
     ensures accepted { IfOk result (λ _. AreAccepted (map (λ p. p.now) patterns.now)) }
 {
     let by_find = MatchOptions {
         require_literal_separator: true,
         ..options
     };
+    let matching = read_set(alloc, patterns, options)?;
+    let (lead, _) = split_lead(text);
+    let led = led_patterns(alloc, lead, patterns)?;
     Ok(Sets {
-        matching: read_set(alloc, patterns, options)?,
-        finding: read_set(alloc, patterns, by_find)?,
+        matching,
+        finding: read_set(alloc, led.as_slice(), by_find)?,
+        parting: read_set(alloc, led.as_slice(), options)?,
     })
 }
 
@@ -158,7 +168,9 @@ fn write_explained<A: Allocator + Copy, W: Write, E: Write>(
     requires matching { sets.now.matching
         ≡ set_of question.options (map (λ p. p.now) question.patterns.now) }
     requires finding { sets.now.finding ≡ set_of (by_find question.options)
-        (map (λ p. p.now) question.patterns.now) }
+        (led (lead_of question.text.now) (map (λ p. p.now) question.patterns.now)) }
+    requires parting { sets.now.parting ≡ set_of question.options
+        (led (lead_of question.text.now) (map (λ p. p.now) question.patterns.now)) }
     ensures most { result ≤ 2 }
     ensures explained { Explains question.entry.options
         (map (λ p. p.now) question.entry.patterns.now) question.entry.text.now
@@ -188,6 +200,6 @@ fn refuse<A: Allocator + Copy, E: Write>(
 {
     match explain_refusal(alloc, question, pattern, error) {
         Ok(lines) => errors.fault(lines),
-        Err(_) => errors.fault("out of memory"),
+        Err(_) => errors.memory_fault(),
     }
 }

@@ -17,7 +17,7 @@ pub trait IgnoreFiles {
             (λ known. string_bytes text ≡ known)) };
 }
 
-/// The files of the disk. Clauses know nothing of what they hold.
+/// The files of the disk. Clauses know nothing about their contents.
 #[derive(Drop)]
 pub struct DiskFiles<R: Files> {
     pub rt: R,

@@ -7,7 +7,7 @@ use std::alloc::Allocator;
 use std::fmt::{self, Display};
 use std::io::Write;
 
-/// Writes what another tool's syntax means here, if there is a single pattern and it contains such syntax.
+/// Writes what another tool's syntax means here, if there is only one pattern and it has such syntax.
 pub fn note_form<A: Allocator + Copy, E: Write>(
     alloc: A,
     patterns: &[&str],
@@ -22,9 +22,9 @@ pub fn note_form<A: Allocator + Copy, E: Write>(
 
 /// The line about another tool's syntax.
 #[derive(Clone, Copy)]
-struct FormLine {
-    form: &'static str,
-    words: &'static str,
+pub struct FormLine {
+    pub form: &'static str,
+    pub words: &'static str,
 }
 
 impl Display for FormLine {

@@ -4,18 +4,18 @@ ghost use Rattle.std.specs.Prelude.{◌≡◌, if◌then◌else◌};
 use std::cell::Cell;
 use std::io::{self, ErrorKind, Write};
 
-/// The status after the reader went away: the one that a shell reports of a program that SIGPIPE ends.
+/// The status after the reader went away: the same that a shell reports for a program that SIGPIPE ends.
 const GONE: u8 = 141;
 
 /// A writer that notes whether its reader went away.
 #[derive(Drop)]
-pub struct Heard<'a, W> {
+pub struct PipeWatch<'a, W> {
     pub writer: W,
     pub is_gone: &'a Cell<bool>,
 }
 
-impl<W: Write> Write for Heard<'_, W> {
-    ghost contents = { λ heard. W.contents heard.writer };
+impl<W: Write> Write for PipeWatch<'_, W> {
+    ghost contents = { λ watch. W.contents watch.writer };
 
     fn write(&mut self, buf: &[u8]) -> io::Result<usize> {
         let answer = self.writer.write(buf);
@@ -32,8 +32,8 @@ impl<W: Write> Write for Heard<'_, W> {
     }
 }
 
-/// The status of a run: 141 if the reader of its output went away, and else its own.
-pub fn heard_status(is_gone: bool, status: u8) -> u8
+/// The status of a run: 141 if the reader of its output went away, and otherwise the run's own.
+pub fn pipe_status(is_gone: bool, status: u8) -> u8
     ensures { result ≡ (if is_gone then 141 else status) }
 {
     if is_gone { GONE } else { status }

@@ -44,15 +44,15 @@ Patterns:
   [*]       a literal *. The same goes for [?], [[], []], [{] and [}]
   a.{c,h}   a.c and a.h. Alternatives may be empty, or have braces of their own
 
-Options stand before the patterns, files or texts. Letters without a value may be joined: -is is
--i -s. A value is the next word, as in -t f, not -tf, or after =, as in --max-depth=2. -- ends the
-options: what is after it may begin with -. Among them -h or --help writes the page of the command.
+Options come first, before the patterns, files or texts. Letters without a value may be joined:
+-is is -i -s. A value is the next word, as in -t f, or follows =, as in --max-depth=2. -- ends the
+options, so the next word may begin with -. -h or --help writes the page of a command.
 
 Status:
   0         something was found, copied or matched; for escape and help, all was written
   1         nothing was found, copied or matched
-  2         a fault: lines on standard error
-  141       the reader of the output went away, as in globs find '**' | head. No line says so
+  2         a fault, which is reported on standard error
+  141       the reader of the output went away, as in globs find '**' | head. This is not reported
 ";
 
 /// The page of `find`.
@@ -63,60 +63,74 @@ globs find: the paths below a directory that patterns match and no rule ignores
 
 globs help shows what a PATTERN may have: ?, *, **, brackets and braces.
 
-  -0             each path ends in a NUL instead of a line feed
+  -0             each path ends in a NUL instead of a line feed. Paths may begin with -, so put --
+                 before them: globs find -0 '**/*~' | xargs -0r rm --
   -i             case-insensitive, for ASCII letters
   -d             no wildcard or bracket matches a . at the start of a name
   -C DIR         search below DIR: patterns, rules and paths are relative to it, but FILE is not
   --directory DIR
                  the same as -C DIR
-  -L             a symbolic link to a directory is one, and is entered. One that leads back to a
-                 directory of its own path, from the start on, is reported, and not entered.
+  -L             treat a symbolic link to a directory as that directory, and enter it. A link to a
+                 directory on its own path, from the start on, is reported, and not entered.
                  Without -L nothing is below a link: link/a is not found
   -n LIMIT       the search spends at most LIMIT units: one for each lookup, listing, entry and file
                  of rules. Where it takes more, paths may be missing, and a line says so
   -t KIND        write only paths of this kind: f is a regular file, d a directory, and l a symbolic
-                 link. -t f -t l writes both. Pipes, sockets and devices are of none of them. With
-                 -L a link is what it leads to, and l is one that leads nowhere
+                 link. -t f -t l writes both. Pipes, sockets and devices have none of these kinds.
+                 With -L a link has the kind of what it leads to, and l is one that leads nowhere
   -x RULE        ignore what RULE names, as a line of an ignore file: -x target -x '*.o' -x '!a.o'.
-                 In a rule braces are characters, [^a] is [!a], and case counts, with -i too
+                 In a rule braces are literal, [^a] means [!a], and case counts even with -i
+                 A name that begins with ! or # has a \\ in front: -x '\\!a'
   --ignore FILE  ignore by the rules of FILE, relative to the start directory: --ignore rules.
                  See globs help ignore. Rules of -x override those of files
   --ignore-files NAME
                  ignore by the rules of each file called NAME, for the paths below its directory:
                  --ignore-files .gitignore --ignore-files .ignore. Deeper files override others,
                  and in one directory a later NAME overrides an earlier one
-  --git          ignore what git does in a repository whose top is the start directory: by each
-                 .gitignore, and .git/info/exclude after all others; and .git itself. Rules above
-                 the start are not read: a line says so where a .gitignore is there
+  --git          ignore what git does: by each .gitignore, also those above the start up to the top
+                 of its repository; by .git/info/exclude of the top after all others; and .git
+                 itself. If these rules ignore the start, nothing is found, and a line names the
+                 file. --ignore-files reads no file above the start
   --max-depth N  write no path of more than N names. A directory of N names is not listed
-  --utf8-only    pass over names that are not UTF-8: no line names them, and they make no status 2
+  --utf8-only    pass over names that are not UTF-8: none is reported, and the status stays as it is
   --             ends the options. A pattern that begins with - needs it
 
-A pattern matches a whole path, as src/main.rs, where no ?, * or bracket takes a /: '*.rs' is of
-names here, and '**/*.rs' also of those below. One that begins or ends with /, or has an empty
-component, . or .., is refused, and so is a bracket with a / in it; a line says what to write
-instead.
+A pattern matches a whole path, such as src/main.rs. No ?, * or bracket matches a /: '*.rs' finds
+names here, and '**/*.rs' also those below. Refused are a / at the end, a bracket with a / in it,
+and components that are empty, . or .., except at the start. A line says what to write instead.
 
-Nothing is skipped by default: neither names that begin with a . (see -d), nor what .gitignore
-names (see --git), nor .git (see -x). Rules of -x and --ignore override those of --ignore-files and
---git: -x '!a.o' finds a.o. If a file of these two cannot be read, or has a line that is refused,
-that is reported, and the search goes on with all other lines.
+A pattern that begins with /, ./ or ../ is searched for from that place, and its paths begin like
+it: '/usr/*' writes /usr/bin, and '../*.c' writes ../x.c, where .. is the one above DIR. Rules, NAME
+and N are then relative to that place. Several places are searched one after another, in the order
+of their first patterns.
 
-Each path that one of the patterns matches is written once, in ascending byte order of its names.
+Nothing is skipped by default: names with a leading . (see -d), what .gitignore names (see --git)
+and .git (see -x) are found, too. Rules of -x and --ignore override those of --ignore-files and
+--git: -x '!a.o' finds a.o. If a file of the last two cannot be read, or a line of it is refused,
+a line says so, and the search goes on with all other rules.
+
+From each place, a path that a pattern matches is written once, in ascending byte order of names.
 A directory is listed only where something in it may still be found: 'src/*.c' 'lib/**' lists src,
 lib and what is below lib, and src/main.c nothing. What is ignored is never listed.
 
-Lines on standard error, which change no status, say where words may be meant for another tool: a
-bracket [^a]; where nothing was found, a form such as ~/, or a word that is only part of a name; a
-rule of -x that ignores nothing; and, where nothing else was found, a last word that is a directory.
+Hints on standard error say where a word was perhaps meant otherwise, as in another tool. They do
+not change the status. There are hints about
+
+  * a bracket [^a], words such as !a or :!a that exclude nothing, a dash that is not -, a kind
+    without its own -t, and a name with a bracket that does not match itself as a pattern
+  * a rule of -x that ignores nothing, or is the name of a program such as rm
+  * directories as the first or last words, if nothing else was found
+  * a last word that is only the beginning of a path, as src/main is of src/main.rs
+  * if nothing was found: ~/, part of a name, quotes, spaces and \\ in a pattern, upper-case
+    extensions, patterns that match no names below the start, and the word help
 
 Status:
   0         a path was written
   1         no path was found
-  2         a fault, a directory that could not be listed, a path that could not be looked up, a
-            name that is not UTF-8, ignored or not, unless --utf8-only passes it over, a link that
-            leads back, a file of rules that could not be read or has a line that is refused, or the
-            limit
+  2         a fault, or one of these, although the rest is written: a directory that could not be
+            listed, a path that could not be looked up, a name that is not UTF-8 (also an ignored
+            one, unless --utf8-only is given), a link that leads back, a file of rules that could
+            not be read or has a refused line, or the limit
 ";
 
 /// The page of `match`.
@@ -134,14 +148,17 @@ globs help shows what a PATTERN may have: ?, *, **, brackets and braces.
   -v  copy the lines that no pattern matches
   --  end of options: a pattern after it may begin with -
 
-A line is copied if one of the patterns matches all of it, and before more input is read. It ends
-before a line feed, which the last line may lack; a carriage return belongs to its line. No pattern
-matches a line that is not UTF-8. Files are not opened: globs match '*.rs' <FILE.
+A line is copied if one of the patterns matches all of it, and before more input is read. A line
+feed ends a line; the last line may lack it. A carriage return belongs to its line. No pattern
+matches a line that is not UTF-8. No file is opened: write globs match '*.rs' <FILE.
 
-Lines on standard error say what may have been meant: what a form of another tool is here, such as
-~/ or [^a], where one pattern matches nothing and contains it; that lines are read from standard
-input, where that is a terminal, or where none came and the last of several patterns may be a FILE;
-and -0, where the first line has a NUL.
+Hints on standard error do not change the status. There are hints about
+
+  * a form of another tool, such as ~/ or [^a], and the word help, if a single pattern matches
+    nothing
+  * standard input, if it is a terminal, or if no line came and the last of several patterns may be
+    a FILE
+  * -0, if the first line has a NUL
 
 Status:
   0         a line was copied
@@ -157,26 +174,34 @@ globs ignore: the paths of standard input that ignore files do not ignore
 
   -0  records end in a NUL instead of a line feed, in the input and in the output: for names with
       line feeds, as from git ls-files -z, and for xargs -0
+  -v  write the rule that decides about each path, and the path: FILE:LINE:RULE, a tab and PATH, as
+      git check-ignore -v does, or with -0 FILE, LINE, RULE and PATH, each with a NUL. LINE counts
+      from 1 in FILE. A rule with a ! decides, too. Paths that no rule names are not written
   --  end of options: a FILE after it may begin with -
 
 FILE has rules as in gitignore(5), one a line, for the paths below one directory. If several rules
 name a path, the last one decides, across files, too. A wildcard matches a character where git
 takes a byte, and case counts. A line is refused if a bracket has an unknown class, such as
-[[:word:]], or a character beyond ASCII, or if two stars come right after plain text: src/a**/b.
+[[:word:]], or a character beyond ASCII, or if ** before a / is not a whole component: src/a**/b.
 
-Paths: a path is the names from that directory on, with a / between them, as git ls-files -z writes
-them. A / at its end marks a directory. A ./ at its start is skipped; . and the empty path are
-copied. Other paths are matched as they are written: the rule a/b does not ignore a//b. A path that
-is not UTF-8 is left out, and a line on standard error says how many were. On the disk, only the
-files are read.
+A path is the names from that directory on, with a / between them, as git ls-files -z writes them.
+A / at its end marks a directory. A ./ at its start is skipped; . and the empty path are copied.
+Other paths are matched as they are written: the rule a/b does not ignore a//b. A path that is not
+UTF-8 is left out, and a line on standard error says how many were. On the disk, only the files are
+read.
 
-Paths are written as they come, before more input is read. A line ends before a line feed, which the
-last may lack. A carriage return belongs to its line. Lines on standard error say that paths are
-read from standard input, where that is a terminal, and name -0, where the first has a NUL.
+A path is written before more input is read. A line feed ends a line; the last line may lack it. A
+carriage return belongs to its line.
+
+Hints on standard error do not change the status. There are hints about
+
+  * standard input, if it is a terminal
+  * a FILE that cannot be read, or that looks like a path while no path came: paths are no operands
+  * -0, if the first path has a NUL
 
 Status:
-  0         a path was copied
-  1         no path was copied
+  0         a path was copied or, with -v, written
+  1         no path was copied or written
   2         a fault, such as a refused line of FILE, which is reported with its number, or a path
             that is not UTF-8
 ";
@@ -201,14 +226,20 @@ several alternatives the first that matches is explained, or else the first that
 If it matches, there is a line for each wildcard, bracket and character of the pattern: how it is
 written, a tab, and the piece of TEXT that it takes, as short as the later ones allow.
 
-Otherwise a caret is under the character of TEXT where the match stops. The lines below say what is
-wanted there, whether TEXT or the pattern ends in white space, which brackets list nothing, which
-forms of shells and other tools mean nothing here, which single change gives a match, and what to
-write instead of such a form or a regular expression. All of these were tried: if one to be written
-does not match TEXT, the line says so. A control character is written as \\r or \\u{1b}.
+Otherwise a caret is under the character of TEXT where the match stops. The lines below it say
 
-If find does not find TEXT, the last line may have a pattern by which it does: **/*.rs for *.rs
-and a/b.rs.
+  * what is wanted there
+  * whether TEXT or the pattern ends in white space
+  * which brackets list nothing, and which forms of shells and other tools mean nothing here
+  * whether TEXT is a pattern that matches PATTERN, so that the two are swapped
+  * which single change gives a match
+  * what to write instead of a form of another tool or a regular expression; if that does not match
+    TEXT, the line says so
+
+A control character is written as \\r or \\u{1b}.
+
+If find does not find TEXT, the last line may suggest a pattern that does: **/*.rs for *.rs and
+a/b.rs.
 
 Status:
   0         the pattern matches TEXT, as globs match would
@@ -229,7 +260,7 @@ globs escape: patterns that match exactly the given texts
 
 For each TEXT it writes a line with the pattern that matches only that text, under every option
 except -i. So *.rs is written as [*].rs, and {a} as [{]a[}], which find and match do not
-expand.
+expand. For a rule of an ignore file or of find -x, a ! or # at its start also needs a \\ in front.
 
 Status:
   0         the lines were written

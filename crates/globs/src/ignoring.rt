@@ -16,7 +16,7 @@ use std::io::{self, ErrorKind};
 /// Where rules come from.
 #[derive(Clone, Copy)]
 enum Origin<'a> {
-    /// The file of this name.
+    /// The file with this name.
     File(&'a str),
     /// This value of `-x`.
     Rule(&'a str),
@@ -29,6 +29,15 @@ pub struct Source<'a, A: Allocator> {
     text: String<A>,
 }
 
+impl<A: Allocator> Source<'_, A> {
+    /// The text.
+    pub fn text(&self) -> &str
+        ensures { result.now ≡ string_bytes self.now.text }
+    {
+        self.text.as_str()
+    }
+}
+
 /// Why an ignore list could not be made. It prints as a line, without the program's name.
 #[derive(Drop)]
 pub enum RulesFault<'a> {
@@ -36,7 +45,7 @@ pub enum RulesFault<'a> {
     NoText(&'a str),
     /// The file could not be read, for this reason.
     Unread(&'a str, io::Error),
-    /// In the file of this name, the line of this number, counted from 1, is refused for this reason.
+    /// In the file with this name, the line with this number, counted from 1, is refused for this reason.
     Refused(&'a str, usize, Reason),
     /// This value of `-x` is refused for this reason.
     Rule(&'a str, Reason),
@@ -95,7 +104,7 @@ impl Display for RulesFault<'_> {
     }
 }
 
-/// Reads the rules of the files and, after them, the single rules: their text, and their list. A byte order mark at the
+/// Reads the rules of the files and then the single rules. Returns their text and their list. A byte order mark at the
 /// start of a file is skipped.
 pub fn read_rules<'a, A: Allocator + Copy, F: IgnoreFiles>(
     alloc: A,
@@ -103,20 +112,46 @@ pub fn read_rules<'a, A: Allocator + Copy, F: IgnoreFiles>(
     names: &[&'a str],
     rules: &[&'a str],
 ) -> Result<(String<A>, IgnoreList<A>), RulesFault<'a>>
-    ensures { IfOk result (λ read.
+    ensures rules { IfOk result (λ read.
         HasRules (F.holds files.now) (map (λ w. w.now) names.now) (map (λ w. w.now) rules.now)
         read.1) }
+    ensures text { IfOk result (λ read. read.1 ≡ rules_of (string_bytes read.0)) }
+{
+    let sources = read_sources(alloc, files, names, rules)?;
+    list_of(alloc, sources.as_slice())
+}
+
+/// Reads the texts of the files, each without a byte order mark, and adds the single rules.
+pub fn read_sources<'a, A: Allocator + Copy, F: IgnoreFiles>(
+    alloc: A,
+    files: &F,
+    names: &[&'a str],
+    rules: &[&'a str],
+) -> Result<Vec<Source<'a, A>, A>, RulesFault<'a>>
+    ensures { IfOk result (λ sources. (texts : List Text)
+        × AreRead (F.holds files.now) (map (λ w. w.now) names.now) texts
+        × (texts_of sources.items ≡ texts ++ map (λ w. w.now) rules.now)) }
 {
     let mut sources = Vec::new(alloc);
     add_files(alloc, files, names, &mut sources)?;
     add_rules(alloc, rules, &mut sources)?;
-    let text = joined(alloc, sources.as_slice())?;
+    Ok(sources)
+}
+
+/// The text of all sources, one after another, and its list.
+pub fn list_of<'a, A: Allocator + Copy>(
+    alloc: A,
+    sources: &[Source<'a, A>],
+) -> Result<(String<A>, IgnoreList<A>), RulesFault<'a>>
+    ensures rules { let text = with_ends line_feed (texts_of sources.now) in
+        IfOk result (λ read. AreTaken text × (read.1 ≡ rules_of text)) }
+    ensures text { IfOk result (λ read. read.1 ≡ rules_of (string_bytes read.0)) }
+{
+    let text = joined(alloc, sources)?;
     match IgnoreList::new(alloc, text.as_str()) {
         Ok(list) => Ok((text, list)),
         Err(RuleRefusal::Memory) => Err(RulesFault::Memory),
-        Err(RuleRefusal::Line(line, reason)) => {
-            Err(refusal_of(sources.as_slice(), line, reason))
-        }
+        Err(RuleRefusal::Line(line, reason)) => Err(refusal_of(sources, line, reason)),
     }
 }
 

@@ -2,14 +2,15 @@
 //! match lines, apply ignore lists, explain matches and escape texts.
 #![tactic(auto)]
 
-ghost use Rattle.std.specs.Prelude.{◌≡◌, ◌≤◌, false, if◌then◌else◌, map};
+ghost use Rattle.std.specs.Prelude.{◌≡◌, ◌≤◌, false, map};
 ghost use Rattle.globs.specs.CommandLine.{request_asked};
 ghost use Rattle.globs.specs.Copying.{input_of};
 ghost use Rattle.globs.specs.Faults.{WritesUsage};
-ghost use Rattle.globs.specs.Outcomes.{Fulfils, known_at};
+ghost use Rattle.globs.specs.Outcomes.{Fulfils};
 ghost use Rattle.globs.specs.Reading.{Runs};
 ghost use Rattle.globs.specs.Requests.{request_of};
 
+mod above;
 mod braces;
 mod command;
 mod copying;
@@ -17,6 +18,7 @@ mod escape;
 mod explain;
 mod files;
 mod find;
+mod foreign;
 mod forms;
 mod gone;
 mod help;
@@ -27,23 +29,24 @@ mod matching;
 mod name;
 mod options;
 mod patterns;
+mod place;
 mod spelling;
 mod usage;
 mod visible;
+mod whole;
 mod wide;
 
 use command::{Asked, Command};
 use escape::run_escape;
 use explain::run_explain;
 use files::{DiskFiles, IgnoreFiles};
-use find::disk::{Disks, SharedRules, Start, StartTexts, disk_of, last_status};
+use find::disk::{Here, last_status};
 use find::find_asked;
 use find::kinds::PathKinds;
-use glob_console::{ErrorLines, FAULT, arguments, words_of, write_line, write_text};
+use find::places::Places;
+use glob_console::{ErrorLines, FAULT, arguments, as_strs, write_line, write_text};
 use glob_lines::Watch;
-use glob_search::RuleTexts;
-use glob_tree::{Links, Tree};
-use gone::{Heard, heard_status};
+use gone::{PipeWatch, pipe_status};
 use ignore::run_ignore;
 use input::note_terminal;
 use matching::match_words;
@@ -62,9 +65,9 @@ const PREFIX: &str = "globs: ";
 /// leaves the output unchanged.
 ///
 /// With the input `"a.rs\nb.c\n"`, the words `match` and `*.rs` write `"a.rs\n"`, and the status is 0.
-pub fn run_words<T, X, F, R, W, E>(
-    alloc: T::Alloc,
-    disks: Disks<'_, T, X, T::Alloc>,
+pub fn run_words<P, F, R, W, E>(
+    alloc: P::Alloc,
+    places: &P,
     files: &F,
     words: &[&str],
     input: &mut Watch<R>,
@@ -72,8 +75,7 @@ pub fn run_words<T, X, F, R, W, E>(
     errors: &mut E,
 ) -> u8
 where
-    T: Tree,
-    X: RuleTexts<Alloc = T::Alloc>,
+    P: Places,
     F: IgnoreFiles + PathKinds,
     R: Read,
     W: Write,
@@ -81,10 +83,10 @@ where
     requires { input.old.failed ≡ false }
     ensures most { result ≤ 2 }
     ensures request { Fulfils W.contents (record {
-      content = λ follows d. known_at d disks.entry.directory.now
-          (T.tells (if follows then disks.entry.followed else disks.entry.kept));
-      texts = λ d. known_at d disks.entry.directory.now (X.texts disks.entry.texts);
+      content = P.content places.now;
+      texts = P.texts places.now;
       kinds = F.kinds files.now;
+      above = P.above places.now;
       holds = F.holds files.now;
       input = input_of R.remaining input.old input.new;
     })
@@ -95,7 +97,7 @@ where
     match Command::parse(alloc, words) {
         Ok(command) => {
             let errors = &mut ErrorLines::quiet(alloc, PREFIX, errors);
-            run_asked(alloc, disks, files, &command, input, output, errors)
+            run_asked(alloc, places, files, &command, input, output, errors)
         }
         Err(usage_line) => {
             write_line(alloc, PREFIX, &usage_line, errors);
@@ -105,18 +107,17 @@ where
 }
 
 /// Runs a parsed command line, and returns the exit status.
-fn run_asked<T, X, F, R, W, E>(
-    alloc: T::Alloc,
-    disks: Disks<'_, T, X, T::Alloc>,
+fn run_asked<P, F, R, W, E>(
+    alloc: P::Alloc,
+    places: &P,
     files: &F,
-    command: &Command<'_, T::Alloc>,
+    command: &Command<'_, P::Alloc>,
     input: &mut Watch<R>,
     output: &mut W,
-    errors: &mut ErrorLines<'_, T::Alloc, E>,
+    errors: &mut ErrorLines<'_, P::Alloc, E>,
 ) -> u8
 where
-    T: Tree,
-    X: RuleTexts<Alloc = T::Alloc>,
+    P: Places,
     F: IgnoreFiles + PathKinds,
     R: Read,
     W: Write,
@@ -124,10 +125,10 @@ where
     requires { input.old.failed ≡ false }
     ensures most { result ≤ 2 }
     ensures request { Fulfils W.contents (record {
-      content = λ follows d. known_at d disks.entry.directory.now
-          (T.tells (if follows then disks.entry.followed else disks.entry.kept));
-      texts = λ d. known_at d disks.entry.directory.now (X.texts disks.entry.texts);
+      content = P.content places.now;
+      texts = P.texts places.now;
       kinds = F.kinds files.now;
+      above = P.above places.now;
       holds = F.holds files.now;
       input = input_of R.remaining input.old input.new;
     })
@@ -135,7 +136,7 @@ where
 {
     match command {
         Command::Run(name, asked) => {
-            run_command(alloc, disks, files, *name, asked, input, output, errors)
+            run_command(alloc, places, files, *name, asked, input, output, errors)
         }
         Command::Help(name) => write_text(help::page_of(*name), output, errors),
         Command::Version => write_text(help::VERSION, output, errors),
@@ -144,19 +145,18 @@ where
 
 /// Runs a command, and returns the exit status.
 #[tactic(auto, unfolding(crate::specs::Outcomes::Fulfils))]
-fn run_command<T, X, F, R, W, E>(
-    alloc: T::Alloc,
-    disks: Disks<'_, T, X, T::Alloc>,
+fn run_command<P, F, R, W, E>(
+    alloc: P::Alloc,
+    places: &P,
     files: &F,
     name: Name,
-    asked: &Asked<'_, T::Alloc>,
+    asked: &Asked<'_, P::Alloc>,
     input: &mut Watch<R>,
     output: &mut W,
-    errors: &mut ErrorLines<'_, T::Alloc, E>,
+    errors: &mut ErrorLines<'_, P::Alloc, E>,
 ) -> u8
 where
-    T: Tree,
-    X: RuleTexts<Alloc = T::Alloc>,
+    P: Places,
     F: IgnoreFiles + PathKinds,
     R: Read,
     W: Write,
@@ -164,10 +164,10 @@ where
     requires { input.old.failed ≡ false }
     ensures most { result ≤ 2 }
     ensures request { Fulfils W.contents (record {
-      content = λ follows d. known_at d disks.entry.directory.now
-          (T.tells (if follows then disks.entry.followed else disks.entry.kept));
-      texts = λ d. known_at d disks.entry.directory.now (X.texts disks.entry.texts);
+      content = P.content places.now;
+      texts = P.texts places.now;
       kinds = F.kinds files.now;
+      above = P.above places.now;
       holds = F.holds files.now;
       input = input_of R.remaining input.old input.new;
     })
@@ -177,71 +177,48 @@ where
     let settings = asked.options.settings;
     let operands = asked.operands;
     match name {
-        Name::Find => find_asked(alloc, disks, files, asked, output, errors),
+        Name::Find => find_asked(alloc, places, files, asked, output, errors),
         Name::Match => match_words(alloc, settings, operands, input, output, errors),
-        Name::Ignore => run_ignore(alloc, files, settings.end, operands, input, output, errors),
+        Name::Ignore => run_ignore(alloc, files, settings, operands, input, output, errors),
         Name::Explain => run_explain(alloc, settings.options, operands, output, errors),
         Name::Escape => run_escape(alloc, settings.end, operands, output, errors),
     }
 }
 
-/// The command that the words ask for, if they do, and where to begin: in the current directory if they do not say, or
-/// without memory to read them.
-fn asked_here<'a>(rt: HostRuntime, words: &'a [&'a str]) -> (Option<Name>, Start<'a>) {
-    let (name, directory, is_utf8_only) = match Command::parse(rt.alloc(), words) {
-        Ok(Command::Run(name, asked)) => {
-            let options = &asked.options;
-            (Some(name), options.directory, options.settings.is_utf8_only)
-        }
-        Ok(Command::Help(_) | Command::Version) | Err(_) => (None, "", false),
-    };
-    let start = Start {
-        rt,
-        directory,
-        is_utf8_only,
-    };
-    (name, start)
+/// Writes what the command that the words ask for reads from a terminal.
+fn note_input(rt: HostRuntime, words: &[&str]) {
+    if let Ok(Command::Run(name, asked)) = Command::parse(rt.alloc(), words) {
+        note_terminal(
+            name,
+            asked.operands,
+            &mut ErrorLines::quiet(rt.alloc(), PREFIX, &mut rt.stderr()),
+        );
+    }
 }
 
 /// Runs the command that `words` ask for over the real disk and the standard streams, and returns the exit status.
 fn run_here(rt: HostRuntime, words: &[&str]) -> u8 {
     let (has_stray, is_gone) = (Cell::new(false), Cell::new(false));
-    let rules = SharedRules::new();
-    let (name, start) = asked_here(rt, words);
     if rt.stdin().is_terminal() {
-        note_terminal(
-            name,
-            &mut ErrorLines::quiet(rt.alloc(), PREFIX, &mut rt.stderr()),
-        );
+        note_input(rt, words);
     }
-    let (mut kept_errors, mut followed_errors) = (rt.stderr(), rt.stderr());
-    let disks = Disks {
-        kept: disk_of(start, Links::Kept, &mut kept_errors, &has_stray, &rules),
-        followed: disk_of(
-            start,
-            Links::Followed,
-            &mut followed_errors,
-            &has_stray,
-            &rules,
-        ),
-        texts: StartTexts { start },
-        directory: start.directory,
-        rules: &rules,
-    };
-    let mut output = Heard {
+    let mut output = PipeWatch {
         writer: rt.stdout(),
         is_gone: &is_gone,
     };
     let status = run_words(
         rt.alloc(),
-        disks,
+        &Here {
+            rt,
+            has_stray: &has_stray,
+        },
         &DiskFiles { rt },
         words,
         &mut Watch::new(rt.stdin()),
         &mut output,
         &mut rt.stderr(),
     );
-    heard_status(is_gone.get(), last_status(has_stray.get(), status))
+    pipe_status(is_gone.get(), last_status(has_stray.get(), status))
 }
 
 fn main(rt: HostRuntime) -> ExitCode {
@@ -254,8 +231,8 @@ fn main(rt: HostRuntime) -> ExitCode {
             return ExitCode::from(errors.arguments_fault(&error, "a word is not UTF-8"));
         }
     };
-    let Ok(words) = words_of(alloc, arguments.as_slice()) else {
-        return ExitCode::from(errors.fault("out of memory"));
+    let Ok(words) = as_strs(alloc, arguments.as_slice()) else {
+        return ExitCode::from(errors.memory_fault());
     };
     ExitCode::from(run_here(rt, words.as_slice()))
 }

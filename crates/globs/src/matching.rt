@@ -1,17 +1,18 @@
-//! `globs match`: copies the records of the input that any pattern matches or, with `-v`, that none matches.
+//! `globs match`: copies the records of the input that some pattern matches or, with `-v`, that no pattern matches.
 ghost use Rattle.std.specs.Prelude.{◌≡◌, ◌≤◌, ◌↔◌, false, map, IfOk, IsTrue};
 ghost use Rattle.std.specs.Str.{chars};
 ghost use Rattle.globs.specs.Copying.{input_of};
 ghost use Rattle.globs.specs.Matching.{CopiesChosen, CopiesMatches, is_chosen, is_record_match};
 
-use crate::braces::expand_words;
+use crate::braces::{Reported, expand_words};
 use crate::copying::copy;
-use crate::forms::note_form;
-use crate::input::{FirstRecord, note_file};
+use crate::input::{FirstRecord, is_help, note_file};
 use crate::name::Name;
 use crate::options::Settings;
 use crate::patterns::{FaultLines, is_any_match, read_set};
-use glob_console::{ErrorLines, UNFOUND, words_of};
+use crate::usage::HelpWord;
+use crate::whole::note_unmatched;
+use glob_console::{ErrorLines, FAULT, UNFOUND, as_strs};
 use glob_lines::{Selection, Watch};
 use glob_set::PatternSet;
 use std::alloc::{AllocError, Allocator};
@@ -19,7 +20,7 @@ use std::io::{Read, Write};
 use std::str;
 
 /// Expands the braces of the words, `*.{c,h}` to `*.c` and `*.h`, and then does what [`run_match`] does. A refused word
-/// is a fault, before anything is read or written. Lines say what may have been meant: `-0`, a file to read, or, if a
+/// is a fault, before anything is read or written. Lines say what was probably meant: `-0`, a file to read, or, if a
 /// single pattern matches nothing, another tool's syntax.
 #[tactic(auto, unfolding(crate::specs::Matching::CopiesMatches))]
 pub fn match_words<A: Allocator + Copy, R: Read, W: Write, E: Write>(
@@ -37,10 +38,10 @@ pub fn match_words<A: Allocator + Copy, R: Read, W: Write, E: Write>(
 {
     let texts = match expand_words(alloc, Name::Match, words, errors) {
         Ok(texts) => texts,
-        Err(status) => return status,
+        Err(Reported) => return FAULT,
     };
-    let Ok(patterns) = words_of(alloc, texts.as_slice()) else {
-        return errors.fault("out of memory");
+    let Ok(patterns) = as_strs(alloc, texts.as_slice()) else {
+        return errors.memory_fault();
     };
     let first = FirstRecord::new();
     let status = run_match(
@@ -53,16 +54,18 @@ pub fn match_words<A: Allocator + Copy, R: Read, W: Write, E: Write>(
         errors,
     );
     first.report(errors);
-    if status == UNFOUND && first.is_missing() {
+    if status == UNFOUND && is_help(words) {
+        errors.write(&HelpWord { name: Name::Match });
+    } else if status == UNFOUND && first.is_missing() {
         note_file(words, errors);
-    } else if status == UNFOUND && !settings.inverts {
-        note_form(alloc, patterns.as_slice(), errors);
+    } else if status == UNFOUND && !settings.inverts && !first.has_nul() {
+        note_unmatched(alloc, patterns.as_slice(), errors);
     }
     status
 }
 
-/// Copies the records of the input that any pattern matches or, if the settings invert that, that none matches, and
-/// returns the status. A refused pattern is a fault, before anything is read or written.
+/// Copies the records of the input that some pattern matches or, if the settings invert this, that no pattern matches.
+/// Returns the status. A refused pattern is a fault, before anything is read or written.
 ///
 /// With the input `"a.rs\nb.c\n"`, the pattern `*.rs` writes `"a.rs\n"`, and `"b.c\n"` if inverted.
 #[tactic(auto, unfolding(crate::specs::Matching::CopiesChosen))]
@@ -96,7 +99,7 @@ fn run_match<A: Allocator + Copy, R: Read, W: Write, E: Write>(
     }
 }
 
-/// Selects the records that any pattern matches or, if it `inverts`, that none matches.
+/// Selects the records that some pattern matches or, if it `inverts`, that no pattern matches.
 #[derive(Drop)]
 struct Chosen<'f, A: Allocator> {
     patterns: PatternSet<A>,
@@ -114,7 +117,7 @@ impl<A: Allocator + Copy> Selection for Chosen<'_, A> {
     }
 }
 
-/// Whether a record is UTF-8 and any pattern matches it.
+/// Whether a record is UTF-8 and some pattern matches it.
 fn is_record_match<A: Allocator + Copy>(
     patterns: &PatternSet<A>,
     bytes: &[u8],

@@ -35,7 +35,7 @@ pub enum Kind {
     Link,
 }
 
-/// The kinds of the paths that are written; with none of them set, each path is.
+/// The kinds of the paths that are written; if none is set, all paths are written.
 #[derive(Clone, Copy, PartialEq, Eq)]
 pub struct Kinds {
     pub files: bool,
@@ -49,18 +49,20 @@ pub struct Settings {
     pub options: MatchOptions,
     /// The byte that ends each record.
     pub end: u8,
-    /// Whether to copy the records that no pattern matches, rather than those that one does.
+    /// Whether to copy the records that no pattern matches, rather than the records that some pattern matches.
     pub inverts: bool,
+    /// Whether to name the rule that decides about each path, rather than copy the paths that are not ignored.
+    pub names_rules: bool,
     /// How many units the walk may spend.
     pub limit: u64,
-    /// The most names that a path may have.
+    /// How many names a path may have.
     pub depth: Option<u64>,
     pub kinds: Kinds,
     /// Whether symbolic links to directories are followed.
     pub follows: bool,
     /// Whether what git ignores is left out.
     pub is_git: bool,
-    /// Whether names that are not UTF-8 are passed over, rather than reported.
+    /// Whether names that are not UTF-8 are skipped, rather than reported.
     pub is_utf8_only: bool,
 }
 
@@ -70,7 +72,7 @@ pub struct Options<'a, A: Allocator> {
     pub settings: Settings,
     /// The ignore files.
     pub files: Vec<&'a str, A>,
-    /// Single rules, which come after those of the files.
+    /// Single rules, which come after the rules of the files.
     pub rules: Vec<&'a str, A>,
     /// The names of ignore files, each for the paths below its directory.
     pub rule_files: Vec<&'a str, A>,
@@ -112,7 +114,7 @@ impl Valued {
 }
 
 impl Kinds {
-    /// None of them.
+    /// No kinds.
     pub fn new() -> Self
         ensures { result ≡ no_kinds }
     {
@@ -123,7 +125,7 @@ impl Kinds {
         }
     }
 
-    /// These kinds and one more.
+    /// These kinds, and one more.
     fn with(self, kind: Kind) -> Self
         ensures { result ≡ with_kind kind self }
     {
@@ -149,6 +151,7 @@ impl Settings {
             },
             end: b'\n',
             inverts: false,
+            names_rules: false,
             limit: u64::MAX,
             depth: None,
             kinds: Kinds::new(),
@@ -158,7 +161,7 @@ impl Settings {
         }
     }
 
-    /// These settings with a flag set. `None` unless the word is a flag, an option without a value, of the command.
+    /// These settings with a flag set; `None` unless the word is a flag (an option without a value) of the command.
     pub fn with_flag(self, name: Name, word: &str) -> Option<Self>
         ensures { result ≡ with_flag name word.now self }
     {
@@ -166,6 +169,7 @@ impl Settings {
         match (word, name) {
             ("-0", Name::Find | Name::Match | Name::Ignore | Name::Escape) => settings.end = 0,
             ("-v", Name::Match) => settings.inverts = true,
+            ("-v", Name::Ignore) => settings.names_rules = true,
             ("-L", Name::Find) => settings.follows = true,
             ("--git", Name::Find) => settings.is_git = true,
             ("--utf8-only", Name::Find) => settings.is_utf8_only = true,
@@ -192,8 +196,8 @@ impl<'a, A: Allocator + Copy> Options<'a, A> {
         }
     }
 
-    /// Sets an option to the value `word`. The error says why that is not a value of the option, or that an allocation
-    /// failed.
+    /// Sets an option to the value `word`. The error says why `word` is not a value of the option, or that an
+    /// allocation failed.
     pub fn take(&mut self, option: Valued, word: &'a str) -> Result<(), UsageFault<'a>>
         ensures taken { OnOk result (value_taken option word.now self.old ≡ Ok self.new) }
         ensures wrong { IfErr result (IsValueFault option word.now self.old) }

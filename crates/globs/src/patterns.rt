@@ -71,7 +71,7 @@ impl Display for FaultLines<'_> {
                     text: *text,
                     column: *column,
                 };
-                write!(f, "find takes no / in a bracket\n{caret}\n{help}")
+                write!(f, "in find, a bracket must not contain /\n{caret}\n{help}")
             }
             PatternFault::Syntax(text, error) => {
                 let caret = Caret {
@@ -119,7 +119,7 @@ fn write_braces<W: fmt::Write>(
     }
 }
 
-/// Makes a set of the patterns. The error has the first text that is not a valid pattern and its syntax error, or
+/// Makes a set of the patterns. The error has the first text that is not a valid pattern, with its syntax error, or
 /// reports a failed allocation.
 pub fn read_set<'a, A: Allocator + Copy>(
     alloc: A,
@@ -147,7 +147,7 @@ fn fault_of<'a>(patterns: &[&'a str], refusal: SetRefusal) -> PatternFault<'a>
     }
 }
 
-/// Whether any pattern of the set matches the text. The error is an allocation failure.
+/// Whether some pattern of the set matches the text. The error is an allocation failure.
 pub fn is_any_match<A: Allocator + Copy>(
     patterns: &PatternSet<A>,
     text: &str,

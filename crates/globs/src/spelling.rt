@@ -6,8 +6,8 @@ use crate::name::Name;
 use crate::options::{Settings, Valued};
 use std::str;
 
-/// The settings with the flags of a word set: with one flag, such as `-i` or `--git`, or with several that are joined, as
-/// in `-is`. `None` unless each is a flag of the command.
+/// The settings with the flags of a word set: one flag, such as `-i` or `--git`, or several joined ones, as in `-is`.
+/// `None` unless each is a flag of the command.
 pub fn with_flags(settings: Settings, name: Name, word: &str) -> Option<Settings>
     ensures { result ≡ with_flags name word.now settings }
 {
@@ -41,7 +41,7 @@ fn with_letter(settings: Settings, name: Name, letter: u8) -> Option<Settings>
     }
 }
 
-/// The option of a word that also has its value, and the value: of `--max-depth=2` it is `2`.
+/// The option and the value in a word that has both: for `--max-depth=2`, the value is `2`.
 pub fn attached(name: Name, word: &str) -> Option<(Valued, &str)>
     ensures { option_map (λ it. (it.0, it.1.now)) result ≡ attached name word.now }
 {

@@ -1,8 +1,9 @@
 //! What is wrong with a command line.
 ghost use Rattle.std.specs.Prelude.{◌≡◌, Some};
-ghost use Rattle.globs.specs.Faults.{foreign_words, help_words, instead_words, subject_words, usage_words, why_words};
+ghost use Rattle.globs.specs.Faults.{help_words, instead_words, subject_words, usage_words, why_words};
 ghost use Rattle.globs.specs.declared.usage.UsageFault.TheVariants.{Word};
 
+use crate::foreign::{foreign, habit};
 use crate::name::Name;
 use crate::visible::Visible;
 use std::alloc::{AllocError, AllocFailed};
@@ -23,8 +24,10 @@ pub enum Why {
     Kind,
     /// It is not a name for ignore files.
     RuleFile,
-    /// It begins with `-` and comes after an operand.
+    /// It is an option, and comes after an operand.
     Late,
+    /// It is the value of an option, and no operand follows.
+    Taken,
     /// An operand is missing. The word is empty.
     Bare,
     /// The text to explain is missing. The word is empty.
@@ -117,6 +120,7 @@ impl Display for Subject<'_> {
             | Why::Kind
             | Why::RuleFile
             | Why::Late
+            | Why::Taken
             | Why::Extra
             | Why::Surplus
             | Why::Command => write!(f, "`{word}`"),
@@ -130,53 +134,47 @@ impl Why {
         ensures { result.now ≡ why_words name self }
     {
         match self {
-            Why::Unknown => " is no option",
+            Why::Unknown => " is not an option",
             Why::Valueless => " needs a value",
-            Why::Limit => " is no limit: -n takes a number below 2 to the power of 64",
-            Why::Depth => " is no depth: --max-depth takes a number below 2 to the power of 64",
-            Why::Kind => " is no kind: -t takes f, d or l, and may be given again",
-            Why::RuleFile => " is no name: --ignore-files takes one, such as .gitignore",
-            Why::Late => " stands after an operand, where it may be a name: options come first",
+            Why::Limit => " is not a limit: -n needs a whole number below 2^64",
+            Why::Depth => " is not a depth: --max-depth needs a whole number below 2^64",
+            Why::Kind => " is not a kind: use -t f, -t d or -t l, or several of them",
+            Why::RuleFile => " is not a file name: --ignore-files needs one, such as .gitignore",
+            Why::Late => " comes after an operand, where it could be a name: put options first",
+            Why::Taken => " is the value of the option before it, and no PATTERN follows",
             Why::Bare => match name {
-                Some(Name::Ignore) => "there is no FILE",
-                Some(Name::Escape) => "there is no TEXT",
-                Some(Name::Find | Name::Match | Name::Explain) | None => "there is no PATTERN",
+                Some(Name::Ignore) => "missing FILE",
+                Some(Name::Escape) => "missing TEXT",
+                Some(Name::Find | Name::Match | Name::Explain) | None => "missing PATTERN",
             },
-            Why::Textless => "there is no text",
-            Why::Extra => " stands after the text: quote the pattern",
-            Why::Surplus => " is too much: help takes one command",
-            Why::Command => " is no command",
-            Why::Empty => "there is no command",
+            Why::Textless => "missing TEXT",
+            Why::Extra => " comes after the text: quote the pattern",
+            Why::Surplus => " is one word too many: ask help about one command",
+            Why::Command => " is not a command",
+            Why::Empty => "missing command",
         }
     }
 }
 
-/// What the line says further of a word that is an option of another tool, for `find`: what to write instead. For other
-/// words nothing.
+/// What to write instead of a word that another tool would know; nothing for other words.
 fn instead_of(name: Option<Name>, why: Why, word: &str) -> &'static str
     ensures { result.now ≡ instead_words name why word.now }
 {
-    let is_asked = matches!(why, Why::Unknown | Why::Late) && matches!(name, Some(Name::Find));
-    if is_asked { foreign(word) } else { "" }
-}
-
-/// What to write instead of an option that other tools have.
-fn foreign(word: &str) -> &'static str
-    ensures { result.now ≡ foreign_words word.now }
-{
-    match word {
-        "-type" | "--type" => "; -t f, -t d and -t l ask for kinds",
-        "-maxdepth" | "--depth" => "; --max-depth N says how deep",
-        "-name" | "-path" | "-g" | "--glob" => "; a pattern says what names: '**/*.rs'",
-        "-iname" | "-ipath" => "; -i and a pattern say what names: -i '**/*.rs'",
-        "-e" | "--extension" => "; a pattern says which extension: '**/*.rs'",
-        "-print0" | "--print0" => "; -0 ends each path in a NUL",
-        "-exec" | "--exec" => "; -0 and xargs -0 run a command on the paths",
-        "-not" | "-prune" | "-E" | "--exclude" => "; -x RULE ignores what RULE names",
-        "-H" | "--hidden" | "-u" | "--no-ignore" => "; nothing is hidden or ignored by default",
-        "-follow" | "--follow" => "; -L follows links",
-        "-o" | "-or" => "; several patterns may be given",
-        _ => "",
+    match name {
+        Some(name) => {
+            if matches!(why, Why::Unknown | Why::Late) {
+                foreign(name, word)
+            } else {
+                ""
+            }
+        }
+        None => {
+            if matches!(why, Why::Command) {
+                habit(word)
+            } else {
+                ""
+            }
+        }
     }
 }
 
@@ -194,5 +192,26 @@ impl Display for Help {
             Some(name) => write!(f, "try globs help {}", name.word()),
             None => f.write_str("try globs help"),
         }
+    }
+}
+
+/// The line about the word `help` among the operands of a command.
+#[derive(Clone, Copy)]
+pub struct HelpWord {
+    pub name: Name,
+}
+
+impl Display for HelpWord {
+    fn fmt<W: fmt::Write>(&self, f: &mut fmt::Formatter<W>) -> fmt::Result {
+        let operand = match self.name {
+            Name::Find | Name::Match | Name::Explain => "PATTERN",
+            Name::Ignore => "FILE",
+            Name::Escape => "TEXT",
+        };
+        let name = self.name.word();
+        write!(
+            f,
+            "`help` was read as a {operand}: globs help {name} writes the help page"
+        )
     }
 }

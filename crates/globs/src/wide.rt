@@ -2,8 +2,8 @@
 ghost use Rattle.std.specs.Prelude.{◌≡◌};
 ghost use Rattle.globs.specs.Visible.{is_among, is_wide, is_within};
 
-/// The first and last of each range of such characters: those of East Asian width `W` or `F` in Unicode 14, together with
-/// unassigned ones between them.
+/// The first and last character of each range of such characters: the characters of East Asian width `W` or `F` in
+/// Unicode 14, and unassigned ones between them.
 const WIDE: [(u32, u32); 81] = [
     (0x1100, 0x115f),
     (0x231a, 0x231b),
@@ -88,7 +88,7 @@ const WIDE: [(u32, u32); 81] = [
     (0x20000, 0x3fffd),
 ];
 
-/// Whether a terminal shows the character in two columns, as `漢`.
+/// Whether a terminal shows the character in two columns, such as `漢`.
 #[tactic(auto, unfolding(crate::specs::Visible::is_wide))]
 pub fn is_wide(c: char) -> bool
     ensures { result ≡ is_wide c }

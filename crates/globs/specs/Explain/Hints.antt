@@ -6,7 +6,8 @@ use Rattle.glob_pattern.specs.Matching.Texts.{Matches}
 use Rattle.glob_pattern.specs.declared.options.MatchOptions.{MatchOptions}
 use Rattle.globs.specs.declared.explain.hints.TheConstants.{CHANGES}
 use Rattle.globs.specs.declared.explain.hints.Change.{Change}
-use Rattle.globs.specs.declared.explain.hints.Change.TheVariants.{EitherCase, AnySeparator, AnyDot, PatternHere, TextHere, NotBelow, PatternEnd, TextEnd, LowerCase}
+use Rattle.globs.specs.declared.explain.hints.Change.TheVariants.{EitherCase, AnySeparator, AnyDot, PatternHere}
+use Rattle.globs.specs.declared.explain.hints.Change.TheVariants.{TextHere, NotBelow, PatternEnd, TextEnd, LowerCase}
 
 -- the pattern is valid, and matches the text
 abbrev pub IsMatch : MatchOptions → (pattern text : List ℕ) → Type 0
@@ -26,16 +27,16 @@ GivesMatch LowerCase o pattern text =
     (o.case_sensitive ≡ false) × IsMatch o (str_to_lowercase pattern) (str_to_lowercase text)
 
 -- the words of the line about a change
-abbrev pub words_of : Change → List ℕ
-words_of EitherCase = codes "it matches with -i"
-words_of AnySeparator = codes "it matches without -s, but find has no such option"
-words_of AnyDot = codes "it matches without -d"
-words_of PatternHere = codes "it matches without ./ before the pattern"
-words_of TextHere = codes "it matches without ./ before the text"
-words_of NotBelow = codes "it matches without /**, which takes only what is below"
-words_of PatternEnd = codes "it matches without white space at the end of the pattern"
-words_of TextEnd = codes "it matches without white space at the end of the text"
-words_of LowerCase = codes "it matches in lower case, but -i only covers ASCII letters"
+abbrev pub change_words : Change → List ℕ
+change_words EitherCase = codes "it matches with -i"
+change_words AnySeparator = codes "it matches without -s, but find has no such option"
+change_words AnyDot = codes "it matches without -d"
+change_words PatternHere = codes "it matches without ./ before the pattern"
+change_words TextHere = codes "it matches without ./ before the text"
+change_words NotBelow = codes "it matches without /**, which takes only what is below"
+change_words PatternEnd = codes "it matches without white space at the end of the pattern"
+change_words TextEnd = codes "it matches without white space at the end of the text"
+change_words LowerCase = codes "it matches in lower case, but -i only covers ASCII letters"
 
 -- after the change one of the patterns matches the text
 abbrev pub GivesAny : Change → MatchOptions → (patterns : List (List ℕ)) → (text : List ℕ) → Type 0
@@ -45,14 +46,14 @@ GivesAny change o patterns text = (pattern : List ℕ) × Contains patterns patt
 abbrev pub GivesNone : Change → MatchOptions → (patterns : List (List ℕ)) → (text : List ℕ) → Type 0
 GivesNone change o patterns text = All (λ pattern. ¬ (GivesMatch change o pattern text)) patterns
 
--- the line of each change that gives a match was added, and no other
+-- exactly the lines of the changes that give a match were added
 abbrev pub AddsHints : MatchOptions → (patterns : List (List ℕ)) → (text : List ℕ) → List Change → (old new : List ℕ)
     → Type 0
 AddsHints o patterns text [] old new = new ≡ old
 AddsHints o patterns text (change ∷ more) old new =
-    (GivesAny change o patterns text × AddsHints o patterns text more (old ++ words_of change ++ 10 ∷ []) new)
+    (GivesAny change o patterns text × AddsHints o patterns text more (old ++ change_words change ++ 10 ∷ []) new)
     ⊎ (GivesNone change o patterns text × AddsHints o patterns text more old new)
 
--- the lines are those of the changes that give a match
+-- the lines of the changes that give a match
 unfoldable pub AreHints : MatchOptions → (patterns : List (List ℕ)) → (text lines : List ℕ) → Type 0
 AreHints o patterns text lines = AddsHints o patterns text CHANGES [] lines

@@ -20,7 +20,7 @@ AreLines o patterns text lines =
     × IsOffer o text offer × IsFindOffer (by_find o) text deeper
     × (lines ≡ verdict_words (verdict_of o patterns text) ++ (10 ∷ (reasons ++ (hints ++ (offer ++ deeper)))))
 
--- Status 0: some pattern matches the text. Status 1: none does. In both cases the lines were written.
+-- Status 0: some pattern matches the text. Status 1: no pattern does. In both cases the lines were written.
 unfoldable pub Explains : MatchOptions → (patterns : List Text) → (text : Text) → (old new : Option (List ℕ))
     → (status : ℕ) → Type 0
 Explains o patterns text old new status =
@@ -28,8 +28,8 @@ Explains o patterns text old new status =
     × (status ≡ 1 → is_taken o patterns text ≡ false)
     × (status ≢ 2 → (lines : Text) × AreLines o patterns text lines × Appends old new lines)
 
--- The pattern is refused before anything is written, or its alternatives are valid patterns, and explain the
--- text.
+-- The pattern is refused before anything is written, or its alternatives are valid patterns, and the text is explained
+-- by them.
 unfoldable pub ExplainsWord : {W : Type 0} → (contents : W → Option (List ℕ)) → MatchOptions → (word text : Text)
     → (old new : W) → (status : ℕ) → Type 0
 ExplainsWord contents o word text old new status =
@@ -37,7 +37,7 @@ ExplainsWord contents o word text old new status =
     ⊎ ((patterns : List Text) × AreAlternatives (chars word) patterns × AreAccepted patterns
     × Explains o patterns text (contents old) (contents new) status)
 
--- The outcome for some operands: a pattern and a text are explained. Any other number of operands is refused.
+-- The outcome for these operands: a pattern and a text are explained; any other number of operands is refused.
 unfoldable pub Answers : {W : Type 0} → (contents : W → Option (List ℕ)) → MatchOptions → (operands : List Text)
     → (old new : W) → (status : ℕ) → Type 0
 Answers contents o [] old new status = IsRefused old new status

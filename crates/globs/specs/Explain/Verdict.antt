@@ -3,6 +3,7 @@ use Rattle.std.specs.Prelude.{◌++◌, Bool, true, List, if◌then◌else◌, c
 use Rattle.glob_pattern.specs.declared.options.MatchOptions.{MatchOptions}
 use Rattle.glob_text.specs.Text.{Text}
 use Rattle.globs.specs.Find.Below.{are_below, is_below}
+use Rattle.globs.specs.Find.Leads.{below_lead, lead_of, led}
 use Rattle.globs.specs.Patterns.{is_any_match, set_of}
 use Rattle.globs.specs.declared.explain.verdict.Finding.{Finding}
 use Rattle.globs.specs.declared.explain.verdict.Finding.TheVariants.{Finds, Misses, Parts, Refuses, Unwritten}
@@ -16,26 +17,27 @@ by_find o = record o { require_literal_separator = true }
 abbrev pub is_taken : MatchOptions → (patterns : List Text) → (text : Text) → Bool
 is_taken o patterns text = is_any_match (set_of o patterns) text
 
--- What `find` does with the text. It refuses a pattern with a component that is empty, `.` or `..`, and writes no path
--- with one. It finds any other text that a pattern matches under the separator rule.
+-- What `find` does with the text. It refuses a pattern in which a component after the lead is empty, `.` or `..`, and
+-- writes no path with such a component. It finds any other text if one of the patterns with its lead matches what
+-- follows the lead, under the separator rule.
 abbrev pub finding_of : MatchOptions → (patterns : List Text) → (text : Text) → Finding
 finding_of o patterns text =
     if not (are_below patterns) then Refuses
     else (if not (is_below text) then Unwritten
-    else (if is_taken (by_find o) patterns text then Finds
-    else (if is_taken o patterns text then Parts else Misses)))
+    else (if is_taken (by_find o) (led (lead_of text) patterns) (below_lead text) then Finds
+    else (if is_taken o (led (lead_of text) patterns) (below_lead text) then Parts else Misses)))
 
 -- what `match` and `find` do with the text
 abbrev pub verdict_of : MatchOptions → (patterns : List Text) → (text : Text) → Verdict
 verdict_of o patterns text = record { is_match = is_taken o patterns text; finding = finding_of o patterns text }
 
--- what the line says of `find`
+-- what the line says about `find`
 abbrev pub finding_words : Finding → Text
 finding_words Finds = codes "yes"
 finding_words Misses = codes "no"
-finding_words Parts = codes "no, ?, * and brackets take no / there"
-finding_words Refuses = codes "refused, a component of the pattern is empty, . or .."
-finding_words Unwritten = codes "no, it writes no path with a component that is empty, . or .."
+finding_words Parts = codes "no, because ?, * and brackets never match / in find"
+finding_words Refuses = codes "refused, because a component of the pattern is empty, . or .."
+finding_words Unwritten = codes "no, because it never writes a path with a component that is empty, . or .."
 
 -- the line without its line feed
 abbrev pub verdict_words : Verdict → Text

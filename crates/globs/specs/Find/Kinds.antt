@@ -9,7 +9,7 @@ use Rattle.globs.specs.declared.find.kinds.PathKind.TheVariants.{Directory, File
 use Rattle.globs.specs.declared.find.kinds.Sieve.{Sieve}
 use Rattle.globs.specs.declared.options.Kinds.{Kinds}
 
--- more has to be known of a path than whether it is a directory
+-- more has to be known about a path than whether it is a directory
 abbrev pub sifts : Kinds → Bool
 sifts kinds = kinds.files || kinds.links
 
@@ -20,15 +20,15 @@ is_of kinds File = kinds.files
 is_of kinds Link = kinds.links
 is_of kinds Other = false
 
--- which of the paths that are found are written, if their kinds are known where they matter
+-- which found paths are written, if their kinds are known where they matter
 abbrev pub keeps_of : Kinds → (known : Option (Text → PathKind)) → Option (Text → Bool)
 keeps_of kinds known =
     if sifts kinds then option_map (λ kind_at path. is_of kinds (kind_at path)) known else Some (λ path. true)
 
--- the same of a sieve
-abbrev pub sieved : {F : Type 0} → (kinds_in : F → (follows : Bool) → (directory : Text) → Option (Text → PathKind))
+-- the same for a sieve
+abbrev pub sieved : {F : Type 0} → (kinds_in : F → (follows : Bool) → (place : Text) → Option (Text → PathKind))
     → Sieve F → Option (Text → Bool)
-sieved kinds_in sieve = keeps_of sieve.kinds (kinds_in sieve.files.now sieve.follows sieve.directory.now)
+sieved kinds_in sieve = keeps_of sieve.kinds (kinds_in sieve.files.now sieve.follows sieve.place.now)
 
 -- a path is written if it is kept, and each directory that cannot be listed is reported
 abbrev pub keeps_gift : (keeps : Text → Bool) → Gift → Bool

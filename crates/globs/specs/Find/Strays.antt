@@ -15,7 +15,7 @@ byte_words byte =
     if is_shown byte then byte ∷ []
     else escape 120 ++ (digits 16 false (byte / 16) ++ digits 16 false (byte % 16))
 
--- the line about a name
-abbrev pub stray_words : (directory : Text) → (name : List ℕ) → Text
-stray_words directory name =
-    (codes "a name in `" ++ (visible directory ++ codes "` is not UTF-8: ")) ++ flat_map byte_words name
+-- the line about a name in a directory, after the lead of the patterns
+abbrev pub stray_words : (lead directory : Text) → (name : List ℕ) → Text
+stray_words lead directory name =
+    (codes "a name in `" ++ (lead ++ (visible directory ++ codes "` is not UTF-8: "))) ++ flat_map byte_words name

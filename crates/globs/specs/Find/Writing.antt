@@ -1,5 +1,6 @@
 -- What is written about the gifts of a search.
-use Rattle.std.specs.Prelude.{◌≡◌, ◌≢◌, ℕ, Bool, true, false, if◌then◌else◌, List, [], ◌∷◌, Option, Result, Ok, Err, filter_map, map, string_bytes}
+use Rattle.std.specs.Prelude.{◌≡◌, ◌≢◌, ℕ, Bool, true, false, if◌then◌else◌, List, [], ◌∷◌, ◌++◌, Option, Result, Ok}
+use Rattle.std.specs.Prelude.{Err, filter_map, map, string_bytes}
 use Rattle.std.specs.Io.KnownBytes.{Appends}
 use Rattle.glob_console.specs.FoundPaths.{has_any}
 use Rattle.glob_lines.specs.Lines.{AppendsFront, ended_record, with_ends}
@@ -12,9 +13,9 @@ use Rattle.glob_search.specs.declared.found.Found.{Found as FoundPath}
 use Rattle.glob_text.specs.Text.{Text}
 use Rattle.globs.specs.declared.find.searching.Findings.{Findings}
 
--- the paths that are found
-abbrev pub found_paths : List Gift → List Text
-found_paths gifts = map path_of (filter_map found_names gifts)
+-- the paths that are found, after the lead of their patterns
+abbrev pub found_paths : (lead : Text) → List Gift → List Text
+found_paths lead gifts = map (λ names. lead ++ path_of names) (filter_map found_names gifts)
 
 -- a directory cannot be listed
 abbrev pub has_unread : List Gift → Bool
@@ -24,24 +25,25 @@ has_unread (Unread names kind ∷ gifts) = true
 
 -- the status: 2 if a directory cannot be listed, else 0 if there is a path, else 1
 abbrev pub search_status : List Gift → ℕ
-search_status gifts = if has_unread gifts then 2 else (if has_any (found_paths gifts) then 0 else 1)
+search_status gifts = if has_unread gifts then 2 else (if has_any (found_paths [] gifts) then 0 else 1)
 
 -- With a status other than 2, exactly the found paths were written, a record each, in order, and the status says
--- whether there is one. With the status 2, the first bytes of these were written, perhaps all.
-unfoldable pub WritesGifts : (end : ℕ) → List Gift → (old new : Option (List ℕ)) → (status : ℕ) → Type 0
-WritesGifts end gifts old new status =
-    (status ≢ 2 → Appends old new (with_ends end (found_paths gifts)) × (status ≡ search_status gifts))
-    × (status ≡ 2 → AppendsFront old new (with_ends end (found_paths gifts)))
+-- whether there is a path. With the status 2, the first bytes of these records were written, perhaps all.
+unfoldable pub WritesGifts : (lead : Text) → (end : ℕ) → List Gift → (old new : Option (List ℕ)) → (status : ℕ) → Type 0
+WritesGifts lead end gifts old new status =
+    (status ≢ 2 → Appends old new (with_ends end (found_paths lead gifts)) × (status ≡ search_status gifts))
+    × (status ≡ 2 → AppendsFront old new (with_ends end (found_paths lead gifts)))
 
--- the status of what was found
+-- the status of the findings
 abbrev pub status_of : Findings → ℕ
 status_of findings = if findings.has_fault then 2 else (if findings.has_path then 0 else 1)
 
--- the record of what a search gives; a fault has none, nor has a path that is not kept
-abbrev pub item_record : {A : Type 0} → (keeps : Text → Bool) → (end : ℕ) → Result (FoundPath A) (SearchFault A) → List ℕ
-item_record keeps end (Ok found) =
-    if keeps (string_bytes found.path) then ended_record end (string_bytes found.path) else []
-item_record keeps end (Err e) = []
+-- the record of what a search gives; faults, and paths that are not kept, have no record
+abbrev pub item_record : {A : Type 0} → (keeps : Text → Bool) → (lead : Text) → (end : ℕ)
+    → Result (FoundPath A) (SearchFault A) → List ℕ
+item_record keeps lead end (Ok found) =
+    if keeps (string_bytes found.path) then ended_record end (lead ++ string_bytes found.path) else []
+item_record keeps lead end (Err e) = []
 
 -- the findings with one more item
 abbrev pub noting : {A : Type 0} → (keeps : Text → Bool) → Findings → Result (FoundPath A) (SearchFault A) → Findings

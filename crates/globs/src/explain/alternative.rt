@@ -11,8 +11,8 @@ use glob_captures::{CapturesError, MOST_STEPS, Piece, captures, reach, tokens};
 use glob_pattern::{MatchOptions, Pattern, PatternRefusal};
 use std::alloc::{AllocError, Allocator};
 
-/// The pattern that is explained: the first that matches the text or, if none does, the first of those whose match gets
-/// farthest. Without patterns it is empty.
+/// The pattern to explain: the first that matches the text or, if none does, the first of the patterns whose match gets
+/// farthest. It is empty if there are no patterns.
 ///
 /// For `*.c` and `a.c` or `b.c`, and the text `a.h`, it is `*.c`.
 pub fn nearest<'a, A: Allocator + Copy>(

@@ -1,11 +1,12 @@
 //! What to write for `find`, whose wildcards take no `/`.
-ghost use Rattle.std.specs.Prelude.{IfOk, IfSome, chars, string_bytes};
+ghost use Rattle.std.specs.Prelude.{◌≡◌, ◌++◌, IfOk, IfSome, chars, codes, string_bytes};
 ghost use Rattle.glob_pattern.specs.Matching.Texts.{Matches};
 ghost use Rattle.globs.specs.Explain.Offers.{IsFindOffer};
 ghost use Rattle.globs.specs.Explain.Verdict.{by_find};
 
 use crate::explain::instead::is_match;
 use crate::explain::verdict::Finding;
+use crate::find::leads::split_lead;
 use crate::visible::is_seen;
 use glob_pattern::MatchOptions;
 use std::alloc::{AllocError, Allocator};
@@ -13,8 +14,8 @@ use std::alloc::{AllocError, Allocator};
 /// In front of how many components `**` is tried.
 const MOST_PLACES: usize = 16;
 
-/// A line with a pattern by which `find` finds the text, if it does not by this one. The line is empty if nothing
-/// simple works.
+/// A line with a pattern that lets `find` find the text, if this pattern does not; both have the same lead. The line is
+/// empty if nothing simple works.
 ///
 /// For `src/*.rs` and `src/a/b.rs` it is `"for find write: src/**/*.rs\n"`.
 #[tactic(auto, unfolding(crate::specs::Explain::Offers::IsFindOffer))]
@@ -29,17 +30,27 @@ pub fn find_line<A: Allocator + Copy>(
         IsFindOffer (by_find options) text.now (string_bytes line)) }
 {
     let is_missed = matches!(finding, Finding::Misses | Finding::Parts);
-    if !is_missed || !is_seen(pattern) {
+    let (front, rest) = split_lead(pattern);
+    let (lead, below) = split_lead(text);
+    if !is_missed || !is_seen(pattern) || front != lead {
         return Ok(String::new(alloc));
     }
     let options = MatchOptions {
         require_literal_separator: true,
         ..options
     };
-    match deeper(alloc, pattern, text, options)? {
-        Some(deeper) => format!(in alloc; "for find write: {deeper}\n"),
+    match deeper(alloc, rest, below, options)? {
+        Some(deeper) => offer(alloc, lead, deeper.as_str()),
         None => Ok(String::new(alloc)),
     }
+}
+
+/// The line that offers a pattern with a lead.
+fn offer<A: Allocator + Copy>(alloc: A, lead: &str, pattern: &str) -> Result<String<A>, AllocError>
+    ensures { IfOk result (λ line. string_bytes line
+        ≡ codes "for find write: " ++ (lead.now ++ (pattern.now ++ codes "\n"))) }
+{
+    format!(in alloc; "for find write: {lead}{pattern}\n")
 }
 
 /// The pattern with `**` as one more component, at the first place where it then matches the text.

@@ -4,6 +4,7 @@ ghost use Rattle.globs.specs.Explain.Hints.{AreHints};
 ghost use Rattle.globs.specs.Explain.Offers.{IsFindOffer, IsOffer};
 ghost use Rattle.globs.specs.Explain.Outcomes.{AreLines};
 ghost use Rattle.globs.specs.Explain.Verdict.{by_find, is_taken, verdict_of};
+ghost use Rattle.globs.specs.Find.Leads.{lead_of, led};
 ghost use Rattle.globs.specs.Patterns.{set_of};
 
 use crate::explain::alternative::{add_alternative, nearest};
@@ -11,7 +12,9 @@ use crate::explain::deeper::find_line;
 use crate::explain::foreign::native_forms;
 use crate::explain::hints::hint_lines;
 use crate::explain::offers::offer_line;
+use crate::explain::swapped::add_swapped;
 use crate::explain::verdict::{Finding, Verdict};
+use crate::find::leads::split_lead;
 use crate::patterns::is_any_match;
 use glob_captures::CapturesError;
 use glob_pattern::MatchOptions;
@@ -29,11 +32,13 @@ pub struct Question<'a> {
     pub text: &'a str,
 }
 
-/// The patterns with the options of `match`, and with those of `find`.
+/// The patterns with the options of `match`; and the rests of the patterns with the lead of the text, with the options
+/// of `find` and with the options of `match`.
 #[derive(Drop)]
 pub struct Sets<A: Allocator> {
     pub matching: PatternSet<A>,
     pub finding: PatternSet<A>,
+    pub parting: PatternSet<A>,
 }
 
 /// Whether a pattern matches a text, and why.
@@ -62,7 +67,9 @@ pub fn explain<A: Allocator + Copy>(
     requires matching { sets.now.matching
         ≡ set_of question.options (map (λ p. p.now) question.patterns.now) }
     requires finding { sets.now.finding ≡ set_of (by_find question.options)
-        (map (λ p. p.now) question.patterns.now) }
+        (led (lead_of question.text.now) (map (λ p. p.now) question.patterns.now)) }
+    requires parting { sets.now.parting ≡ set_of question.options
+        (led (lead_of question.text.now) (map (λ p. p.now) question.patterns.now)) }
     ensures answer { IfOk result (λ explanation. explanation.is_match
         ≡ is_taken question.entry.options (map (λ p. p.now) question.entry.patterns.now)
         question.entry.text.now) }
@@ -71,10 +78,9 @@ pub fn explain<A: Allocator + Copy>(
         (string_bytes explanation.lines)) }
 {
     let verdict = verdict_of(sets, question)?;
-    let mut reasons = String::new(alloc);
     let pattern = nearest(alloc, question)?;
-    add_alternative(alloc, &mut reasons, pattern, question)?;
     let is_match = verdict.is_match;
+    let reasons = reason_lines(alloc, is_match, pattern, question)?;
     let hints = hints_unless(alloc, is_match, question)?;
     let offer = offer_unless(alloc, is_match, pattern, question)?;
     let deeper = find_line(
@@ -90,6 +96,21 @@ pub fn explain<A: Allocator + Copy>(
     })
 }
 
+/// How the pattern matches the text, or does not, and whether the two are swapped.
+fn reason_lines<A: Allocator + Copy>(
+    alloc: A,
+    is_match: bool,
+    pattern: &str,
+    question: Question<'_>,
+) -> Result<String<A>, CapturesError> {
+    let mut lines = String::new(alloc);
+    add_alternative(alloc, &mut lines, pattern, question)?;
+    if !is_match {
+        add_swapped(alloc, &mut lines, question)?;
+    }
+    Ok(lines)
+}
+
 /// What `match` and `find` do with the text.
 fn verdict_of<A: Allocator + Copy>(
     sets: &Sets<A>,
@@ -98,16 +119,20 @@ fn verdict_of<A: Allocator + Copy>(
     requires matching { sets.now.matching
         ≡ set_of question.options (map (λ p. p.now) question.patterns.now) }
     requires finding { sets.now.finding ≡ set_of (by_find question.options)
-        (map (λ p. p.now) question.patterns.now) }
+        (led (lead_of question.text.now) (map (λ p. p.now) question.patterns.now)) }
+    requires parting { sets.now.parting ≡ set_of question.options
+        (led (lead_of question.text.now) (map (λ p. p.now) question.patterns.now)) }
     ensures { IfOk result (λ verdict. verdict ≡ verdict_of question.entry.options
         (map (λ p. p.now) question.entry.patterns.now) question.entry.text.now) }
 {
     let Question { patterns, text, .. } = question;
     let is_match = is_any_match(&sets.matching, text)?;
-    let is_found = is_any_match(&sets.finding, text)?;
+    let (_, below) = split_lead(text);
+    let is_found = is_any_match(&sets.finding, below)?;
+    let is_parted = is_any_match(&sets.parting, below)?;
     Ok(Verdict {
         is_match,
-        finding: Finding::new(patterns, text, is_match, is_found),
+        finding: Finding::new(patterns, text, is_parted, is_found),
     })
 }
 

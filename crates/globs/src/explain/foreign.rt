@@ -29,7 +29,7 @@ pub fn native_forms<A: Allocator + Copy>(
     Ok(forms)
 }
 
-/// The pattern that matches what the pattern matches in a shell. `None` if that is not certain.
+/// The pattern that matches here what this pattern matches in a shell; `None` if that is not certain.
 fn shell_form<A: Allocator>(alloc: A, pattern: &str) -> Result<Option<String<A>>, AllocError> {
     let mut made = String::new(alloc);
     let mut rest = pattern;
@@ -43,7 +43,7 @@ fn shell_form<A: Allocator>(alloc: A, pattern: &str) -> Result<Option<String<A>>
     Ok(Some(made))
 }
 
-/// Adds the translation of the first part of a text, and returns what follows that part. `None` if its meaning is not
+/// Adds the translation of the first part of a text, and returns what follows this part; `None` if its meaning is not
 /// certain.
 fn add_native<'a, A: Allocator>(
     made: &mut String<A>,

@@ -1,6 +1,6 @@
 //! Which single changes give a match. Each one reported was tried.
 ghost use Rattle.std.specs.Prelude.{◌≡◌, ◌↔◌, ◌++◌, ◌≢◌, ◌∷◌, IfOk, IsTrue, List, ℕ, MatchOption, codes, false, map, string_bytes, true};
-ghost use Rattle.globs.specs.Explain.Hints.{AreHints, GivesAny, GivesMatch, GivesNone, words_of};
+ghost use Rattle.globs.specs.Explain.Hints.{AreHints, GivesAny, GivesMatch, GivesNone, change_words};
 ghost use Rattle.globs.specs.declared.explain.hints.Change.TheVariants.{LowerCase};
 
 use crate::explain::instead::is_match;
@@ -14,7 +14,7 @@ pub enum Change {
     EitherCase,
     /// Wildcards and brackets match a `/`.
     AnySeparator,
-    /// They match a leading `.`.
+    /// Wildcards and brackets match a leading `.`.
     AnyDot,
     /// The pattern without the `./` at its start.
     PatternHere,
@@ -43,10 +43,10 @@ const CHANGES: [Change; 9] = [
     Change::LowerCase,
 ];
 
-/// A line for each change that makes one of the patterns match the text, and for no other change. So
-/// `it matches with -i` is there exactly if one of them matches with `-i`. The error is an allocation failure.
+/// A line for exactly the changes that make one of the patterns match the text: `it matches with -i` is there exactly
+/// if a pattern matches with `-i`. The error is an allocation failure.
 ///
-/// For `*.RS` and `a.rs` it is that line; for `./a` and `a`, `it matches without ./ before the pattern`.
+/// For `*.RS` and `a.rs` it is this line; for `./a` and `a` it is `it matches without ./ before the pattern`.
 pub fn hint_lines<A: Allocator + Copy>(
     alloc: A,
     patterns: &[&str],
@@ -69,7 +69,7 @@ pub fn hint_lines<A: Allocator + Copy>(
 impl Change {
     /// The line for this change, without its line feed.
     fn words(self) -> &'static str
-        ensures { result.now ≡ words_of self }
+        ensures { result.now ≡ change_words self }
     {
         match self {
             Change::EitherCase => "it matches with -i",

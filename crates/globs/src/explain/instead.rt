@@ -50,8 +50,8 @@ pub fn is_accepted<A: Allocator + Copy>(alloc: A, text: &str) -> Result<bool, Al
     }
 }
 
-/// The pattern with each run of two or more `*` made a component of its own, and each unclosed `[` put in a bracket.
-/// What brackets list is unchanged. `is_kept` says that a `*` matches no `/`.
+/// The pattern with each run of two or more `*` turned into a component of its own, and each unclosed `[` put in a
+/// bracket. The contents of brackets stay. `is_kept` says that a `*` matches no `/`.
 fn with_plain_forms<A: Allocator>(
     alloc: A,
     pattern: &str,

@@ -1,4 +1,4 @@
-//! What is easily missed in a pattern and a text that it does not match: syntax of other tools that means nothing here,
+//! What is easily missed in a pattern and a text that do not match: syntax of other tools that means nothing here,
 //! brackets that list nothing, and white space at the end.
 use crate::explain::instead::is_match;
 use crate::explain::rows::{add_row, part_of};
@@ -7,20 +7,23 @@ use glob_pattern::{MatchOptions, Pattern};
 use std::alloc::{AllocError, Allocator};
 
 /// What a parenthesis means here.
-const GROUPLESS: &str = "opens a group in bash. ( is a character here";
+const GROUPLESS: &str = "opens a group in bash. Here ( is an ordinary character";
 
 /// Syntax of shells and other tools, and what each means here.
 static FORMS: &[(&str, &str)] = &[
     (
         "|",
-        "is a character here. find and match take several patterns",
+        "is an ordinary character here. find and match accept several patterns",
     ),
     (
         "\\",
-        "is a character here, and escapes nothing: [*] is a literal *",
+        "is an ordinary character here, and escapes nothing: write [*] for a literal *",
     ),
-    ("[^", "lists a ^ here: [!a] is a character that is not a"),
-    ("[[:", "names no class here: [0-9] is a digit"),
+    (
+        "[^",
+        "lists a ^ here: write [!a] for any character except a",
+    ),
+    ("[[:", "is not a class here: write [0-9] for a digit"),
     ("+(", GROUPLESS),
     ("@(", GROUPLESS),
     ("*(", GROUPLESS),
@@ -32,11 +35,11 @@ static FORMS: &[(&str, &str)] = &[
 static STARTS: &[(&str, &str)] = &[
     (
         "~/",
-        "is no home directory here. A shell expands it where it is not quoted",
+        "is not the home directory here. A shell expands it if it is not quoted",
     ),
     (
         "!",
-        "is a character here, and negates nothing: match has -v, find -x",
+        "is an ordinary character here, and negates nothing: use match -v or find -x",
     ),
 ];
 
@@ -48,8 +51,8 @@ static BLANKS: &[(char, &str)] = &[
     ('\n', "a line feed"),
 ];
 
-/// Adds a line for each piece of another tool's syntax in the pattern, whose tokens are in `written`. It is looked for
-/// only where a token begins, so not among the characters that a bracket lists.
+/// Adds a line for each piece of another tool's syntax in the pattern, whose tokens are in `written`. It looks only
+/// where a token begins, so not among the characters that a bracket lists.
 ///
 /// For `!a|b` there is a line for `!` and one for `|`.
 pub fn add_forms<A: Allocator>(
@@ -84,14 +87,14 @@ pub fn add_vain_brackets<A: Allocator + Copy>(
             add_row(
                 lines,
                 written,
-                "lists no character: its range goes backwards",
+                "matches no character: its range goes backwards",
             )?;
         }
     }
     Ok(())
 }
 
-/// Whether a bracket lists no character. If it lists any, it lists one of those that are written in it.
+/// Whether a bracket lists no character. If it lists any, it lists one of the characters written in it.
 fn lists_none<A: Allocator + Copy>(
     alloc: A,
     bracket: &str,
@@ -113,7 +116,7 @@ fn lists_none<A: Allocator + Copy>(
 
 /// The first piece of such syntax in a pattern whose braces are expanded, and what it means here.
 ///
-/// For `!a|b` it is `!`, and that it negates nothing.
+/// For `!a|b` it is `!`, which negates nothing here.
 pub fn first_form<A: Allocator + Copy>(
     alloc: A,
     pattern: &str,

@@ -9,8 +9,8 @@ use crate::visible::is_seen;
 use glob_pattern::MatchOptions;
 use std::alloc::{AllocError, Allocator};
 
-/// A line with the first of the patterns that matches the text or, if none does, the first valid one, and then it says
-/// so. It is empty if none is valid. A pattern with control characters is not offered.
+/// A line with the first of the patterns that matches the text. If none does, it has the first valid pattern, and says
+/// so. It is empty if no pattern is valid. Patterns with control characters are not offered.
 ///
 /// For `a*/**` and `a*`, and the text `ab`, it is `"write instead: a*\n"`.
 #[tactic(auto, unfolding(crate::specs::Explain::Offers::IsOffer))]

@@ -18,19 +18,19 @@ use wanted::{add_want, grows, run_end};
 struct Stop<'a> {
     /// The text of the pattern.
     pattern: &'a str,
-    /// All its tokens.
+    /// All tokens of the pattern.
     tokens: &'a [Written],
     /// The indices of the tokens that wait there.
     waiting: &'a [usize],
-    /// The text up to there.
+    /// The text up to where the match stops.
     before: &'a str,
-    /// What follows.
+    /// The rest of the text.
     rest: &'a str,
     options: MatchOptions,
 }
 
 /// The text with a caret where the match stops, and below it what the pattern wants there and what is easily missed.
-/// The errors are those of [`reach`].
+/// Errors are as for [`reach`].
 pub fn stop_lines<A: Allocator + Copy>(
     alloc: A,
     pattern: &Pattern<A>,
@@ -91,8 +91,8 @@ fn add_reason<A: Allocator + Copy>(
     }
 }
 
-/// The tokens after the last `*` or `**`, as written, if the match got through the whole text and waits for the first
-/// of them, and the text does not end in what they match. For `*.rs` and `a.c` they are `.rs`.
+/// The tokens after the last `*` or `**`, as written: if the match got through the whole text and waits for the first
+/// of them, but the text does not end in what they match. For `*.rs` and `a.c` they are `.rs`.
 fn missing_ending<'a, A: Allocator + Copy>(
     alloc: A,
     stop: &Stop<'a>,
@@ -140,7 +140,7 @@ fn ends_in<A: Allocator + Copy>(
 }
 
 /// Adds a line for each waiting token: the token as written, a tab, and what it wants. Adjacent characters share a
-/// line. At the end of the text, a `*` or `**` is left out if a token of another kind waits.
+/// line. At the end of the text, `*` and `**` are left out if a token of another kind waits.
 fn add_waiting<A: Allocator>(lines: &mut String<A>, stop: &Stop<'_>) -> Result<(), AllocError> {
     let at_end = stop.rest.is_empty() && waits_for_one(stop);
     for number in stop.waiting {

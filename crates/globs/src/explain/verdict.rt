@@ -14,11 +14,11 @@ pub enum Finding {
     Finds,
     /// No pattern matches the text.
     Misses,
-    /// A pattern matches the text only if wildcards match a `/`.
+    /// A pattern matches the text, but only if wildcards match a `/`.
     Parts,
-    /// A pattern has a component that is empty, `.` or `..`.
+    /// After its lead, a pattern has a component that is empty, `.` or `..`.
     Refuses,
-    /// The text has such a component, so no path has this text.
+    /// The text has such a component after its lead, so no path has this text.
     Unwritten,
 }
 
@@ -30,14 +30,14 @@ pub struct Verdict {
 }
 
 impl Finding {
-    /// What `find` does with the text. `is_match` says whether a pattern matches it under the options, and `is_found`
-    /// whether one does under the separator rule as well.
+    /// What `find` does with the text. `is_parted` says whether a pattern with the text's lead matches what follows the
+    /// lead under the options, and `is_found` whether a pattern does so under the separator rule, too.
     ///
     /// For `src/*.rs` and `src/a/b.rs` it is [`Parts`](Finding::Parts).
-    pub fn new(patterns: &[&str], text: &str, is_match: bool, is_found: bool) -> Self
+    pub fn new(patterns: &[&str], text: &str, is_parted: bool, is_found: bool) -> Self
         ensures { result ≡ (if not (are_below (map (λ p. p.now) patterns.now)) then Refuses
             else (if not (is_below text.now) then Unwritten
-            else (if is_found then Finds else (if is_match then Parts else Misses)))) }
+            else (if is_found then Finds else (if is_parted then Parts else Misses)))) }
     {
         if !are_below(patterns) {
             Finding::Refuses
@@ -45,23 +45,24 @@ impl Finding {
             Finding::Unwritten
         } else if is_found {
             Finding::Finds
-        } else if is_match {
+        } else if is_parted {
             Finding::Parts
         } else {
             Finding::Misses
         }
     }
 
-    /// What the line says of `find`.
+    /// What the line says about `find`.
     fn words(self) -> &'static str
         ensures { result.now ≡ finding_words self }
     {
         match self {
             Finding::Finds => "yes",
             Finding::Misses => "no",
-            Finding::Parts => "no, ?, * and brackets take no / there",
-            Finding::Refuses => "refused, a component of the pattern is empty, . or ..",
-            Finding::Unwritten => "no, it writes no path with a component that is empty, . or ..",
+            Finding::Parts => "no, because ?, * and brackets never match / in find",
+            Finding::Refuses => "refused, because a component of the pattern is empty, . or ..",
+            Finding::Unwritten =>
+                "no, because it never writes a path with a component that is empty, . or ..",
         }
     }
 }

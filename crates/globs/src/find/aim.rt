@@ -1,69 +1,43 @@
 //! What a search is asked for.
-ghost use Rattle.std.specs.Prelude.{◌≡◌, ◌++◌, [], List, Option, Some, false, IfOk, OnOk, map, codes, option_map, string_bytes};
-ghost use Rattle.glob_rules.specs.Lists.{rules_of};
+ghost use Rattle.std.specs.Prelude.{◌≡◌, ◌&&◌, ◌++◌, Option, Some, false, IfOk, OnOk, map, string_bytes};
+ghost use Rattle.glob_search.specs.Aims.{outer_of};
 ghost use Rattle.glob_text.specs.Text.{Text};
-ghost use Rattle.globs.specs.Find.Aiming.{IgnoresByList, IsAsked, depth_of, first_lists, git_lists, git_names, heeds, is_ruled, last_lists, lists_of, rule_files, wanted_of};
+ghost use Rattle.globs.specs.Find.Above.{is_start_ignored};
+ghost use Rattle.globs.specs.Find.Aiming.{IgnoresByList, IsAsked, depth_at, depth_of, first_lists, git_lists, git_names, heeds, is_ruled, last_lists, rule_files, wanted_of};
 
-use crate::find::fault::report_refusals;
+use crate::above::{Above, GITIGNORE, rules_above};
 use crate::find::kinds::sifts;
-use crate::ignoring::RulesFault;
 use crate::options::{Kinds, Options};
 use glob_console::ErrorLines;
 use glob_rules::IgnoreList;
 use glob_search::{RuleTexts, Settings, Wanted};
-use glob_tree::ListError;
 use std::alloc::{AllocError, Allocator};
 use std::io::Write;
-
-/// The path of git's rules besides those in each directory, from the top of a repository on.
-const EXCLUDE: &str = ".git/info/exclude";
-
-/// The name of git's ignore files.
-const GITIGNORE: &str = ".gitignore";
 
 /// The rule that ignores git's own directory.
 const GIT: &str = ".git";
 
-/// The rules that give way to those of ignore files, and whether some of them could not be read or are refused.
-#[derive(Drop)]
-pub struct LastRules<A: Allocator> {
-    pub lists: Vec<IgnoreList<A>, A>,
-    pub has_fault: bool,
-}
-
-impl<A: Allocator> LastRules<A> {
-    /// No rules.
-    fn none(alloc: A, has_fault: bool) -> Self
-        ensures lists { result.lists.items ≡ [] }
-        ensures fault { result.has_fault ≡ has_fault }
-    {
-        LastRules {
-            lists: Vec::new(alloc),
-            has_fault,
-        }
-    }
-}
-
-/// The settings of a search by the options. `list` has the rules of the command line, and `last` those that give way to
-/// the rules of ignore files.
+/// The settings of a search for these options. `list` has the rules of the command line, and `last` the rules that
+/// ignore files override, which may ignore the start.
 pub fn settings_of<A: Allocator + Copy>(
     alloc: A,
     options: &Options<'_, A>,
     list: IgnoreList<A>,
-    last: Vec<IgnoreList<A>, A>,
+    last: Above<A>,
 ) -> Result<Settings<A>, AllocError>
-    ensures { IfOk result (IsAsked options.now list last.items) }
+    ensures { IfOk result
+        (IsAsked options.now list (outer_of last.lists.items) last.is_ignored) }
 {
     let settings = options.settings;
     let first = first_lists(alloc, settings.is_git, is_ruled(options), list)?;
     Ok(Settings {
         options: settings.options,
-        depth: depth_of(settings.depth),
+        depth: depth_at(last.is_ignored, settings.depth),
         wanted: wanted_of(settings.kinds),
         kinds: sifts(settings.kinds),
         limit: settings.limit,
         first,
-        last,
+        last: last.lists,
         rule_files: rule_files(alloc, options)?,
     })
 }
@@ -76,7 +50,14 @@ pub fn heeds_files<A: Allocator>(options: &Options<'_, A>) -> bool
     options.settings.is_git || !options.rule_files.is_empty()
 }
 
-/// The most names that a path may have.
+/// How many names a path may have; 0 if the start is ignored.
+fn depth_at(is_ignored: bool, depth: Option<u64>) -> usize
+    ensures { result ≡ depth_at is_ignored depth }
+{
+    if is_ignored { 0 } else { depth_of(depth) }
+}
+
+/// How many names a path may have if the start is not ignored.
 fn depth_of(depth: Option<u64>) -> usize
     ensures { result ≡ depth_of depth }
 {
@@ -86,7 +67,7 @@ fn depth_of(depth: Option<u64>) -> usize
     }
 }
 
-/// Which paths are found. Those that are no directories may still be sifted by their kinds.
+/// Which paths are found. Paths other than directories may then be sifted by their kinds.
 fn wanted_of(kinds: Kinds) -> Wanted
     ensures { result ≡ wanted_of kinds }
 {
@@ -109,8 +90,8 @@ fn rule_files<A: Allocator + Copy>(
     Ok(names)
 }
 
-/// The lists that take precedence over those of ignore files, where that of the command line is asked first. It is left
-/// out if it has no rules, so that no kinds are asked for on its account.
+/// The lists that override ignore files. The list of the command line is asked first; it is left out if it has no
+/// rules, so that it does not cause any lookup of kinds.
 fn first_lists<A: Allocator + Copy>(
     alloc: A,
     is_git: bool,
@@ -161,7 +142,7 @@ fn add_names<A: Allocator + Copy>(
     Ok(())
 }
 
-/// The lists that take precedence over all others. With `--git`, they ignore each `.git`.
+/// The lists that override all others. With `--git`, they ignore each `.git`.
 fn git_lists<A: Allocator + Copy>(
     alloc: A,
     is_git: bool,
@@ -178,52 +159,28 @@ fn git_lists<A: Allocator + Copy>(
     Ok(lists)
 }
 
-/// The rules that those of ignore files override; no rules if they cannot be read. Lines of `errors` say so,
-/// and which of their lines are refused.
+/// The rules that ignore files override: with `--git`, the rules of the start's repository; `place` has the names from
+/// its top down to the start. Lines on `errors` say what cannot be read or is refused.
 pub fn last_rules<A: Allocator + Copy, X: RuleTexts<Alloc = A>, E: Write>(
     alloc: A,
     is_git: bool,
+    lead: &str,
+    place: &[&str],
     texts: &mut X,
     errors: &mut ErrorLines<'_, A, E>,
-) -> Result<LastRules<A>, AllocError>
+) -> Result<Above<A>, AllocError>
     ensures kept { X.texts texts.new ≡ X.texts texts.old }
     ensures lists { (known : Text → Option Text) → X.texts texts.old ≡ Some known
-        → IfOk result (λ last. last.lists.items ≡ last_lists is_git known) }
+        → IfOk result (λ last. outer_of last.lists.items
+        ≡ last_lists is_git (map (λ n. n.now) place.now) known) }
+    ensures ignored { (known : Text → Option Text) → X.texts texts.old ≡ Some known
+        → IfOk result (λ last. last.is_ignored
+        ≡ (is_git && is_start_ignored known (map (λ n. n.now) place.now))) }
     ensures fault { IfOk result (λ last. is_git ≡ false → last.has_fault ≡ false) }
 {
     if is_git {
-        exclude_rules(alloc, texts, errors)
+        rules_above(alloc, lead, place, texts, errors)
     } else {
-        Ok(LastRules::none(alloc, false))
+        Ok(Above::none(alloc))
     }
-}
-
-/// The rules of `.git/info/exclude`, with `--git`, if there are any.
-fn exclude_rules<A: Allocator + Copy, X: RuleTexts<Alloc = A>, E: Write>(
-    alloc: A,
-    texts: &mut X,
-    errors: &mut ErrorLines<'_, A, E>,
-) -> Result<LastRules<A>, AllocError>
-    ensures kept { X.texts texts.new ≡ X.texts texts.old }
-    ensures lists { (known : Text → Option Text) → X.texts texts.old ≡ Some known
-        → IfOk result (λ last. last.lists.items
-        ≡ lists_of (option_map rules_of (known (codes ".git/info/exclude")))) }
-{
-    let text = match texts.text(EXCLUDE) {
-        Ok(Some(text)) => text,
-        Ok(None) => return Ok(LastRules::none(alloc, false)),
-        Err(ListError::Read(error)) => {
-            errors.write(&RulesFault::unread(EXCLUDE, error));
-            return Ok(LastRules::none(alloc, true));
-        }
-        Err(ListError::Memory) => return Err(AllocError),
-    };
-    let (list, refusals) = IgnoreList::lenient(alloc, text.as_str())?;
-    report_refusals(EXCLUDE, refusals.as_slice(), errors);
-    let mut lists = Vec::new(alloc);
-    lists.push(list)?;
-    Ok(LastRules {
-        lists,
-        has_fault: !refusals.is_empty(),
-    })
 }

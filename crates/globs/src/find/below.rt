@@ -1,4 +1,4 @@
-//! Patterns of paths below a directory.
+//! Patterns of paths below the place to which they lead.
 ghost use Rattle.std.specs.Prelude.{◌≡◌, true, OnOk, chars, map};
 ghost use Rattle.std.specs.List.{list_any};
 ghost use Rattle.glob_pattern.specs.Grammar.Units.{IsAccepted};
@@ -6,19 +6,21 @@ ghost use Rattle.glob_set.specs.BraceSets.{AreAccepted};
 ghost use Rattle.glob_text.specs.Pieces.{pieces};
 ghost use Rattle.globs.specs.Find.Below.{are_below, is_below, is_no_name};
 
+use crate::find::leads::split_lead;
 use crate::patterns::PatternFault;
 use glob_pattern::{Pattern, PatternRefusal};
 use std::alloc::Allocator;
 
-/// Whether a pattern leads only to paths below a directory: no component is empty, `.` or `..`.
+/// Whether a pattern leads only to paths below a place: after its lead no component is empty, `.` or `..`.
 #[tactic(auto, unfolding(crate::specs::Find::Below::is_below))]
 pub fn is_below(pattern: &str) -> bool
     ensures { result ≡ is_below pattern.now }
 {
-    !leads_elsewhere(pattern)
+    let (_, below) = split_lead(pattern);
+    !leads_elsewhere(below)
 }
 
-/// Whether each of the patterns does.
+/// Whether each of the patterns leads only below a place.
 pub fn are_below(patterns: &[&str]) -> bool
     ensures { result ≡ are_below (map (λ p. p.now) patterns.now) }
 {
@@ -30,10 +32,11 @@ pub fn are_below(patterns: &[&str]) -> bool
     true
 }
 
-/// Where the first component of a pattern begins that is empty, `.` or `..`, in characters from 0.
+/// The place, in characters from 0, of the first component after a pattern's lead that is empty, `.` or `..`.
 pub fn astray_column(pattern: &str) -> usize {
-    let mut column = 0usize;
-    for piece in pattern.split('/') {
+    let (lead, below) = split_lead(pattern);
+    let mut column = lead.len();
+    for piece in below.split('/') {
         if is_no_name(piece) {
             return column;
         }
@@ -44,8 +47,8 @@ pub fn astray_column(pattern: &str) -> usize {
     column
 }
 
-/// Checks that each pattern is valid, and leads below the directory. The error says what is wrong with the first that
-/// is not or does not, or that an allocation failed.
+/// Checks that each pattern is valid, and leads below a place. The error says what is wrong with the first pattern that
+/// fails, or that an allocation failed.
 pub fn check_patterns<'a, A: Allocator + Copy>(
     alloc: A,
     patterns: &[&'a str],
@@ -59,7 +62,7 @@ pub fn check_patterns<'a, A: Allocator + Copy>(
     Ok(())
 }
 
-/// Checks that a pattern is valid, and leads below the directory.
+/// Checks that a pattern is valid, and leads below a place.
 fn check_pattern<A: Allocator + Copy>(alloc: A, pattern: &str) -> Result<(), PatternFault<'_>>
     ensures below { OnOk result (is_below pattern.now ≡ true) }
     ensures accepted { OnOk result (IsAccepted (chars pattern.now)) }
@@ -74,11 +77,11 @@ fn check_pattern<A: Allocator + Copy>(alloc: A, pattern: &str) -> Result<(), Pat
     }
 }
 
-/// Whether a component of a pattern is empty, `.` or `..`.
-fn leads_elsewhere(pattern: &str) -> bool
-    ensures { result ≡ list_any is_no_name (pieces pattern.now) }
+/// Whether a component of a text is empty, `.` or `..`.
+fn leads_elsewhere(text: &str) -> bool
+    ensures { result ≡ list_any is_no_name (pieces text.now) }
 {
-    pattern.split('/').any(|piece| is_no_name(piece))
+    text.split('/').any(|piece| is_no_name(piece))
 }
 
 /// Whether a component is empty, `.` or `..`.

@@ -1,91 +1,108 @@
 //! The disk of a search.
 ghost use Rattle.std.specs.Prelude.{◌≡◌, if◌then◌else◌, None};
 
+use crate::PREFIX;
+use crate::find::places::{Place, Places};
 use crate::find::strays::StrayLines;
 use crate::ignoring::unmarked;
-use glob_console::FAULT;
+use crate::place::names_above;
+use glob_console::{FAULT, write_line};
 use glob_search::RuleTexts;
-use glob_tree::{Links, ListError, OpenDirectory, PhysicalDisk, System, child};
-use std::alloc::{AllocError, Allocator, Global};
-use std::cell::{Cell, OnceCell};
+use glob_tree::{DirectoryId, Links, ListError, OpenDirectory, PhysicalDisk, System, child};
+use std::alloc::{AllocError, Global};
+use std::cell::Cell;
 use std::collections::BTreeSet;
+use std::fmt::{self, Display};
 use std::fs::{File, Metadata};
-use std::io::{self, ErrorKind, Write};
+use std::io::{self, ErrorKind, Stderr};
 
-/// The rules of the command line as a text, once they are read: the disk reports no path that they ignore.
-pub type SharedRules<A> = OnceCell<String<A>>;
-
-/// The disk from a directory on, in both forms: with symbolic links kept, and with links followed.
+/// The real disk. Clauses know nothing about its content.
 #[derive(Drop)]
-pub struct Disks<'a, T, X, A: Allocator> {
-    /// The form on which a symbolic link to a directory is not one.
-    pub kept: T,
-    /// The form on which it is one.
-    pub followed: T,
-    /// The texts of the files on it.
-    pub texts: X,
-    /// The directory; empty for the current one.
-    pub directory: &'a str,
-    /// Where the rules are put that exclude paths from what is reported.
-    pub rules: &'a SharedRules<A>,
-}
-
-impl<T: Drop, X: Drop, A: Allocator> Disks<'_, T, X, A> {
-    /// One of the two forms, with links followed or kept, and the texts.
-    pub fn chosen(self, follows: bool) -> (T, X)
-        ensures tree { result.0 ≡ (if follows then self.entry.followed else self.entry.kept) }
-        ensures texts { result.1 ≡ self.entry.texts }
-    {
-        let Disks {
-            kept,
-            followed,
-            texts,
-            ..
-        } = self;
-        (if follows { followed } else { kept }, texts)
-    }
-}
-
-/// The real disk from a directory on, which is empty for the current one.
-#[derive(Clone, Copy, Drop)]
-pub struct Start<'a> {
+pub struct Here<'a> {
     pub rt: HostRuntime,
-    pub directory: &'a str,
-    /// Whether names that are not UTF-8 are passed over.
-    pub is_utf8_only: bool,
+    /// Whether a name that is not UTF-8, or a path that cannot be looked up, was reported.
+    pub has_stray: &'a Cell<bool>,
+}
+
+/// The real disk from a place on.
+#[derive(Drop)]
+pub struct Start {
+    rt: HostRuntime,
+    /// The path of the place; empty for the current directory.
+    path: String,
 }
 
 /// The texts of the files on it, without byte order marks.
 #[derive(Drop)]
-pub struct StartTexts<'a> {
-    pub start: Start<'a>,
+pub struct StartTexts {
+    start: Start,
 }
 
-/// The disk from a directory on. Each name that is not UTF-8, ignored or not, is a line of `errors`, unless these are
-/// passed over, and so is each path that cannot be looked up and that the rules of the command line do not ignore. That
-/// there was one is noted. Tests, not clauses, show it.
-pub fn disk_of<'a, E: Write>(
-    start: Start<'a>,
-    links: Links,
-    errors: &'a mut E,
-    has_stray: &'a Cell<bool>,
-    rules: &'a SharedRules<Global>,
-) -> PhysicalDisk<Start<'a>, StrayLines<'a, Global, E>, Global> {
-    let alloc = start.rt.alloc();
-    let strays = StrayLines {
-        alloc,
-        is_utf8_only: start.is_utf8_only,
-        errors,
-        has_any: has_stray,
-        rules,
-        reported: BTreeSet::new(alloc),
-    };
-    PhysicalDisk::with_links(start, strays, alloc, links)
+/// Writes a line on standard error for each name that is not UTF-8, ignored or not, unless such names are skipped, and
+/// for each path that cannot be looked up and that the rules of the command line do not ignore. It notes that there was
+/// one. Tests, not clauses, show this.
+impl<'a> Places for Here<'a> {
+    type Alloc = Global;
+
+    type Tree = PhysicalDisk<Start, StrayLines<'a, Global, Stderr>, Global>;
+
+    type Texts = StartTexts;
+
+    ghost content = { λ here follows place. None };
+
+    ghost texts = { λ here place. None };
+
+    ghost above = { λ here place. None };
+
+    fn tree(&self, place: Place<'_, '_, '_>) -> Result<Self::Tree, AllocError> {
+        let alloc = self.rt.alloc();
+        let strays = StrayLines {
+            alloc,
+            is_utf8_only: place.is_utf8_only,
+            lead: String::from_str(alloc, place.lead)?,
+            errors: self.rt.stderr(),
+            has_any: self.has_stray,
+            rules: String::from_str(alloc, place.rules)?,
+            reported: BTreeSet::new(alloc),
+        };
+        let links = if place.follows {
+            Links::Followed
+        } else {
+            Links::Kept
+        };
+        let start = Start::new(self.rt, place.path)?;
+        Ok(PhysicalDisk::with_links(start, strays, alloc, links))
+    }
+
+    fn rule_texts(&self, place: Place<'_, '_, '_>) -> Result<StartTexts, AllocError> {
+        let start = Start::new(self.rt, place.path)?;
+        Ok(StartTexts { start })
+    }
+
+    fn names_above(&self, place: Place<'_, '_, '_>) -> Result<Vec<String>, AllocError> {
+        match names_above(self.rt, place.path) {
+            Ok(names) => Ok(names),
+            Err(error) if error.kind() == ErrorKind::OutOfMemory => Err(AllocError),
+            Err(error) => {
+                let alloc = self.rt.alloc();
+                self.has_stray.set(true);
+                let line = UnknownPlace { error: &error };
+                write_line(alloc, PREFIX, &line, &mut self.rt.stderr());
+                Ok(Vec::new(alloc))
+            }
+        }
+    }
 }
 
-impl Start<'_> {
+impl Start {
+    /// The disk from a place on.
+    fn new(rt: HostRuntime, path: &str) -> Result<Self, AllocError> {
+        let path = String::from_str(rt.alloc(), path)?;
+        Ok(Start { rt, path })
+    }
+
     /// The text of the file at a path, if there is one.
-    fn read(self, path: &str) -> Result<Option<String>, ListError> {
+    fn read(&self, path: &str) -> Result<Option<String>, ListError> {
         let alloc = self.rt.alloc();
         let path = self.at(path)?;
         let file = match File::open(&self.rt, path.as_str()) {
@@ -99,39 +116,46 @@ impl Start<'_> {
     }
 
     /// A path on it, from the current directory.
-    fn at(self, path: &str) -> Result<String, AllocError> {
-        child(self.rt.alloc(), self.directory, path)
+    fn at(&self, path: &str) -> Result<String, AllocError> {
+        child(self.rt.alloc(), self.path.as_str(), path)
     }
 }
 
-impl System for Start<'_> {
+impl System for Start {
     type Dir = OpenDirectory;
 
     ghost holds = { λ _. None };
 
     fn lstat(&self, path: &str) -> io::Result<Metadata> {
-        if self.directory.is_empty() {
+        if self.path.is_empty() {
             return self.rt.lstat(path);
         }
         self.rt.lstat(self.at(path)?.as_str())
     }
 
     fn stat(&self, path: &str) -> io::Result<Metadata> {
-        if self.directory.is_empty() {
+        if self.path.is_empty() {
             return self.rt.stat(path);
         }
         self.rt.stat(self.at(path)?.as_str())
     }
 
+    fn directory_id(&self, path: &str) -> io::Result<Option<DirectoryId>> {
+        if self.path.is_empty() {
+            return self.rt.directory_id(path);
+        }
+        self.rt.directory_id(self.at(path)?.as_str())
+    }
+
     fn open(&self, path: &str) -> io::Result<OpenDirectory> {
-        if self.directory.is_empty() {
+        if self.path.is_empty() {
             return self.rt.open(path);
         }
         self.rt.open(self.at(path)?.as_str())
     }
 }
 
-impl RuleTexts for StartTexts<'_> {
+impl RuleTexts for StartTexts {
     type Alloc = Global;
 
     ghost texts = { λ _. None };
@@ -141,7 +165,23 @@ impl RuleTexts for StartTexts<'_> {
     }
 }
 
-/// `None` if the error says that there is no file; otherwise the error.
+/// The line about a place whose path in its repository is not known.
+#[derive(Clone, Copy)]
+struct UnknownPlace<'a> {
+    error: &'a io::Error,
+}
+
+impl Display for UnknownPlace<'_> {
+    fn fmt<W: fmt::Write>(&self, f: &mut fmt::Formatter<W>) -> fmt::Result {
+        write!(
+            f,
+            "no rules above the start are read, as its path is not known: {}",
+            self.error
+        )
+    }
+}
+
+/// `None` if the error says that there is no file, and otherwise the error.
 fn missing(error: io::Error) -> Result<Option<String>, ListError> {
     match error.kind() {
         ErrorKind::NotFound | ErrorKind::NotADirectory | ErrorKind::IsADirectory => Ok(None),
@@ -149,7 +189,7 @@ fn missing(error: io::Error) -> Result<Option<String>, ListError> {
     }
 }
 
-/// The exit status of a run: 2 if there was a stray, and otherwise its own.
+/// The exit status of a run: 2 if there was a stray, and otherwise the run's own.
 pub fn last_status(has_stray: bool, status: u8) -> u8
     ensures { result ≡ (if has_stray then 2 else status) }
 {

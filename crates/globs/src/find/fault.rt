@@ -46,14 +46,16 @@ impl FindFault {
         ensures { result ≡ 2 }
     {
         match self {
-            FindFault::Memory => errors.fault("out of memory"),
+            FindFault::Memory => errors.memory_fault(),
             FindFault::Write(error) => errors.write_fault(&error),
         }
     }
 }
 
-/// Writes the lines about what a search could not do. Returns whether the search ends with that.
+/// Writes the lines about what a search for patterns with a lead could not do. Returns whether this ends the search.
 pub fn report_search<A: Allocator + Copy, E: Write>(
+    alloc: A,
+    lead: &str,
     fault: SearchFault<A>,
     errors: &mut ErrorLines<'_, A, E>,
 ) -> bool
@@ -62,27 +64,40 @@ pub fn report_search<A: Allocator + Copy, E: Write>(
     match fault {
         SearchFault::Unread(path, error) => {
             errors.write(&UnsettledLine {
+                lead,
                 path: path.as_str(),
                 error: &error,
             });
             false
         }
         SearchFault::UnreadRules(path, error) => {
+            let path = with_lead(alloc, lead, path);
             errors.write(&RulesFault::unread(path.as_str(), error));
             false
         }
         SearchFault::RefusedRules(path, refusals) => {
+            let path = with_lead(alloc, lead, path);
             report_refusals(path.as_str(), refusals.as_slice(), errors);
             false
         }
         SearchFault::Limit => {
-            errors.write(&"the limit of -n is reached: the output is incomplete");
+            errors.write(
+                &"the limit of -n is reached, which counts units, not paths: the output is incomplete",
+            );
             true
         }
         SearchFault::Memory => {
             errors.write(&"out of memory");
             true
         }
+    }
+}
+
+/// A path after a lead. If memory runs out, it is only the path.
+pub fn with_lead<A: Allocator + Copy>(alloc: A, lead: &str, path: String<A>) -> String<A> {
+    match format!(in alloc; "{lead}{path}") {
+        Ok(led) => led,
+        Err(_) => path,
     }
 }
 

@@ -1,11 +1,11 @@
-//! The texts of ignore files, withheld from a search that has no use for them.
+//! The texts of ignore files, but only for a search that uses them.
 ghost use Rattle.std.specs.Prelude.{◌≡◌};
 
 use glob_search::RuleTexts;
 use glob_tree::ListError;
 use std::alloc::AllocError;
 
-/// The texts of ignore files if it `heeds` them, and otherwise none.
+/// The texts of ignore files if it `heeds` them, and otherwise no texts.
 #[derive(Drop)]
 pub struct Heeded<X> {
     pub texts: X,

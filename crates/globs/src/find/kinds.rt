@@ -4,10 +4,10 @@ ghost use Rattle.glob_text.specs.Text.{Text};
 ghost use Rattle.globs.specs.Find.Kinds.{is_of, keeps_of, sieved, sifts};
 
 use crate::files::DiskFiles;
-use crate::options::{Kinds, Options};
+use crate::find::directories::DirectoryWords;
+use crate::options::{Kinds, Settings};
 use glob_tree::child;
 use std::alloc::{AllocError, Allocator};
-use std::cell::Cell;
 use std::fs::{Files, Metadata};
 use std::io::{self, ErrorKind};
 
@@ -17,22 +17,22 @@ pub enum PathKind {
     Directory,
     /// A regular file.
     File,
-    /// A symbolic link. Where links are followed, only one that leads nowhere.
+    /// A symbolic link; if links are followed, only a link that leads nowhere.
     Link,
     /// Something else, such as a pipe, or nothing.
     Other,
 }
 
-/// What says which kind a path has: a disk.
+/// Something that knows the kinds of paths: a disk.
 pub trait PathKinds {
     ghost use Rattle.globs.specs.declared.find.kinds.PathKind.{PathKind};
 
     /// The kinds of the paths from a directory on, if they are known.
     ghost kinds: { Self → (follows : Bool) → (directory : List ℕ) → Option (List ℕ → PathKind) };
 
-    /// The kind of what is at a path from a directory on, which is the current one if it is empty. Where links are
-    /// followed, it is that of what a link leads to. What cannot be looked up is `Other`: a search that knows kinds has
-    /// reported it.
+    /// The kind of what is at a path from a directory on; an empty directory means the current one. If links are
+    /// followed, it is the kind of what a link leads to. What cannot be looked up is `Other`: a search that knows kinds
+    /// has reported it.
     fn kind<A: Allocator + Copy>(
         &self,
         alloc: A,
@@ -44,7 +44,7 @@ pub trait PathKinds {
             → IfOk result (λ kind. kind ≡ known path.now) };
 }
 
-/// The paths of the disk. Clauses know nothing of their kinds.
+/// The paths of the disk. Clauses know nothing about their kinds.
 impl<R: Files> PathKinds for DiskFiles<R> {
     ghost kinds = { λ files follows directory. None };
 
@@ -67,7 +67,7 @@ impl<R: Files> PathKinds for DiskFiles<R> {
     }
 }
 
-/// The kind of what a system has looked up, or this kind if it could not.
+/// The kind of what a system has looked up, or this kind if the lookup failed.
 fn kind_of(answer: io::Result<Metadata>, absent: PathKind) -> Result<PathKind, AllocError> {
     match answer {
         Ok(found) if found.is_dir() => Ok(PathKind::Directory),
@@ -79,65 +79,64 @@ fn kind_of(answer: io::Result<Metadata>, absent: PathKind) -> Result<PathKind, A
     }
 }
 
-/// What keeps paths of the kinds that are asked for.
+/// Keeps the paths of the kinds that are asked for.
 #[derive(Drop)]
-pub struct Sieve<'f, 'd, 'p, F> {
+pub struct Sieve<'f, 'd, 'w, 'p, 'v, F> {
     pub files: &'f F,
     pub kinds: Kinds,
     pub follows: bool,
-    /// The directory where the search begins.
-    pub directory: &'d str,
-    /// The last of the patterns.
-    last: &'p str,
-    /// Whether it was asked about a path that is not the last of the patterns.
-    has_others: Cell<bool>,
+    /// The place where the search begins.
+    pub place: &'d str,
+    /// The lead of the patterns.
+    lead: &'d str,
+    /// The words that name directories, which note each path.
+    words: &'w DirectoryWords<'p, 'v>,
 }
 
-impl<'f, 'd, 'p, F: PathKinds> Sieve<'f, 'd, 'p, F> {
-    /// A sieve for paths that patterns match, from the directory where a search begins.
-    pub fn new<A: Allocator>(files: &'f F, options: &Options<'d, A>, patterns: &[&'p str]) -> Self
-        ensures { sieved F.kinds result ≡ keeps_of options.now.settings.kinds
-            (F.kinds files.now options.now.settings.follows options.now.directory) }
+impl<'f, 'd, 'w, 'p, 'v, F: PathKinds> Sieve<'f, 'd, 'w, 'p, 'v, F> {
+    /// A sieve for paths that patterns with a lead match, from the place to which it leads.
+    pub fn new(
+        files: &'f F,
+        settings: Settings,
+        place: &'d str,
+        lead: &'d str,
+        words: &'w DirectoryWords<'p, 'v>,
+    ) -> Self
+        ensures { sieved F.kinds result ≡ keeps_of settings.kinds
+            (F.kinds files.now settings.follows place.now) }
     {
         Sieve {
             files,
-            kinds: options.settings.kinds,
-            follows: options.settings.follows,
-            directory: options.directory,
-            last: patterns.last().copied().unwrap_or(""),
-            has_others: Cell::new(false),
+            kinds: settings.kinds,
+            follows: settings.follows,
+            place,
+            lead,
+            words,
         }
     }
 
-    /// Whether a path is of the kinds that are asked for. The error is an allocation failure.
+    /// Whether a path has one of the kinds that are asked for. The error is an allocation failure.
     pub fn keeps<A: Allocator + Copy>(&self, alloc: A, path: &str) -> Result<bool, AllocError>
         ensures { (keeps : Text → Bool) → sieved F.kinds self.now ≡ Some keeps
             → IfOk result (λ yes. yes ≡ keeps path.now) }
     {
-        if path != self.last {
-            self.has_others.set(true);
-        }
+        self.words.note_found(self.lead, path);
         if !sifts(self.kinds) {
             return Ok(true);
         }
-        let kind = self.files.kind(alloc, self.follows, self.directory, path)?;
+        let kind = self.files.kind(alloc, self.follows, self.place, path)?;
         Ok(is_of(self.kinds, kind))
-    }
-
-    /// Whether it was asked about a path that is not the last of the patterns.
-    pub fn has_others(&self) -> bool {
-        self.has_others.get()
     }
 }
 
-/// Whether more has to be known of a path than whether it is a directory.
+/// Whether more has to be known about a path than whether it is a directory.
 pub fn sifts(kinds: Kinds) -> bool
     ensures { result ≡ sifts kinds }
 {
     kinds.files || kinds.links
 }
 
-/// Whether a kind is among these.
+/// Whether a kind is among the kinds that are asked for.
 fn is_of(kinds: Kinds, kind: PathKind) -> bool
     ensures { result ≡ is_of kinds kind }
 {

@@ -1,5 +1,5 @@
 //! Runs a search, and writes a record for each path that it finds.
-ghost use Rattle.std.specs.Prelude.{◌≡◌, ◌≤◌, ◌++◌, Bool, false, true, [], List, Option, Some, IfOk, OnErr, OnOk};
+ghost use Rattle.std.specs.Prelude.{◌≡◌, ◌≤◌, ◌++◌, ◌==◌, ◌||◌, Bool, false, true, [], List, Option, Some, IfOk, OnErr, OnOk};
 ghost use Rattle.glob_console.specs.Private.Writing.{Queues};
 ghost use Rattle.glob_lines.specs.Lines.{AppendsFront, with_ends};
 ghost use Rattle.glob_search.specs.Aims.{AreTextsOf};
@@ -21,7 +21,7 @@ use glob_tree::Tree;
 use std::alloc::Allocator;
 use std::io::Write;
 
-/// What a search has given: whether there were paths, and whether there was anything that it could not do.
+/// What a search has given: whether there were paths, and whether there was something that it could not do.
 #[derive(Clone, Copy)]
 pub struct Findings {
     pub has_path: bool,
@@ -30,7 +30,7 @@ pub struct Findings {
 
 impl Findings {
     /// Nothing yet.
-    fn new() -> Self
+    pub fn new() -> Self
         ensures path { result.has_path ≡ false }
         ensures fault { result.has_fault ≡ false }
     {
@@ -40,8 +40,17 @@ impl Findings {
         }
     }
 
-    /// The exit status: 2 if there was anything that the search could not do, else 0 if it found a path, else 1.
-    fn status(self) -> u8
+    /// Notes the status of a search.
+    pub fn note(&mut self, status: u8)
+        ensures fault { self.new.has_fault ≡ (self.old.has_fault || status == 2) }
+        ensures path { self.new.has_path ≡ (self.old.has_path || status == 0) }
+    {
+        self.has_fault = self.has_fault || status == FAULT;
+        self.has_path = self.has_path || status == FOUND;
+    }
+
+    /// The exit status: 2 if there was something that it could not do, else 0 if it found a path, else 1.
+    pub fn status(self) -> u8
         ensures most { result ≤ 2 }
         ensures status { result ≡ status_of self }
     {
@@ -55,18 +64,20 @@ impl Findings {
     }
 }
 
-/// Searches to the end. Each path that is found and that the sieve keeps becomes a record of `output`, and what the
-/// search could not do a line of `errors`, after the paths before it. Returns the exit status.
+/// Searches to the end. Each path that is found and that the sieve keeps becomes a record of `output`, after the lead
+/// of the patterns. What the search could not do becomes a line of `errors`, after the paths before it. Returns the
+/// exit status. After an error the first bytes of the records may have been written.
 pub fn run_search<A, T, X, F, W, E>(
     alloc: A,
     search: Search<A>,
     tree: &mut T,
     texts: &mut X,
-    sieve: &Sieve<'_, '_, '_, F>,
+    sieve: &Sieve<'_, '_, '_, '_, '_, F>,
+    lead: &str,
     end: u8,
     output: &mut W,
     errors: &mut ErrorLines<'_, A, E>,
-) -> u8
+) -> Result<u8, FindFault>
 where
     A: Allocator + Copy,
     T: Tree<Alloc = A>,
@@ -74,19 +85,33 @@ where
     F: PathKinds,
     W: Write,
     E: Write,
-    ensures most { result ≤ 2 }
+    ensures most { IfOk result (λ status. status ≤ 2) }
     ensures written { (keeps : Text → Bool) → sieved F.kinds sieve.now ≡ Some keeps
         → (c : Content) (a : Aim) (known : Text → Option Text)
         → IsTold (T.tells tree.old) c → X.texts texts.old ≡ Some known
         → AreTextsOf c a search.files known → (all : List Gift) → HasGiven all c a known [] search
-        → WritesGifts end (kept keeps all)
-        (W.contents output.old) (W.contents output.new) result }
+        → IfOk result (WritesGifts lead.now end (kept keeps all)
+        (W.contents output.old) (W.contents output.new)) }
+    ensures some { (keeps : Text → Bool) → sieved F.kinds sieve.now ≡ Some keeps
+        → (c : Content) (a : Aim) (known : Text → Option Text)
+        → IsTold (T.tells tree.old) c → X.texts texts.old ≡ Some known
+        → AreTextsOf c a search.files known → (all : List Gift) → HasGiven all c a known [] search
+        → OnErr result (AppendsFront (W.contents output.old) (W.contents output.new)
+        (with_ends end (found_paths lead.now (kept keeps all)))) }
 {
     let mut search = search;
-    match write_found(alloc, &mut search, tree, texts, sieve, end, output, errors) {
-        Ok(findings) => findings.status(),
-        Err(find_fault) => find_fault.report(errors),
-    }
+    let findings = write_found(
+        alloc,
+        &mut search,
+        tree,
+        texts,
+        sieve,
+        lead,
+        end,
+        output,
+        errors,
+    )?;
+    Ok(findings.status())
 }
 
 /// Writes what is found and kept, and the lines about what could not be done.
@@ -95,7 +120,8 @@ fn write_found<A, T, X, F, W, E>(
     search: &mut Search<A>,
     tree: &mut T,
     texts: &mut X,
-    sieve: &Sieve<'_, '_, '_, F>,
+    sieve: &Sieve<'_, '_, '_, '_, '_, F>,
+    lead: &str,
     end: u8,
     output: &mut W,
     errors: &mut ErrorLines<'_, A, E>,
@@ -111,18 +137,18 @@ where
         → (c : Content) (a : Aim) (known : Text → Option Text)
         → IsTold (T.tells tree.old) c → X.texts texts.old ≡ Some known
         → AreTextsOf c a search.old.files known → (all : List Gift) → HasGiven all c a known [] search.old
-        → IfOk result (λ findings. WritesGifts end (kept keeps all)
+        → IfOk result (λ findings. WritesGifts lead.now end (kept keeps all)
         (W.contents output.old) (W.contents output.new) (status_of findings)) }
     ensures some { (keeps : Text → Bool) → sieved F.kinds sieve.now ≡ Some keeps
         → (c : Content) (a : Aim) (known : Text → Option Text)
         → IsTold (T.tells tree.old) c → X.texts texts.old ≡ Some known
         → AreTextsOf c a search.old.files known → (all : List Gift) → HasGiven all c a known [] search.old
         → OnErr result (AppendsFront (W.contents output.old) (W.contents output.new)
-        (with_ends end (found_paths (kept keeps all)))) }
+        (with_ends end (found_paths lead.now (kept keeps all)))) }
 {
-    let mut lines = Lines::new(alloc, end)?;
+    let mut lines = Lines::new(alloc, lead, end)?;
     let mut findings = Findings::new();
-    // Never all of them; the loop needs a bound.
+    // The bound is never reached, but the loop needs one.
     for _ in 0..u64::MAX {
         match search.next(tree, texts) {
             None => {
@@ -149,14 +175,14 @@ where
     Err(FindFault::Memory)
 }
 
-/// Writes what a search has given, where it has spent so many units, and notes it, unless it is a path that the sieve
-/// does not keep. Returns whether the search ends with that: then no line waits.
+/// Writes and notes what a search has given after spending this many units, unless it is a path that the sieve does not
+/// keep. Returns whether this ends the search; then no line is waiting.
 fn write_item<A, F, W, E>(
     alloc: A,
-    sieve: &Sieve<'_, '_, '_, F>,
+    sieve: &Sieve<'_, '_, '_, '_, '_, F>,
     item: Result<Found<A>, SearchFault<A>>,
     spent: u64,
-    lines: &mut Lines<A>,
+    lines: &mut Lines<'_, A>,
     findings: &mut Findings,
     output: &mut W,
     errors: &mut ErrorLines<'_, A, E>,
@@ -166,6 +192,7 @@ where
     F: PathKinds,
     W: Write,
     E: Write,
+    ensures lead { lines.new.lead.now ≡ lines.old.lead.now }
     ensures end { lines.new.end ≡ lines.old.end }
     ensures last { IfOk result (λ ends. ends ≡ is_last item) }
     ensures noted { (keeps : Text → Bool) → sieved F.kinds sieve.now ≡ Some keeps
@@ -173,10 +200,12 @@ where
     ensures none { IfOk result (λ ends. ends ≡ true → lines.new.waiting.items ≡ []) }
     ensures written { (keeps : Text → Bool) → sieved F.kinds sieve.now ≡ Some keeps
         → OnOk result (Queues (W.contents output.old) lines.old.waiting.items
-        (W.contents output.new) lines.new.waiting.items (item_record keeps lines.old.end item)) }
+        (W.contents output.new) lines.new.waiting.items
+        (item_record keeps lines.old.lead.now lines.old.end item)) }
     ensures some { (keeps : Text → Bool) → sieved F.kinds sieve.now ≡ Some keeps
         → OnErr result (AppendsFront (W.contents output.old) (W.contents output.new)
-        (lines.old.waiting.items ++ item_record keeps lines.old.end item)) }
+        (lines.old.waiting.items
+        ++ item_record keeps lines.old.lead.now lines.old.end item)) }
 {
     match item {
         Ok(found) => {
@@ -190,7 +219,7 @@ where
         Err(fault) => {
             findings.has_fault = true;
             lines.flush(output)?;
-            Ok(report_search(fault, errors))
+            Ok(report_search(alloc, lines.lead, fault, errors))
         }
     }
 }

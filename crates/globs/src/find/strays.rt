@@ -7,7 +7,6 @@ ghost use Rattle.globs.specs.Visible.{visible};
 
 use crate::PREFIX;
 use crate::explain::hints::without_here;
-use crate::find::disk::SharedRules;
 use crate::visible::Visible;
 use glob_console::write_line;
 use glob_rules::IgnoreList;
@@ -18,55 +17,78 @@ use std::collections::BTreeSet;
 use std::fmt::{self, Display};
 use std::io::{self, Write};
 
-/// Writes a line for each name that is not UTF-8, ignored or not, unless these are passed over, and for each path that
-/// could not be looked up and that the rules of the command line do not ignore; and notes that there was one. A path has
-/// one line, however often it is looked up, as far as there is memory to know it. Tests, not clauses, show it.
+/// Writes a line for each name that is not UTF-8, ignored or not, unless such names are skipped, and for each path that
+/// could not be looked up and that the rules of the command line do not ignore. It notes that there was one. A path
+/// gets one line, however often it is looked up, as long as there is memory to remember it. Tests, not clauses, show
+/// this.
 #[derive(Drop)]
 pub struct StrayLines<'a, A: Allocator, E> {
     pub alloc: A,
-    /// Whether names that are not UTF-8 are passed over.
+    /// Whether names that are not UTF-8 are skipped.
     pub is_utf8_only: bool,
-    pub errors: &'a mut E,
+    /// The lead of the patterns, which comes before each path.
+    pub lead: String<A>,
+    pub errors: E,
     pub has_any: &'a Cell<bool>,
-    pub rules: &'a SharedRules<A>,
+    /// The rules of the command line.
+    pub rules: String<A>,
     pub reported: BTreeSet<String<A>, A>,
 }
 
-impl<A: Allocator + Copy, E: Write> Strays for StrayLines<'_, A, E> {
+impl<A: Allocator + Copy, E: Write + Drop> Strays for StrayLines<'_, A, E> {
     fn stray(&mut self, directory: &str, name: &[u8]) {
         if self.is_utf8_only {
             return;
         }
         self.has_any.set(true);
-        let line = StrayLine { directory, name };
-        write_line(self.alloc, PREFIX, &line, self.errors);
+        let line = StrayLine {
+            lead: self.lead.as_str(),
+            directory: after_lead(self.lead.as_str(), directory),
+            name,
+        };
+        write_line(self.alloc, PREFIX, &line, &mut self.errors);
     }
 
     fn unsettled(&mut self, path: &str, error: &io::Error) {
         let path = without_here(path).unwrap_or(path);
         if !is_new(self.alloc, &mut self.reported, path)
-            || is_ignored(self.alloc, self.rules, path)
+            || is_ignored(self.alloc, self.rules.as_str(), path)
         {
             return;
         }
         self.has_any.set(true);
-        let line = UnsettledLine { path, error };
-        write_line(self.alloc, PREFIX, &line, self.errors);
+        let line = UnsettledLine {
+            lead: self.lead.as_str(),
+            path,
+            error,
+        };
+        write_line(self.alloc, PREFIX, &line, &mut self.errors);
     }
 }
 
-/// Whether the rules ignore the path, taken for a non-directory. If memory runs out, they do not.
-fn is_ignored<A: Allocator + Copy>(alloc: A, rules: &SharedRules<A>, path: &str) -> bool {
-    match rules.get() {
-        Some(text) if !text.is_empty() => match IgnoreList::new(alloc, text.as_str()) {
-            Ok(list) => list.is_ignored(path, false).unwrap_or(false),
-            Err(_) => false,
-        },
-        Some(_) | None => false,
+/// A directory as it is written after a lead: without its `.` or `./` if there is a lead.
+fn after_lead<'a>(lead: &str, directory: &'a str) -> &'a str {
+    if lead.is_empty() {
+        return directory;
+    }
+    match directory {
+        "." => "",
+        _ => without_here(directory).unwrap_or(directory),
     }
 }
 
-/// Whether the path was not reported before. If memory runs out, it counts as new.
+/// Whether the rules ignore the path, taken as a non-directory. False if memory runs out.
+fn is_ignored<A: Allocator + Copy>(alloc: A, rules: &str, path: &str) -> bool {
+    if rules.is_empty() {
+        return false;
+    }
+    match IgnoreList::new(alloc, rules) {
+        Ok(list) => list.is_ignored(path, false).unwrap_or(false),
+        Err(_) => false,
+    }
+}
+
+/// Whether the path is reported for the first time. True if memory runs out.
 fn is_new<A: Allocator + Copy>(
     alloc: A,
     reported: &mut BTreeSet<String<A>, A>,
@@ -81,41 +103,45 @@ fn is_new<A: Allocator + Copy>(
 /// The line about a path, with the reason why it could not be looked up or listed.
 #[derive(Clone, Copy)]
 pub struct UnsettledLine<'a> {
+    pub lead: &'a str,
     pub path: &'a str,
     pub error: &'a io::Error,
 }
 
 impl Display for UnsettledLine<'_> {
     fn fmt<W: fmt::Write>(&self, f: &mut fmt::Formatter<W>) -> fmt::Result {
-        write_path(f, self.path)?;
+        write_path(f, self.lead, self.path)?;
         write!(f, "{}", self.error)
     }
 }
 
-/// Writes a path, with control characters made visible, and what separates it from the reason.
-fn write_path<W: fmt::Write>(f: &mut fmt::Formatter<W>, path: &str) -> fmt::Result
-    ensures { WritesOnOk W.write_str_gives f.old result (visible path.now ++ codes ": ") f.new }
+/// Writes a path after its lead, with control characters made visible, and the separator before the reason.
+fn write_path<W: fmt::Write>(f: &mut fmt::Formatter<W>, lead: &str, path: &str) -> fmt::Result
+    ensures { WritesOnOk W.write_str_gives f.old result
+        (lead.now ++ (visible path.now ++ codes ": ")) f.new }
 {
     let path = Visible { text: path };
-    write!(f, "{path}: ")
+    write!(f, "{lead}{path}: ")
 }
 
 /// The line about a name. Bytes that are not printable ASCII are written as `\xff`, so that no escape sequence reaches
 /// a terminal.
 #[derive(Clone, Copy)]
 struct StrayLine<'a> {
+    lead: &'a str,
     directory: &'a str,
     name: &'a [u8],
 }
 
 impl Display for StrayLine<'_> {
-    ghost output = { λ line. Some (stray_words line.directory.now line.name.now) };
+    ghost output = { λ line. Some (stray_words line.lead.now line.directory.now line.name.now) };
 
     fn fmt<W: fmt::Write>(&self, f: &mut fmt::Formatter<W>) -> fmt::Result {
         let directory = Visible {
             text: self.directory,
         };
-        write!(f, "a name in `{directory}` is not UTF-8: ")?;
+        let lead = self.lead;
+        write!(f, "a name in `{lead}{directory}` is not UTF-8: ")?;
         write_name(f, self.name)
     }
 }

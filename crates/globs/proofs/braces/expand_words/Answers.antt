@@ -7,5 +7,6 @@ pub loop-word-preserved : goal.loop-word-preserved
 loop-word-preserved g c =
     let l = c.loop-word in
     let is = ap (map string_bytes) c.in-Ok.ensures.items ∙ map-append string_bytes l.texts.items c.in_ok-alternatives.alternatives.items in
-    AreAlternativesOf-take (λ w. w.now) c.args.words.now l.word-index _ (map string_bytes l.texts.items) _ (map string_bytes c.in_ok-alternatives.alternatives.items)
-    (omega arith) l.invariant c.in_ok-alternatives.ensures.texts is
+    AreAlternativesOf-take (λ w. w.now) c.args.words.now l.word-index _ (map string_bytes l.texts.items) _
+    (map string_bytes c.in_ok-alternatives.alternatives.items)
+    (omega arith) l.invariant c.in_ok-alternatives.ensures is

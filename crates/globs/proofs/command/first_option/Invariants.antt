@@ -1,4 +1,4 @@
--- The first option of the other words is that of all words.
+-- The first option of the remaining words is the first option of all words.
 use Rattle.std.proofs.Common.{◌≡◌, drop, map}
 use Rattle.globs.specs.CommandLine.{first_option}
 use Rattle.globs.proofs.command.first_option.Given as goal

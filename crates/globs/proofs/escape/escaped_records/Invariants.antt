@@ -1,4 +1,4 @@
--- The records so far and those of the other texts are those of all texts.
+-- The records so far and the records of the other texts are the records of all texts.
 use Rattle.std.proofs.Common.{string_bytes}
 use Rattle.globs.proofs.EscapeLemmas.{Continues}
 use Rattle.globs.proofs.escape.escaped_records.Given as goal

@@ -7,7 +7,8 @@ pub returns-clause-explained : goal.returns-clause-explained
 unfolding ExplainsWord
 returns-clause-explained g c =
     let same : map (λ p. p.now) c.as_slice-2.result.now ≡ map (λ s. string_bytes s) c.in-Ok.expanded.items =
-    ap (map (λ p. p.now)) c.as_slice-2.ensures.value ∙ (c.in-Ok-words_of.ensures ∙ ap (map (λ s. string_bytes s)) c.as_slice.ensures.value) in
+    ap (map (λ p. p.now)) c.as_slice-2.ensures.value ∙ (c.in-Ok-as_strs.ensures ∙
+    ap (map (λ s. string_bytes s)) c.as_slice.ensures.value) in
     ⊎_elim inl
     (λ explained. inr (
       map (λ p. p.now) c.as_slice-2.result.now,

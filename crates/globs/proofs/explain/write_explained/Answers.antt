@@ -7,9 +7,10 @@ use Rattle.globs.proofs.explain.write_explained.Goals.{then-explanation, else-ex
 use Rattle.globs.proofs.explain.write_explained.Goals as goal
 
 module _ (o : MatchOptions) (ps : List (List ℕ)) (t lines : List ℕ) (old new : Option (List ℕ)) where
-  -- the lines were written, and the status is that of the answer
+  -- the lines were written, and the status is the answer's
   explains_written : (is : Bool) (status found : ℕ) → is ≡ is_taken o ps t → AreLines o ps t lines
-      → status ≡ 0 → WritesText lines old new status → ((is ≡ true) × (found ≡ 0)) ⊎ ((is ≡ false) × (found ≡ 1)) → Explains o ps t old new found
+      → status ≡ 0 → WritesText lines old new status → ((is ≡ true) × (found ≡ 0)) ⊎ ((is ≡ false) × (found ≡ 1)) →
+      Explains o ps t old new found
   unfolding Explains WritesText
   explains_written is status found answer are zero (inl written) (inl matched) =
       ((λ none. sym answer ∙ matched.0), (λ one. absurd (omega (arith, matched.1, one))), λ other. (lines, are, written.1))
@@ -17,7 +18,7 @@ module _ (o : MatchOptions) (ps : List (List ℕ)) (t lines : List ℕ) (old new
       ((λ none. absurd (omega (arith, lost.1, none))), (λ one. sym answer ∙ lost.0), λ other. (lines, are, written.1))
   explains_written is status found answer are zero (inr some) found-is = absurd (omega (arith, zero, some.0))
 
-  -- they were not
+  -- the lines were not written
   explains_fault : (status : ℕ) → status ≢ 0 → WritesText lines old new status → Explains o ps t old new status
   unfolding Explains WritesText
   explains_fault status fault (inl written) = absurd (fault written.0)
@@ -29,7 +30,8 @@ returns-in-0-clause-explained g c =
     let explanation = c.in-Ok.explanation in
     let old = g.W.Write.contents c.args.output.now in
     let new = g.W.Write.contents c.write_text.new.output in
-    explains_written c.args.question.options (map (λ p. p.now) c.args.question.patterns.now) c.args.question.text.now (string_bytes explanation.lines) old new
+    explains_written c.args.question.options (map (λ p. p.now) c.args.question.patterns.now) c.args.question.text.now
+    (string_bytes explanation.lines) old new
     explanation.is_match c.write_text.result c.if-explanation.found c.in-Ok.ensures.answer c.in-Ok.ensures.lines c.in-0.is
     (subst (λ text. WritesText text old new c.write_text.result) c.as_str.ensures.value c.write_text.ensures.written)
     (elim c.if-explanation.branch [

@@ -1,11 +1,12 @@
-use Rattle.std.proofs.Common.{inl, inr, refl}
-use Rattle.globs.specs.Unignored.{CopiesUnignored}
+use Rattle.std.proofs.Common.{sym, ◌∙◌}
+use Rattle.std.proofs.lemmas.Bool.{false≢true}
+use Rattle.globs.specs.Naming.{IgnoresPaths}
 use Rattle.globs.proofs.ignore.run_ignore.Goals as goal
 
-pub returns-in-Ok-clause-copied : goal.returns-in-Ok-clause-copied
-unfolding CopiesUnignored
-returns-in-Ok-clause-copied g c = inr (c.in-Ok.list, c.in-Ok.ensures, c.copy_unignored.ensures.copied)
+pub returns-then-settings-clause-ignored : goal.returns-then-settings-clause-ignored
+unfolding IgnoresPaths
+returns-then-settings-clause-ignored g c = (λ _. c.name_rules.ensures.named, λ off. absurd (false≢true (sym off ∙ c.if-settings.true)))
 
-pub returns-clause-copied : goal.returns-clause-copied
-unfolding CopiesUnignored
-returns-clause-copied g c = inl ((c.requires, refl), (c.fault.ensures.status, refl))
+pub returns-else-settings-clause-ignored : goal.returns-else-settings-clause-ignored
+unfolding IgnoresPaths
+returns-else-settings-clause-ignored g c = (λ on. absurd (false≢true (sym c.if-settings.false ∙ on)), λ _. c.copy_paths.ensures.copied)

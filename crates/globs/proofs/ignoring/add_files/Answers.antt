@@ -9,8 +9,10 @@ loop-name-init g c = files_first (g.F.IgnoreFiles.holds c.args.files.now) c.args
 
 pub loop-name-preserved : goal.loop-name-preserved
 loop-name-preserved g c =
-    files_more (g.F.IgnoreFiles.holds c.args.files.now) c.args.names.now c.loop-name.name-index _ _ _ _ (string_bytes c.in_ok-text.text) (omega arith) c.in_ok-text.ensures
+    files_more (g.F.IgnoreFiles.holds c.args.files.now) c.args.names.now c.loop-name.name-index _ _ _ _
+    (string_bytes c.in_ok-text.text) (omega arith) c.in_ok-text.ensures
     (ap texts_of c.in_ok-push.ensures.items ∙ map-append (λ s. string_bytes s.text) _ _) c.loop-name.invariant
 
 pub returns : goal.returns
-returns g c = files_done (g.F.IgnoreFiles.holds c.args.files.now) c.args.names.now c.loop-name.name-index _ _ (omega arith) c.loop-name.invariant
+returns g c = files_done (g.F.IgnoreFiles.holds c.args.files.now) c.args.names.now c.loop-name.name-index _ _
+    (omega arith) c.loop-name.invariant

@@ -1,4 +1,4 @@
--- The texts so far are those before and those of the files so far.
+-- The texts so far are the texts before and the texts of the files so far.
 use Rattle.globs.specs.Ignoring.{texts_of}
 use Rattle.globs.proofs.SourceLemmas.{ReadSoFar}
 use Rattle.globs.proofs.ignoring.add_files.Given as goal

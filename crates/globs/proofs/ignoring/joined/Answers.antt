@@ -1,4 +1,5 @@
-use Rattle.std.proofs.Common.{◌≡◌, ℕ, ◌+◌, ◌<◌, ◌≤◌, ◌++◌, ◌∷◌, ◌∙◌, List, [], length, get_or, drop, map, refl, sym, append-nil, append_assoc, arith, string_bytes}
+use Rattle.std.proofs.Common.{◌≡◌, ℕ, ◌+◌, ◌<◌, ◌≤◌, ◌++◌, ◌∷◌, ◌∙◌, List, [], length, get_or, drop, map, refl, sym}
+use Rattle.std.proofs.Common.{append-nil, append_assoc, arith, string_bytes}
 use Rattle.std.proofs.lemmas.List.{drop_all, drop_more}
 use Rattle.std.proofs.lemmas.Result.{IfOk-from_err}
 use Rattle.std.proofs.Math.Utf8.{encode}
@@ -7,7 +8,8 @@ use Rattle.globs.specs.declared.ignoring.Source.{Source}
 use Rattle.globs.proofs.ignoring.joined.Goals as goal
 
 -- the lines of the other sources, once the next one is added
-next_added : {A : Type 0} (text : List ℕ) (source : Source A) (sources : List (Source A)) (i : ℕ) → i < length sources → source ≡ get_or sources i source
+next_added : {A : Type 0} (text : List ℕ) (source : Source A) (sources : List (Source A)) (i : ℕ) → i < length sources →
+    source ≡ get_or sources i source
     → ((text ++ string_bytes source.text) ++ line_feed ∷ []) ++ with_ends line_feed (map (λ s. string_bytes s.text) (drop (i + 1) sources))
     ≡ text ++ with_ends line_feed (map (λ s. string_bytes s.text) (drop i sources))
 next_added text source sources i below is = rw (drop_more sources i source below) (rw (sym is) (simp append_assoc refl))

@@ -1,4 +1,4 @@
--- The text so far and the lines of the other sources are those of all sources.
+-- The text so far and the lines of the other sources are the lines of all sources.
 use Rattle.std.proofs.Common.{◌≡◌, ◌++◌, drop, map, string_bytes}
 use Rattle.glob_lines.specs.Lines.{line_feed, with_ends}
 use Rattle.globs.proofs.ignoring.joined.Given as goal

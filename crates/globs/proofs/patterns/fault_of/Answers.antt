@@ -8,21 +8,25 @@ use Rattle.glob_set.specs.BraceSets.{AreAccepted}
 use Rattle.glob_set.specs.Sets.{RefusesTexts}
 use Rattle.globs.proofs.patterns.fault_of.Goals as goal
 
--- some texts, the one of a number, and those after it
-parted : (texts : List Text) (number : ℕ) → number < length texts → texts ≡ take number texts ++ get_or texts number [] ∷ drop (number + 1) texts
+-- the texts before an index, the text at it, and the texts after it
+parted : (texts : List Text) (number : ℕ) → number < length texts → texts ≡ take number texts ++
+    get_or texts number [] ∷ drop (number + 1) texts
 parted texts number below = sym (take-append-drop number texts) ∙ ap (λ rest. take number texts ++ rest) (drop_more texts number [] below)
 
--- those before it are accepted
-before_accepted : (texts : List Text) (number : ℕ) → number < length texts → ((k : ℕ) → k < number → IsAccepted (chars (get_or texts k []))) → AreAccepted (take number texts)
+-- the texts before it are accepted
+before_accepted : (texts : List Text) (number : ℕ) → number < length texts →
+    ((k : ℕ) → k < number → IsAccepted (chars (get_or texts k []))) → AreAccepted (take number texts)
 unfolding AreAccepted
 before_accepted texts number below accepted k few =
     let low : k < number = omega (arith, few, length-take-le number texts (omega (arith, below))) in
     subst (λ t. IsAccepted (chars t)) (sym (get_or-take number texts k [] low)) (accepted k low)
 
--- the first of the texts that is not accepted is that of a number, and has the fault
+-- the first text that is not accepted is the one at the index, and has the fault
 first_fault : (texts : List (Bor Text)) (number : ℕ) (none : Bor Text) (fault : Fault) → number < length texts
-    → ((k : ℕ) → k < number → IsAccepted (chars (get_or (map (λ t. t.now) texts) k []))) → IsFault (chars (get_or (map (λ t. t.now) texts) number [])) fault
-    → (before after : List Text) × (map (λ t. t.now) texts ≡ before ++ (get_or texts number none).now ∷ after) × AreAccepted before × IsFault (chars (get_or texts number none).now) fault
+    → ((k : ℕ) → k < number → IsAccepted (chars (get_or (map (λ t. t.now) texts) k []))) →
+    IsFault (chars (get_or (map (λ t. t.now) texts) number [])) fault
+    → (before after : List Text) × (map (λ t. t.now) texts ≡ before ++ (get_or texts number none).now ∷ after) ×
+    AreAccepted before × IsFault (chars (get_or texts number none).now) fault
 first_fault texts number none fault below accepted has =
     let all = map (λ t. t.now) texts in
     let few : number < length all = omega (arith, below, length-map texts (λ t. t.now)) in

@@ -1,4 +1,4 @@
--- What the other letters set is what all letters set.
+-- The remaining letters set the same as all letters.
 use Rattle.std.proofs.Common.{◌≡◌, drop}
 use Rattle.globs.specs.Spelling.{with_letters}
 use Rattle.globs.proofs.spelling.with_letters.Given as goal

@@ -1,4 +1,4 @@
--- So many blanks are written.
+-- This many blanks are written.
 use Rattle.std.proofs.Common.{replicate}
 use Rattle.std.specs.Fmt.{HasWritten, IsPlainFormatter}
 use Rattle.globs.proofs.visible.write_blanks.Given as goal

@@ -9,5 +9,6 @@ use Rattle.globs.proofs.visible.write_visible.Goals as goal
 
 pub returns : goal.returns
 returns g c = λ plain _.
-    let all = YieldsList-end (YieldsList-from_chars c.args.text.now c.utf8.text (cc)) c.loop-c.yielded _ c.loop-c.yielded_by _ _ c.in-None.is c.next.ensures.steps in
+    let all = YieldsList-end (YieldsList-from_chars c.args.text.now c.utf8.text (cc)) c.loop-c.yielded _
+    c.loop-c.yielded_by _ _ c.in-None.is c.next.ensures.steps in
     has_written_of_eq _ _ _ _ _ (ap (flat_map visible_character) (sym (map-id c.loop-c.yielded) ∙ all.0)) (c.loop-c.invariant plain)

@@ -2,10 +2,10 @@
 use super::{add_bracket, add_escaped, add_first, listed};
 use std::alloc::{AllocError, Allocator};
 
-/// Forms that hardly anything but a regular expression has.
+/// Forms that rarely occur outside regular expressions.
 static SIGNS: &[&str] = &["\\.", ".+", "\\d", "\\w"];
 
-/// Parts of regular expressions, and what replaces them. Of two that fit, the first is taken.
+/// Parts of regular expressions, and what replaces them. If two fit, the first is taken.
 static PARTS: &[(&str, &str)] = &[
     (".*", "*"),
     (".+", "?*"),
@@ -14,11 +14,11 @@ static PARTS: &[(&str, &str)] = &[
     ("\\w", "[a-zA-Z0-9_]"),
 ];
 
-/// Characters that mean in a regular expression what patterns cannot say, and `^` and `$` other than at its ends.
+/// Characters whose meaning in a regular expression patterns cannot express, and `^` and `$` anywhere but at its ends.
 static LACKED: &[char] = &['*', '+', '?', '(', ')', '|', '{', '}', '^', '$'];
 
-/// The pattern that matches the texts in which a regular expression is found. `None` if the text has no sign of a
-/// regular expression, or a part that patterns lack.
+/// The pattern that matches the texts in which a regular expression is found; `None` if the text does not look like a
+/// regular expression, or has a part that patterns lack.
 ///
 /// For `.*\.rs$` it is `*.rs`, and for `^a.b` it is `a?b*`.
 pub fn regex_form<A: Allocator>(alloc: A, text: &str) -> Result<Option<String<A>>, AllocError> {

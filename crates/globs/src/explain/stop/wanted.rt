@@ -23,8 +23,8 @@ pub fn run_end(token: Written, after: &[Written]) -> usize {
     end
 }
 
-/// Adds a line for a token of this kind: `written`, which includes the characters after it, a tab, and what it wants
-/// under the options where the match stops. `rest` is the rest of the text.
+/// Adds a line for a token of this kind: `written` (the token and the characters after it), a tab, and what the token
+/// wants under the options where the match stops. `rest` is the rest of the text.
 pub fn add_want<A: Allocator>(
     lines: &mut String<A>,
     kind: TokenKind,
@@ -71,7 +71,7 @@ fn has_case(kind: TokenKind, written: &str) -> bool {
     }
 }
 
-/// What the rules in the options forbid to a token of this kind.
+/// What the rules in the options forbid a token of this kind.
 fn rules_of(kind: TokenKind, options: MatchOptions) -> &'static str {
     if kind == TokenKind::Literal {
         return "";

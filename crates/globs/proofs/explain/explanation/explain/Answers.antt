@@ -6,7 +6,7 @@ use Rattle.globs.proofs.explain.explanation.explain.Goals as goal
 pub returns-clause-lines : goal.returns-clause-lines
 unfolding AreLines
 returns-clause-lines g c =
-    let reasons = string_bytes c.add_alternative.new.lines in
+    let reasons = string_bytes c.in_ok-reasons.reasons in
     let hints = string_bytes c.in_ok-hints.hints in
     let offer = string_bytes c.in_ok-offer.offer in
     let deeper = string_bytes c.in_ok-deeper.deeper in (

@@ -1,4 +1,4 @@
--- With the lines of the changes that are left, the lines are those of all changes.
+-- The lines so far and the lines of the changes that are left are the lines of all changes.
 use Rattle.std.proofs.Common.{ℕ, List, [], drop, map, string_bytes}
 use Rattle.globs.specs.Explain.Hints.{AddsHints}
 use Rattle.globs.proofs.explain.hints.hint_lines.Given as goal

@@ -4,9 +4,10 @@ use Rattle.std.proofs.lemmas.Option.{MatchOption-at_none, MatchOption-at_some}
 use Rattle.std.proofs.lemmas.Str.Pattern.{strip_suffix_char}
 use Rattle.globs.proofs.explain.hints.without_below.Goals as goal
 
--- the text without its last character, where that and more are at its end
+-- the text without its last character, if that character and more are at its end
 shorter : (text rest front more : List ℕ) (c : ℕ) → text ≡ rest ++ (c ∷ []) → text ≡ front ++ (more ++ (c ∷ [])) → rest ≡ front ++ more
-shorter text rest front more c is ends = append_cancel_right rest (front ++ more) (c ∷ []) (sym is ∙ ends ∙ sym (append_assoc front more (c ∷ [])))
+shorter text rest front more c is ends = append_cancel_right rest (front ++ more) (c ∷ [])
+    (sym is ∙ ends ∙ sym (append_assoc front more (c ∷ [])))
 
 before_slash : (text one two : List ℕ) (r : Option (Bor (List ℕ))) → text ≡ one ++ (42 ∷ []) → one ≡ two ++ (42 ∷ [])
     → MatchOption r ((front : List ℕ) → two ≢ front ++ (47 ∷ [])) (λ x. two ≡ x.now ++ (47 ∷ []))

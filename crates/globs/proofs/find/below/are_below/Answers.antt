@@ -9,14 +9,14 @@ below_more : (ps : List (Bor Text)) (i : ℕ) (d : Bor Text) → i < length ps �
     → are_below (map (λ p. p.now) (drop (i + 1) ps)) ≡ are_below (map (λ p. p.now) (drop i ps))
 below_more ps i d less is = rw (drop_more ps i d less) (rw is refl)
 
--- one leads elsewhere
+-- one pattern leads elsewhere
 below_not : (ps : List (Bor Text)) (i : ℕ) (d : Bor Text) → i < length ps → is_below (get_or ps i d).now ≡ false
     → are_below (map (λ p. p.now) (drop i ps)) ≡ are_below (map (λ p. p.now) ps) → false ≡ are_below (map (λ p. p.now) ps)
 below_not ps i d less not same =
     let here : are_below (map (λ p. p.now) (drop i ps)) ≡ false = rw (drop_more ps i d less) (rw not refl) in
     sym here ∙ same
 
--- all do
+-- all patterns lead below
 below_all : (ps : List (Bor Text)) (i : ℕ) → length ps ≤ i → are_below (map (λ p. p.now) (drop i ps)) ≡ are_below (map (λ p. p.now) ps)
     → true ≡ are_below (map (λ p. p.now) ps)
 below_all ps i end same = sym (ap (λ qs. are_below (map (λ p. p.now) qs)) (drop_all i ps end)) ∙ same

@@ -10,7 +10,7 @@ below_more : (ps : List (Bor Text)) (i : ℕ) (d : Bor Text) → i < length ps �
     → are_below (map (λ p. p.now) (drop (i + 1) ps)) ≡ are_below (map (λ p. p.now) (drop i ps))
 below_more ps i d less is = rw (drop_more ps i d less) (rw is refl)
 
--- all do
+-- all patterns lead below
 below_all : (ps : List (Bor Text)) (i : ℕ) → length ps ≤ i → are_below (map (λ p. p.now) (drop i ps)) ≡ are_below (map (λ p. p.now) ps)
     → are_below (map (λ p. p.now) ps) ≡ true
 below_all ps i end same = sym same ∙ ap (λ qs. are_below (map (λ p. p.now) qs)) (drop_all i ps end)
@@ -20,7 +20,8 @@ loop-pattern-preserved g c =
     let l = c.loop-pattern in
     record {
       below = below_more c.args.patterns.now l.pattern-index _ (omega arith) c.in_ok-check_pattern.ensures.below ∙ l.invariant.below;
-      accepted = accepted_more (λ p. p.now) c.args.patterns.now l.pattern-index _ (omega arith) c.in_ok-check_pattern.ensures.accepted l.invariant.accepted;
+      accepted = accepted_more (λ p. p.now) c.args.patterns.now l.pattern-index _ (omega arith)
+          c.in_ok-check_pattern.ensures.accepted l.invariant.accepted;
     }
 
 pub returns-clause-below : goal.returns-clause-below

@@ -7,4 +7,5 @@ use Rattle.globs.proofs.find.below.leads_elsewhere.Goals as goal
 pub returns : goal.returns
 returns c =
     let split = c.split.ensures in
-    any_from_yields_List is_no_name _ _ c.any.result c.any.ensures.ran (YieldsList-from_str_split 47 c.args.pattern.now (lit< tt) split.text split.has_more split.pattern) (λ x b q k. search rules)
+    any_from_yields_List is_no_name _ _ c.any.result c.any.ensures.ran
+    (YieldsList-from_str_split 47 c.args.text.now (lit< tt) split.text split.has_more split.pattern) (λ x b q k. search rules)

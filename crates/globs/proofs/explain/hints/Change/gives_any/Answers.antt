@@ -9,7 +9,8 @@ use Rattle.globs.specs.Explain.Hints.{GivesMatch}
 use Rattle.globs.proofs.explain.hints.Change.gives_any.Goals as goal
 
 -- one more element lacks the property
-none_more : {X : Type 0} (P : X → Type 0) (xs : List X) (i : ℕ) (d : X) → i < length xs → P (get_or xs i d) → All P (take i xs) → All P (take (i + 1) xs)
+none_more : {X : Type 0} (P : X → Type 0) (xs : List X) (i : ℕ) (d : X) → i < length xs → P (get_or xs i d) →
+    All P (take i xs) → All P (take (i + 1) xs)
 none_more P xs i d within is before =
     let next : suc i ≡ i + 1 = omega arith in
     subst (λ n. All P (take n xs)) next (subst (All P) (sym (take-suc xs i d within)) (All-push P (take i xs) _ before is))

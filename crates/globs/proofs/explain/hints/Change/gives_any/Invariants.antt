@@ -1,4 +1,4 @@
--- After the change none of the patterns so far matches the text.
+-- After the change no pattern so far matches the text.
 use Rattle.std.proofs.Common.{take}
 use Rattle.std.specs.Prelude.{All}
 use Rattle.globs.specs.Explain.Hints.{GivesMatch}

@@ -16,13 +16,15 @@ returns-in_err-write_whole-clause-none g c = rw (err_from_is_err_and c.from_resi
 pub returns-in_err-write_whole-clause-some : goal.returns-in_err-write_whole-clause-some
 returns-in_err-write_whole-clause-some g c =
     let held = g.W.Write.contents in
-    OnErr-from _ (subst (AppendsFront (held c.args.output.now) (held c.write_whole.new.writer)) c.as_slice.ensures.value c.in_err-write_whole.ensures.some)
+    OnErr-from _ (subst (AppendsFront (held c.args.output.now) (held c.write_whole.new.writer)) c.as_slice.ensures.value
+    c.in_err-write_whole.ensures.some)
 
 pub returns-clause-all : goal.returns-clause-all
 returns-clause-all g c =
     let held = g.W.Write.contents in
     let waiting = c.args.self.now.waiting.items in
-    let all = subst (Appends (held c.args.output.now) (held c.write_whole.new.writer)) c.as_slice.ensures.value c.in_ok-write_whole.ensures.all in
+    let all = subst (Appends (held c.args.output.now) (held c.write_whole.new.writer)) c.as_slice.ensures.value
+    c.in_ok-write_whole.ensures.all in
     let queued : Queues (held c.args.output.now) waiting (held c.flush.new.self) c.clear.new.self.items [] =
     (waiting, Appends-kept _ _ _ waiting all c.flush.ensures.bytes, ap (λ l. waiting ++ l) (sym c.clear.ensures.items)) in
     OnOk-from _ queued
@@ -34,5 +36,6 @@ pub returns-clause-some : goal.returns-clause-some
 returns-clause-some g c =
     let held = g.W.Write.contents in
     let waiting = c.args.self.now.waiting.items in
-    let all = subst (Appends (held c.args.output.now) (held c.write_whole.new.writer)) c.as_slice.ensures.value c.in_ok-write_whole.ensures.all in
+    let all = subst (Appends (held c.args.output.now) (held c.write_whole.new.writer)) c.as_slice.ensures.value
+    c.in_ok-write_whole.ensures.all in
     OnErr-from _ (AppendsFront-kept _ _ _ waiting waiting [] (sym (append-nil waiting)) all c.flush.ensures.bytes)

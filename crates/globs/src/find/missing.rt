@@ -1,0 +1,187 @@
+//! Lines about words of a search that name nothing, but part of a name. No clause speaks of them.
+use crate::find::kinds::{PathKind, PathKinds};
+use crate::find::leads::{place_at, split_lead};
+use crate::find::places::{Place, Places};
+use crate::find::slips::is_dashed;
+use crate::input::is_help;
+use crate::name::Name;
+use crate::options::Options;
+use crate::usage::HelpWord;
+use crate::visible::Visible;
+use glob_console::ErrorLines;
+use glob_tree::{Entry, Tree};
+use std::alloc::Allocator;
+use std::fmt::{self, Display};
+use std::io::Write;
+
+/// The characters that are no part of a plain path: those of patterns here, and of regular expressions.
+const SPECIAL: &str = "*?[]{}\\|^$()+!:'\"";
+
+/// A line about a word that names nothing.
+#[derive(Clone, Copy)]
+enum Missing<'a> {
+    /// After this lead, this pattern is only of names that are this text.
+    Name(&'a str, &'a str, &'a str),
+    /// This word is the beginning of a path, which ends in this name after this directory.
+    Beginning(&'a str, &'a str, &'a str),
+}
+
+impl Display for Missing<'_> {
+    fn fmt<W: fmt::Write>(&self, f: &mut fmt::Formatter<W>) -> fmt::Result {
+        match self {
+            Missing::Name(lead, pattern, name) => {
+                let (pattern, name) = (Visible { text: *pattern }, Visible { text: *name });
+                write!(
+                    f,
+                    "`{lead}{pattern}` matches one path: '{lead}**/*{name}*' matches each name that contains {name}"
+                )
+            }
+            Missing::Beginning(word, directory, name) => {
+                let (word, directory) = (Visible { text: *word }, Visible { text: *directory });
+                let name = Visible { text: *name };
+                write!(
+                    f,
+                    "`{word}` matches one path, which is not there: '{word}*' matches {directory}{name}"
+                )
+            }
+        }
+    }
+}
+
+/// Writes the lines about the first and the last word of a search, if they name nothing.
+pub fn note_missing<P: Places, F: PathKinds, E: Write>(
+    alloc: P::Alloc,
+    places: &P,
+    files: &F,
+    options: &Options<'_, P::Alloc>,
+    words: &[&str],
+    patterns: &[&str],
+    is_found: bool,
+    errors: &mut ErrorLines<'_, P::Alloc, E>,
+) {
+    if let [_, .., last] = words {
+        note_beginning(alloc, places, files, options, last, errors);
+    }
+    if is_found {
+        return;
+    }
+    if is_help(words) {
+        errors.write(&HelpWord { name: Name::Find });
+        return;
+    }
+    if let [word, ..] = words {
+        let (_, below) = split_lead(word);
+        if below.contains('/') {
+            note_beginning(alloc, places, files, options, word, errors);
+        }
+    }
+    if let [pattern, ..] = patterns {
+        note_name(alloc, files, options, pattern, errors);
+    }
+}
+
+/// Writes how to find names that have a text in them, if a pattern is only a text, perhaps between `^` and `$`, and
+/// nothing has that name.
+fn note_name<A: Allocator + Copy, F: PathKinds, E: Write>(
+    alloc: A,
+    files: &F,
+    options: &Options<'_, A>,
+    pattern: &str,
+    errors: &mut ErrorLines<'_, A, E>,
+) {
+    let (lead, below) = split_lead(pattern);
+    let name = below.strip_prefix('^').unwrap_or(below);
+    let name = name.strip_suffix('$').unwrap_or(name);
+    let is_name = is_plain(name) && !name.contains('/');
+    if is_name && is_missing(alloc, files, options, pattern) {
+        errors.write(&Missing::Name(lead, below, name));
+    }
+}
+
+/// Whether a text has only characters of plain paths.
+fn is_plain(text: &str) -> bool {
+    let is_special = |c: char| SPECIAL.contains(c);
+    !text.is_empty() && !text.contains("..") && !is_dashed(text) && !text.chars().any(is_special)
+}
+
+/// Whether nothing is at a path from the directory of the options on.
+fn is_missing<A: Allocator + Copy, F: PathKinds>(
+    alloc: A,
+    files: &F,
+    options: &Options<'_, A>,
+    path: &str,
+) -> bool {
+    let Ok(path) = place_at(alloc, options.directory, path) else {
+        return false;
+    };
+    let kind = files.kind(alloc, false, "", path.as_str());
+    kind.is_ok_and(|kind| kind == PathKind::Other)
+}
+
+/// Writes what a word is the beginning of, if nothing is at its path.
+fn note_beginning<P: Places, F: PathKinds, E: Write>(
+    alloc: P::Alloc,
+    places: &P,
+    files: &F,
+    options: &Options<'_, P::Alloc>,
+    word: &str,
+    errors: &mut ErrorLines<'_, P::Alloc, E>,
+) {
+    let (lead, below) = split_lead(word);
+    let is_cased = options.settings.options.case_sensitive;
+    if !is_cased || !is_plain(below) || !is_missing(alloc, files, options, word) {
+        return;
+    }
+    let start = match below.rsplit_once('/') {
+        Some((_, start)) => start,
+        None => below,
+    };
+    let directory = word.strip_suffix(start).unwrap_or(lead);
+    let Ok(path) = place_at(alloc, options.directory, directory) else {
+        return;
+    };
+    if let Some(name) = first_name(alloc, places, path.as_str(), start) {
+        errors.write(&Missing::Beginning(word, directory, name.as_str()));
+    }
+}
+
+/// The least name in a directory, which has this path, that begins with a text.
+fn first_name<P: Places>(
+    alloc: P::Alloc,
+    places: &P,
+    path: &str,
+    start: &str,
+) -> Option<String<P::Alloc>> {
+    let place = Place {
+        path,
+        lead: "",
+        follows: false,
+        is_utf8_only: true,
+        rules: "",
+    };
+    let mut tree = places.tree(place).ok()?;
+    let entries = tree.list_names(".").ok()?;
+    let mut least = 0usize;
+    let mut has_any = false;
+    for (number, entry) in entries.iter().enumerate() {
+        let name = entry.name.as_str();
+        if name.starts_with(start) && !(has_any && is_from(entries.as_slice(), least, name)) {
+            least = number;
+            has_any = true;
+        }
+    }
+    let entry = entries.get(least)?;
+    if has_any {
+        String::from_str(alloc, entry.name.as_str()).ok()
+    } else {
+        None
+    }
+}
+
+/// Whether a name is the same as that of the entry of this number, or comes after it.
+fn is_from<A: Allocator>(entries: &[Entry<A>], number: usize, name: &str) -> bool {
+    match entries.get(number) {
+        Some(entry) => entry.name.as_str() <= name,
+        None => false,
+    }
+}

@@ -1,0 +1,137 @@
+//! The lines about slips in the words of a search.
+use crate::visible::Visible;
+use std::fmt::{self, Display};
+
+/// A line about a slip.
+#[derive(Clone, Copy)]
+pub enum Slip<'a> {
+    /// This word excludes nothing, but this rule would.
+    Excluding(&'a str, &'a str),
+    /// This word begins with something that looks like `-`, followed by this name.
+    Dash(&'a str, &'a str),
+    /// This word is a kind after another kind.
+    Kind(&'a str),
+    /// This pattern is this other pattern in quotes.
+    Quoted(&'a str, &'a str),
+    /// This word has several patterns.
+    Several(&'a str),
+    /// This path is from the top of a repository.
+    Top(&'a str),
+    /// Another tool's pattern with a `\` means this pattern here.
+    Escaped(&'a str),
+    /// A refused pattern was probably meant as this one.
+    Instead(&'a str),
+    /// This pattern has a `\` between names.
+    Backslash(&'a str),
+    /// This pattern matches upper-case letters only.
+    Upper(&'a str),
+    /// This pattern matches only names directly in the start.
+    Shallow(&'a str),
+    /// This word is the name of an entry, but does not match it.
+    Unmatched(&'a str),
+    /// This rule is the name of a program.
+    Program(&'a str),
+    /// This rule has several names, separated by this.
+    Joined(&'a str, &'static str),
+}
+
+impl Display for Slip<'_> {
+    fn fmt<W: fmt::Write>(&self, f: &mut fmt::Formatter<W>) -> fmt::Result {
+        match self {
+            Slip::Excluding(word, rule) => {
+                let (word, rule) = (Visible { text: *word }, Visible { text: *rule });
+                write!(f, "`{word}` does not exclude: use -x {rule}")
+            }
+            Slip::Dash(word, name) => write_dash(f, word, name),
+            Slip::Kind(kind) => {
+                write!(
+                    f,
+                    "`{kind}` was read as a pattern: use -t {kind}, as each -t has one value"
+                )
+            }
+            Slip::Quoted(word, bare) => {
+                let (word, bare) = (Visible { text: *word }, Visible { text: *bare });
+                write!(
+                    f,
+                    "`{word}` has quotes in it, which belong to the pattern: write '{bare}'"
+                )
+            }
+            Slip::Several(word) => {
+                let word = Visible { text: *word };
+                write!(
+                    f,
+                    "`{word}` is one pattern, with a space in it: quote each pattern separately"
+                )
+            }
+            Slip::Top(path) => {
+                let path = Visible { text: *path };
+                write!(
+                    f,
+                    "`:/` is git's syntax: write '{path}', from the start of the search"
+                )
+            }
+            Slip::Escaped(form) => {
+                let form = Visible { text: *form };
+                write!(
+                    f,
+                    "\\ is an ordinary character here, and escapes nothing: write '{form}'"
+                )
+            }
+            Slip::Instead(form) => {
+                let form = Visible { text: *form };
+                write!(f, "write instead: '{form}'")
+            }
+            Slip::Backslash(pattern) => {
+                let pattern = Visible { text: *pattern };
+                write!(
+                    f,
+                    "`{pattern}` has a \\, which is an ordinary character here: / separates names"
+                )
+            }
+            Slip::Upper(pattern) => {
+                let pattern = Visible { text: *pattern };
+                write!(
+                    f,
+                    "`{pattern}` matches upper-case letters only: use -i for both cases"
+                )
+            }
+            Slip::Shallow(pattern) => {
+                let pattern = Visible { text: *pattern };
+                write!(
+                    f,
+                    "`{pattern}` matches only names at the start: '**/{pattern}' also matches those below"
+                )
+            }
+            Slip::Unmatched(name) => {
+                let name = Visible { text: *name };
+                write!(
+                    f,
+                    "`{name}` is a name, but does not match itself as a pattern: quote the pattern, or use globs escape"
+                )
+            }
+            Slip::Program(program) => {
+                write!(
+                    f,
+                    "-x {program} ignores what is called {program}, and runs nothing: pipe the paths of globs find -0 to xargs -0r {program}"
+                )
+            }
+            Slip::Joined(rule, between) => {
+                let rule = Visible { text: *rule };
+                write!(
+                    f,
+                    "-x {rule} is one rule, with {between} in it: use -x for each"
+                )
+            }
+        }
+    }
+}
+
+/// Writes what to write instead of a word with a dash that is not `-`.
+fn write_dash<W: fmt::Write>(f: &mut fmt::Formatter<W>, word: &str, name: &str) -> fmt::Result {
+    let hyphens = if name.chars().count() == 1 { "-" } else { "--" };
+    let (word, name) = (Visible { text: word }, Visible { text: name });
+    write!(
+        f,
+        "`{word}` begins with a dash that is not `-`: write {hyphens}{name}"
+    )
+}
