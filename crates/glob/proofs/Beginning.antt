@@ -4,15 +4,14 @@ use Rattle.std.specs.Prelude.{IfOk, IfErr}
 use Rattle.std.specs.declared.path.buf.PathBuf.{PathBuf}
 use Rattle.glob_tree.specs.Answers.{IsTold}
 use Rattle.glob_tree.specs.Content.{Content}
-use Rattle.glob_walk.specs.Marks.{Mark}
+use Rattle.glob_walk.specs.Walks.{Mark, IsWalk, IsWalkAsked}
 use Rattle.glob.specs.Private.Walking.{EndsAs}
 use Rattle.glob_walk.specs.Iterating.{Walking}
 use Rattle.glob_walk.specs.Machines.{Progress, HasGiven, IsFresh}
-use Rattle.glob_walk.specs.Walks.{IsWalk, IsWalkAsked}
 use Rattle.glob_walk.specs.declared.error.GlobError.{GlobError}
 use Rattle.glob_walk.specs.declared.ending.End.{End}
 
--- what holds of a value holds of it in another way
+-- a fact about a value, from another fact about it
 pub if_ok : {X E : Type 0} (P Q : X → Type 0) (r : Result X E) → ((x : X) → P x → Q x) → IfOk r P → IfOk r Q
 if_ok P Q (Ok x) f h = f x h
 if_ok P Q (Err e) f h = tt
@@ -21,7 +20,7 @@ pub if_err : {X E : Type 0} (P Q : E → Type 0) (r : Result X E) → ((e : E) �
 if_err P Q (Ok x) f h = tt
 if_err P Q (Err e) f h = f e h
 
--- what holds if there is a value, where there is one
+-- a fact that holds if there is a value, applied to one
 pub of_ok : {X E : Type 0} (P : X → Type 0) (r : Result X E) (x : X) → r ≡ Ok x → IfOk r P → P x
 of_ok P r x is h = subst (λ s. IfOk s P) is h
 

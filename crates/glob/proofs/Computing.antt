@@ -4,7 +4,7 @@ use lib.Utf8.{encode}
 use Rattle.glob_tree.specs.Paths.{join, child}
 use Rattle.glob_tree.specs.Content.{is_content, kind_at, children, resolve, look_result, list_result}
 use Rattle.glob_tree.specs.Memory.{add_refusal, current_refusal, content_with, with_current, directory_key, list_fault}
-use Rattle.glob_walk.specs.Listing.{listing, descent, enter, meet}
+use Rattle.glob_walk.specs.Walks.{listing, descent, enter, meet}
 use Rattle.glob_walk.specs.Components.{walk_fault}
 use Rattle.glob_walk.specs.Goal.{goal, is_plain, is_readable}
 use Rattle.glob_pattern.specs.Computing.Reading.{units_from}

@@ -4,20 +4,19 @@ use Rattle.std.proofs.Common.{sym, subst, ◌∙◌, arith}
 use Rattle.std.proofs.lemmas.Bool.{both_ways}
 use Rattle.glob_tree.specs.Content.{Content}
 use Rattle.glob_tree.specs.Answers.{IsTold}
-use Rattle.glob_walk.specs.Marks.{Mark, Item}
+use Rattle.glob_walk.specs.Walks.{Mark, Item, Gives, LimitAt, NoMemory}
 use Rattle.glob_walk.specs.Questions.{question_units}
 use Rattle.glob_walk.specs.Machines.{MachineState, Progress, Saying, AsksLook, AsksList, Says, Ends, StepGoes, HasGiven, listing_of}
 use Rattle.glob_walk.specs.Machines.{GivesNext, IsAskedAfter, IsCharged, is_last, item_number, step_units}
 use Rattle.glob_walk.specs.Iterating.{Walking, IsAsked, Goes}
-use Rattle.glob_walk.specs.Walks.{Gives, LimitAt, NoMemory}
 use Rattle.glob.specs.Private.Walking.{IsDriven}
 use Rattle.glob_walk.proofs.WalkLemmas.Driving.{asked_units}
 
--- what contracts see of it
+-- what contracts see of the walk
 abbrev pub seen_walk : {X : Type 0} {P : Progress} → X → MachineState P → Walking X P
 seen_walk t c = record { tree = t; machine = c }
 
--- The steps of a walk since one item: each asked a question, and the last of these may be open.
+-- The steps of a walk since an item: each asked a question, and the last question may be open.
 pub record Drives {X : Type 0} {P : Progress} (asks : X → ℕ) (tells : X → Option Content) (v : Walking X P) (t : X)
     (c : MachineState P) : Type 0 where
   pub limit : c.limit ≡ v.machine.limit
@@ -46,7 +45,7 @@ Drives-first asks tells v driven = record {
   gives = λ x told all given h. h;
 }
 
--- one more step, by a tree that answered the question that was open
+-- one more step, after a tree answered the open question
 module _ {X : Type 0} {P : Progress} (asks : X → ℕ) (tells : X → Option Content) (v : Walking X P) (t t' : X)
     (c c' : MachineState P) (s : Saying) (n : ℕ)
     (h : Drives asks tells v t c) (same : tells t' ≡ tells t) (untouched : c.asked ≡ None → t' ≡ t)

@@ -11,13 +11,12 @@ use Rattle.glob_tree.specs.Answers.{IsTold}
 use Rattle.glob_tree.specs.Content.{Content}
 use Rattle.glob_pattern.specs.declared.options.MatchOptions.{MatchOptions}
 use Rattle.glob_walk.specs.declared.error.GlobError.{GlobError}
-use Rattle.glob_walk.specs.Goal.{goal, IsOrderly, Answers, item_of, given_items, ReachesTexts}
+use Rattle.glob_walk.specs.Goal.{goal, IsOrderly, ReachesTexts}
 use Rattle.glob_walk.specs.Laws.{IsSensitiveWalk}
-use Rattle.glob_walk.specs.Listing.{listing}
-use Rattle.glob_walk.specs.Marks.{Item, Found, Unread, Mark, items, cost, paths}
+use Rattle.glob_walk.specs.Walks.{listing, Item, Found, Unread, Mark, items, cost, paths, Gives, LimitAt, NoMemory}
+use Rattle.glob_walk.specs.Walks.{Answers, AreItems, Outcome, outcome}
 use Rattle.glob_walk.specs.Iterating.{Goes, Walking}
 use Rattle.glob_walk.specs.Machines.{Progress, Saying, Says, Ends, HasGiven, GivesNext, left_of, next_saying}
-use Rattle.glob_walk.specs.Walks.{Gives, LimitAt, NoMemory, outcome, AreItems}
 use Rattle.glob_walk.proofs.ListingLemmas.Marks.{items-append}
 use Rattle.glob_walk.proofs.WalkLemmas.Giving.{upto_end, upto_limit}
 use Rattle.glob_walk.proofs.GoalLemmas.Clauses.{reaches_goal, comes_in_order, IsBeginning-whole}
@@ -39,18 +38,20 @@ AreFound-more answers found path are =
     ∙ ap (λ xs. xs ++ map Gives more) are
     ∙ sym (ap (map Gives) (map-append Found found (path_buf_bytes path ∷ [])) ∙ map-append Gives (found_items found) more)
 
--- the items that answers without a refusal say
-pub given_items-are : {A : Type 0} (answers : Answers A) (is : List Item) → AreItems answers is → given_items answers ≡ is
-given_items-are answers is are = ap (filter_map item_of) are ∙ kept is
+-- the item that an answer says
+item_of : Outcome → Option Item
+item_of (Gives item) = Some item
+item_of (LimitAt path) = None
+item_of NoMemory = None
+
+-- answers say one list of items
+pub AreItems-same : {A : Type 0} (answers : Answers A) (is others : List Item) → AreItems answers is → AreItems answers others → is ≡ others
+unfolding item_of
+AreItems-same answers is others said same = sym (kept is) ∙ ap (filter_map item_of) (sym said ∙ same) ∙ kept others
   where
     kept : (is : List Item) → filter_map item_of (map Gives is) ≡ is
     kept [] = refl
-    kept (item ∷ is) = ap (λ others. item ∷ others) (kept is)
-
--- and those of answers without an error
-pub given_items-found : {A : Type 0} (answers : Answers A) (found : List Text) → AreFound answers found
-    → given_items answers ≡ found_items found
-given_items-found answers found are = given_items-are answers (found_items found) are
+    kept (i ∷ is) = ap (λ js. i ∷ js) (kept is)
 
 -- their paths
 pub paths-found : (found : List Text) → paths (found_items found) ≡ found

@@ -5,19 +5,19 @@ use Rattle.std.proofs.lemmas.List.{map-append}
 use Rattle.std.proofs.lemmas.Option.{same_Some}
 use Rattle.std.specs.declared.path.buf.PathBuf.{PathBuf}
 use Rattle.glob_text.specs.Text.{Text}
-use Rattle.glob_walk.specs.Marks.{Mark, Work, Item, IsUpTo, items}
+use Rattle.glob_walk.specs.Walks.{Mark, Work, Item, IsUpTo, items, Outcome, Gives, LimitAt, NoMemory, outcome}
+use Rattle.glob_walk.specs.Walks.{refusal_end, AreItems, IsWalk, IsWalkAsked, HasNoRefusal}
 use Rattle.glob_tree.specs.Content.{Content}
 use Rattle.glob_tree.specs.Answers.{IsTold}
 use Rattle.glob.specs.Private.Walking.{EndsAs}
 use Rattle.glob_walk.specs.Iterating.{Walking, Goes}
 use Rattle.glob_walk.specs.Machines.{Progress, Says, Ends, IsFresh, HasGiven, GivesNext}
-use Rattle.glob_walk.specs.Walks.{Outcome, Gives, LimitAt, NoMemory, outcome, refusal_end, AreItems, IsWalk, IsWalkAsked, HasNoRefusal}
 use Rattle.glob_walk.specs.declared.ending.End.{End}
 use Rattle.glob_walk.specs.declared.error.GlobError.{GlobError}
 use Rattle.glob_walk.specs.declared.ending.End.TheVariants as end
 use Rattle.glob_walk.proofs.WalkLemmas.Giving.{upto_cut, upto_end, upto_limit}
 
--- a whole walk, from what was charged and given of its listing, and what is left
+-- a whole walk, from what was charged and given of its listing and what is left
 module _ {A : Type 0} (ms : List Mark) (limit spent : ℕ) (answers : List (Result (PathBuf A) (GlobError A)))
     (given : List Item) (are : AreItems answers given) where
   IsWalk-done : spent ≤ limit → IsUpTo ms spent given [] → IsWalk ms limit end.Done spent answers
@@ -46,7 +46,7 @@ module _ {A : Type 0} (ms : List Mark) (limit spent : ℕ) (answers : List (Resu
     record { rest = rest; lost = item ∷ []; charged = u; few = omega arith },
   )
 
--- a walk from its beginning on, of which only items were gathered
+-- a walk from its beginning on; only items were gathered
 pub record Gathers {X A : Type 0} {P : Progress} (asks : X → ℕ) (tells : X → Option Content) (first : Walking X P)
     (answers : List (Result (PathBuf A) (GlobError A))) (now : Walking X P) : Type 0 where
   pub same : now.machine.limit ≡ first.machine.limit

@@ -1,4 +1,4 @@
--- What a loop keeps of the texts that it is given.
+-- Which of its texts a loop keeps.
 use Rattle.std.proofs.Common.{◌≡◌, ◌⊎◌, ◌↔◌, inl, inr, ⊎_elim, zero, suc, List, [], ◌∷◌, Contains, refl, sym, subst, arith}
 use Rattle.std.specs.Prelude.{All, AllPairs}
 use Rattle.std.proofs.lemmas.List.Elements.{All-cons, All-head, All-tail, Contains-append_right, Contains-append_cases, Contains-push_cases}
@@ -21,7 +21,7 @@ module _ (P : Text → Type 0) where
       (λ later. inr later)
       (Contains-append_cases (first ∷ []) texts text has)
 
-  -- what is kept is among the texts, and has P
+  -- what is kept is among the texts, and satisfies P
   pub AreKept-has : (texts kept : List Text) → AreKept P texts kept → (text : Text) → Contains kept text → Contains texts text × P text
   AreKept-has [] kept keeps text has = absurd (omega (arith, (subst (λ xs. Contains xs text) keeps has).1))
   AreKept-has (first ∷ texts) kept (inl (here, (others, is, are))) text has =
@@ -32,7 +32,7 @@ module _ (P : Text → Type 0) where
   AreKept-has (first ∷ texts) kept (inr k) text has =
       let both = AreKept-has texts kept k.1 text has in (Contains-later first text texts both.0, both.1)
 
-  -- and each of the texts that has P is kept
+  -- each of the texts that satisfies P is kept
   pub AreKept-all : (texts kept : List Text) → AreKept P texts kept → (text : Text) → Contains texts text → P text → Contains kept text
   AreKept-all [] kept keeps text has is = absurd (omega (arith, has.1))
   AreKept-all (first ∷ texts) kept (inl (here, (others, split, are))) text has is =
@@ -47,11 +47,11 @@ module _ (P : Text → Type 0) where
       (λ later. AreKept-all texts kept k.1 text later is)
       (first_or_later first text texts has)
 
-  -- so a text is kept exactly if it is one of them and has P
+  -- so a text is kept exactly if it is one of them and satisfies P
   pub AreKept-exact : (texts kept : List Text) → AreKept P texts kept → (text : Text) → Contains kept text ↔ (Contains texts text × P text)
   AreKept-exact texts kept keeps text = (AreKept-has texts kept keeps text, λ both. AreKept-all texts kept keeps text both.0 both.1)
 
-  -- what holds of all the texts holds of what is kept
+  -- what holds for all texts holds for the kept ones
   pub AreKept-All : (Q : Text → Type 0) (texts kept : List Text) → AreKept P texts kept → All Q texts → All Q kept
   AreKept-All Q [] kept keeps all = subst (All Q) (sym keeps) all
   AreKept-All Q (first ∷ texts) kept (inl (here, (others, is, are))) all =
@@ -59,7 +59,7 @@ module _ (P : Text → Type 0) where
       (All-cons Q first others (All-head Q first texts all) (AreKept-All Q texts others are (All-tail Q first texts all)))
   AreKept-All Q (first ∷ texts) kept (inr k) all = AreKept-All Q texts kept k.1 (All-tail Q first texts all)
 
-  -- and what holds of each text and those after it
+  -- the same for what holds for each text and the texts after it
   pub AreKept-AllPairs : (R : Text → Text → Type 0) (texts kept : List Text) → AreKept P texts kept → AllPairs R texts → AllPairs R kept
   AreKept-AllPairs R [] kept keeps all = subst (AllPairs R) (sym keeps) all
   AreKept-AllPairs R (first ∷ texts) kept (inl (here, (others, is, are))) all =

@@ -27,8 +27,6 @@ pub use Rattle.glob_walk.specs.GlobErrors
 pub use Rattle.glob_walk.specs.Goal
 pub use Rattle.glob_walk.specs.Iterating
 pub use Rattle.glob_walk.specs.Laws as WalkLaws
-pub use Rattle.glob_walk.specs.Listing
 pub use Rattle.glob_walk.specs.Machines
-pub use Rattle.glob_walk.specs.Marks
 pub use Rattle.glob_walk.specs.Questions
 pub use Rattle.glob_walk.specs.Walks

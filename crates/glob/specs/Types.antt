@@ -1,4 +1,4 @@
--- The structs and enums of the library, for definitions elsewhere that speak of their values.
+-- The structs and enums of the library, for definitions elsewhere that are about their values.
 pub use Rattle.glob_lines.specs.declared.fault.LineFault.{LineFault}
 pub use Rattle.glob_pattern.specs.declared.error.PatternError.{PatternError}
 pub use Rattle.glob_pattern.specs.declared.error.PatternRefusal.{PatternRefusal}

@@ -2,10 +2,9 @@
 ghost use Rattle.std.specs.Prelude.{◌≡◌, ◌-◌, ◌^◌, None, IfOk, IfErr};
 ghost use Rattle.glob_pattern.specs.Matching.Options.{new_options};
 ghost use Rattle.glob_tree.specs.Content.{Content};
-ghost use Rattle.glob_walk.specs.Listing.{listing};
+ghost use Rattle.glob_walk.specs.Walks.{listing, RefusesWith};
 ghost use Rattle.glob_walk.specs.Components.{walk_fault};
 ghost use Rattle.glob_walk.specs.Machines.{IsFresh, listing_of};
-ghost use Rattle.glob_walk.specs.Walks.{RefusesWith};
 
 use crate::paths::{Paths, glob_in};
 use glob_pattern::{MatchOptions, PatternRefusal};
@@ -15,8 +14,8 @@ use std::alloc::Allocator;
 /// Walks the file system that `rt` reaches, as [`glob_in`](crate::glob_in) walks a [`Disk`], with the options of
 /// `MatchOptions::new()` and the limit `u64::MAX`, which no walk reaches.
 ///
-/// If these files exist, `glob(rt, alloc, "src/*.rs")` gives `src/lib.rs` and `src/walk.rs`, in this order.
-/// The errors are those of [`glob_in`](crate::glob_in).
+/// If these files exist, `glob(rt, alloc, "src/*.rs")` gives `src/lib.rs` and `src/walk.rs`, in this order. Errors are
+/// as for [`glob_in`](crate::glob_in).
 pub fn glob<R: System, A: Allocator + Copy>(
     rt: R,
     alloc: A,
@@ -32,7 +31,7 @@ pub fn glob<R: System, A: Allocator + Copy>(
     glob_with(rt, alloc, pattern, MatchOptions::new())
 }
 
-/// [`glob`] with these options: under the dot rule `*` gives no dotted name. The errors are those of
+/// [`glob`] with these options: under the dot rule `*` gives no dotted name. Errors are as for
 /// [`glob_in`](crate::glob_in).
 pub fn glob_with<R: System, A: Allocator + Copy>(
     rt: R,

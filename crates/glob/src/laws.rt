@@ -1,4 +1,4 @@
-//! Laws about the definitions that contracts cite: of patterns and the texts that they match, and of walks.
+//! Laws about the definitions that contracts cite: about patterns and the texts that they match, and about walks.
 pub use glob_walk::laws::calls::{path_matches_as_its_text, text_is_an_equal_pattern};
 pub use glob_walk::laws::patterns::{
     accepted_has_no_fault, components_match_level_by_level, deep_tokens_match_as_one,

@@ -39,8 +39,8 @@ pub use glob_pattern::{
     run_positions,
 };
 pub use glob_tree::{
-    Asks, Directory, Disk, Entry, FilesSystem, ListError, Look, MemSystem, MemTree, Name, System,
-    Tree, TreeRefusal,
+    Asks, Directory, DirectoryId, Disk, Entry, FilesSystem, ListError, Look, MemSystem, MemTree,
+    Name, System, Tree, TreeRefusal,
 };
 pub use glob_walk::{Answer, End, GlobCause, GlobError, GlobResult, Step, WalkMachine, is_plain};
 pub use paths::{Paths, glob_in};

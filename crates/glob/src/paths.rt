@@ -1,10 +1,9 @@
 //! A walk over a tree, item by item.
 ghost use Rattle.std.specs.Prelude.{◌≡◌, ◌≤◌, ◌+◌, [], None, IfOk, IfErr};
 ghost use Rattle.glob_tree.specs.Content.{Content};
-ghost use Rattle.glob_walk.specs.Listing.{listing};
+ghost use Rattle.glob_walk.specs.Walks.{listing, RefusesWith};
 ghost use Rattle.glob_walk.specs.Components.{walk_fault};
 ghost use Rattle.glob_walk.specs.Machines.{HasGiven, IsFresh, listing_of};
-ghost use Rattle.glob_walk.specs.Walks.{RefusesWith};
 
 use glob_pattern::{MatchOptions, PatternRefusal};
 use glob_tree::Tree;
@@ -114,9 +113,9 @@ impl<T: Tree> Iterator for Paths<T> {
 /// If `b` is the only entry of `a`, then `a/*` gives `a/b`, for 4 units: the lookups of the start and of `a`, the
 /// listing of `a`, and its entry.
 ///
-/// A pattern with a fault is refused with `Syntax`: the fault of the whole text, or else that of the first component
-/// with one, for example if a bracket has a `/`. Its place is in characters, from the start of the text or of that
-/// component: for `x/a[/]b` it is 1. Any pattern may be refused with `Memory`. A refusal drops the tree.
+/// A pattern with a fault is refused with `Syntax`: the fault of the whole text, or else the fault of the first
+/// component with one, for example if a bracket has a `/`. Its place is in characters, from the start of the text or of
+/// that component: for `x/a[/]b` it is 1. Any pattern may be refused with `Memory`. A refusal drops the tree.
 pub fn glob_in<T: Tree>(
     alloc: T::Alloc,
     tree: T,

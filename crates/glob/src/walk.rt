@@ -3,13 +3,12 @@ ghost use Rattle.std.specs.Prelude.{◌≡◌, ◌+◌, ◌≤◌, [], length, N
 ghost use Rattle.glob_tree.specs.Content.{Content};
 ghost use Rattle.glob_tree.specs.Answers.{IsTold};
 ghost use Rattle.glob_walk.specs.Components.{walk_fault};
-ghost use Rattle.glob_walk.specs.Listing.{listing};
+ghost use Rattle.glob_walk.specs.Walks.{listing, HasNoRefusal, IsWalk, IsWalkAsked, RefusesWith};
 ghost use Rattle.glob.specs.Private.Walking.{EndsAs};
 ghost use Rattle.glob_walk.specs.Goal.{FindsGoal, FindsExactly, FindsTaken};
 ghost use Rattle.glob_walk.specs.Iterating.{Walking};
 ghost use Rattle.glob_walk.specs.Machines.{IsFresh};
 ghost use Rattle.glob_walk.specs.Private.Walkers.{Walk as WalkOf};
-ghost use Rattle.glob_walk.specs.Walks.{HasNoRefusal, IsWalk, IsWalkAsked, RefusesWith};
 
 use crate::paths::{Paths, glob_in};
 use glob_pattern::{MatchOptions, PatternRefusal};
@@ -30,8 +29,8 @@ pub struct Walk<T: Tree> {
     pub tree: T,
 }
 
-/// Runs the walk of [`glob_in`](crate::glob_in) to its end. Its errors are those of `glob_in`, so they come before the
-/// first lookup. A limit that does not suffice, and an allocation failure during the walk, are in `end` and not in
+/// Runs the walk of [`glob_in`](crate::glob_in) to its end. Errors are as for `glob_in`, so they come before the first
+/// lookup. A limit that does not suffice, and an allocation failure during the walk, are reported by `end` and not in
 /// `items`. With `End::Memory` the last item that was charged for may be missing.
 ///
 /// A pattern is plain if no component is empty, `.` or `..`, and each component that has a wildcard and begins with a
@@ -39,8 +38,8 @@ pub struct Walk<T: Tree> {
 /// is `Done`:
 ///
 /// - The paths are those below the start that the whole pattern, without a `/` at its end, matches under the separator
-///   rule, and under the dot rule if that is set. If the pattern ends in `/` or `**`, they are the directories among
-///   those. What is below a directory that could not be listed may be missing; then the error is an item.
+///   rule, and under the dot rule if that is set. If the pattern ends in `/` or `**`, only the directories among these
+///   are given. What is below a directory that could not be listed may be missing; then the error is an item.
 /// - Each path comes once if `**` is in at most one place (`**/**` is one place), and the paths come in order if also
 ///   at most one component follows it.
 ///
@@ -79,8 +78,8 @@ pub fn walk_in<T: Tree>(
     walked(alloc, glob_in(alloc, tree, pattern, options, limit))
 }
 
-/// Runs a walk that was begun to its end, or returns the refusal of its pattern. Nothing else is refused, so a refusal
-/// comes before the first lookup.
+/// Runs a walk that has been started to its end, or returns the refusal of its pattern. Only patterns are refused, so a
+/// refusal comes before the first lookup.
 fn walked<T: Tree>(
     alloc: T::Alloc,
     begun: Result<Paths<T>, PatternRefusal>,

@@ -8,7 +8,7 @@ use std::alloc::{AllocError, Global};
 use std::time::Instant;
 use std::{fs, io};
 
-/// The shortest times of all rounds, in nanoseconds, and how many of the lines the pattern matches.
+/// The shortest times of all rounds, in nanoseconds, and how many lines the pattern matches.
 #[derive(Clone, Copy)]
 struct Times {
     count: u64,

@@ -4,8 +4,7 @@ ghost use Rattle.std.specs.Prelude.{None};
 use glob::{Asks, Entry, ListError, Look, Name, Tree};
 use std::alloc::{AllocError, Global};
 
-/// Each directory holds one directory `d`, down to the last, which is empty. Unlike on a disk, paths may have any
-/// length.
+/// Each directory holds one directory `d`, and the last one is empty. Unlike on a disk, paths may have any length.
 #[derive(Drop)]
 pub struct Chain {
     alloc: Global,

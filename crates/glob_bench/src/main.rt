@@ -13,7 +13,7 @@
 //! This command writes nothing on standard error:
 //!
 //! - `captures OPTIONS PATTERN FILE ROUNDS` times matches and captures in turn. It prints how many lines of a file the
-//!   pattern matches, and the shortest times of all rounds: of matches and captures for all lines, and of both for the
+//!   pattern matches, and the shortest times of all rounds: for matches and captures of all lines, and for both on the
 //!   lines that match.
 //!
 //! OPTIONS is a word of the letters `i` for case-insensitive, `s` for the separator rule and `d` for the dot rule, such
@@ -28,7 +28,7 @@ mod timing;
 mod words;
 
 use captures::compare_captures;
-use glob_console::{arguments, words_of};
+use glob_console::{arguments, as_strs};
 use sets::{ask_set, make_sets};
 use std::io;
 use timing::{compile_pattern, match_file, walk_levels};
@@ -49,7 +49,7 @@ fn run(rt: &HostRuntime, words: &[&str]) -> io::Result<()> {
 
 fn main(rt: HostRuntime) -> io::Result<()> {
     let arguments = arguments(&rt)?;
-    let words = words_of(rt.alloc(), arguments.as_slice())?;
+    let words = as_strs(rt.alloc(), arguments.as_slice())?;
     match words.as_slice() {
         [file] => {
             let text = pattern_text(&rt, file)?;

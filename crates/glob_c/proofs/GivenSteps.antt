@@ -4,21 +4,21 @@ use Rattle.std.specs.declared.alloc.Global.{Global}
 use Rattle.glob_tree.specs.Content.{Content, look_result}
 use Rattle.glob_tree.specs.declared.tree.Look.{Look}
 use Rattle.glob_walk.specs.Machines.{MachineState, Saying, AsksLook, AsksList, Says, Ends, StepGoes, HasGiven, GivesNext}
-use Rattle.glob_walk.specs.Marks.{Item, Mark}
+use Rattle.glob_walk.specs.Walks.{Item, Mark}
 use Rattle.glob_walk.specs.Private.Walkers.{Walk}
 use Rattle.glob_walk.specs.Questions.{Question, LookAt, ListAt, IsLook, IsSomeContent, IsSeenIn, IsListedIn, question_path}
 use Rattle.glob_c.specs.Sessions.{RepliesTo}
 use Rattle.glob_c.specs.declared.session.Reply.{Reply}
 use Rattle.glob_c.specs.declared.session.Reply.TheVariants as reply
 
--- what a content has at the path of a look is its answer
+-- a content's answer to a look is what it has at the path
 pub seen_in : (E : Type 0) (q : Option Question) (seen : Look) (c : Content) → IsLook q → IsSomeContent c ×
     (seen ≡ look_result c (question_path q)) → IsSeenIn {E = E} q (Ok seen) c
 seen_in E None seen c asks fits = absurd asks
 seen_in E (Some (LookAt path)) seen c asks fits = fits
 seen_in E (Some (ListAt kinds path)) seen c asks fits = absurd asks
 
--- whatever was answered, it is a content's
+-- any answer is the answer of some content
 pub replies_some : (s : Saying) (r : Reply) (walk : MachineState (Walk Global)) (c : Content) → RepliesTo s r walk c → IsSomeContent c
 replies_some AsksLook reply.Nothing walk c fits = fits
 replies_some AsksLook (reply.Look seen) walk c fits = fits.0

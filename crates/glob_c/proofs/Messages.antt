@@ -1,4 +1,4 @@
--- The message of a fault is that of its number.
+-- The message of a fault belongs to its number.
 use Rattle.std.proofs.Common.{◌≡◌, ℕ, ◌≤◌, List, refl, sym, subst, ◌∙◌, arith}
 use Rattle.std.specs.Prelude.{IsUtf8, chars}
 use Rattle.glob_pattern.specs.Grammar.Faults.{IsFault, Refuses, kind_of, message_of, number_of}
@@ -20,7 +20,7 @@ numbered Wildcards = refl
 numbered Recursive = refl
 numbered Range = refl
 
--- Bytes are refused as their text is.
+-- Bytes are refused in the same way as their text.
 pub RefusesBytes-of : (bytes : List ℕ) → IsUtf8 bytes → (refused : PatternRefusal) → Refuses (chars bytes) refused
     → RefusesBytes bytes (refusal_of refused)
 RefusesBytes-of bytes utf8 (pattern.Syntax e) fault = (

@@ -52,7 +52,7 @@ value R = local (lone R.mir) value_local
 abbrev pointers : List Local
 pointers = local ty_ptr value_local ∷ local ty_ptr value_local ∷ []
 
--- a function of so many parameters, without type parameters
+-- a function of this many parameters, without type parameters
 abbrev function : ℕ → List Local → Body → Fn
 function n ls body = record { lifetimes = 0; outlives = []; ty_params = []; givens = 0; params = n; locals = ls; body = body }
 

@@ -1,4 +1,4 @@
--- The machine value of a `Slot`, and what it has.
+-- The machine value of a `Slot`, and what the slot owns.
 use Rattle.std.proofs.Common.{IsSome, ◌≡◌, List, [], ◌∷◌, ◌++◌, refl, subst}
 use seplogic.Ra.Ura.{Ura}
 use mir.Val.{Val, vstruct, vcons, vnil, of_list}
@@ -22,7 +22,7 @@ Slot = slot.the_row
 abbrev pub slot_val : Ptr → Val
 slot_val p = vstruct (vcons (ptr_val p) vnil)
 
--- which of the two a slot has
+-- whether a slot has a pattern or a walk
 pub data Kind : Type 0 where
   a_pattern : Kind
   a_walk : Kind
@@ -40,7 +40,7 @@ abbrev pub held : (k : Kind) → Slot.Denot → Option (row k).Denot
 held a_pattern s = s.text
 held a_walk s = s.walk
 
--- what an option that is not empty has
+-- the value in an option that is not empty
 pub kept : {X : Type 0} (o : Option X) → IsSome o → (x : X) × (o ≡ Some x)
 kept None is = absurd (false≢true is)
 kept (Some x) is = (x, refl)

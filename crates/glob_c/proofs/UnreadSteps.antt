@@ -10,7 +10,7 @@ use Rattle.glob_walk.specs.Questions.{question_path}
 use Rattle.glob_c.specs.Sessions.{SaysUnread}
 use Rattle.glob_c.specs.declared.session.Reply.TheVariants as reply
 
--- A step that says how a listing failed says the kind that was answered.
+-- A step that reports a failed listing has the kind of error that was answered.
 pub unread_said : (kinds : Bool) (r : Result (Vec (Entry Global) Global) ListError) (walk : MachineState (Walk Global)) (s : Saying)
     → IfErr r (λ e. s ≡ Says (list_error_outcome (question_path walk.asked) e)) → SaysUnread (AsksList kinds) (reply.Listed r) walk s
 unread_said kinds (Ok v) walk s told = tt

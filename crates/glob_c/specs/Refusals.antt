@@ -7,7 +7,7 @@ use Rattle.glob_c.specs.Answers.{fault_of}
 use Rattle.glob_c.specs.declared.fault.Refusal.{Refusal}
 use Rattle.glob_c.specs.declared.fault.Refusal.TheVariants.{Syntax, Memory, NotUtf8}
 
--- the refusal is the fault of the bytes, or a failed allocation, or reports bytes that are not UTF-8
+-- the refusal is the fault of the bytes, a failed allocation, or says that the bytes are not UTF-8
 abbrev pub RefusesBytes : List ℕ → Refusal → Type 0
 RefusesBytes bytes (Syntax f) = IsUtf8 bytes × IsFault (chars bytes) (fault_of f.place f.message) × (f.message ≤ 2)
 RefusesBytes bytes Memory = ⊤

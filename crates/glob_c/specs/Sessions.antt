@@ -11,9 +11,8 @@ use Rattle.glob_tree.specs.declared.tree.Look.{Look}
 use Rattle.glob_tree.specs.declared.tree.Look.TheVariants as look
 use Rattle.glob_walk.specs.Machines.{MachineState, Saying, AsksLook, AsksList, Says, Ends, StepCounts}
 use Rattle.glob_walk.specs.Private.Walkers.{Walk}
-use Rattle.glob_walk.specs.Marks.{Found, Unread}
+use Rattle.glob_walk.specs.Walks.{Found, Unread, Gives, LimitAt, NoMemory}
 use Rattle.glob_walk.specs.Questions.{IsSomeContent, IsListedIn, question_path}
-use Rattle.glob_walk.specs.Walks.{Gives, LimitAt, NoMemory}
 use Rattle.glob_c.specs.declared.session.Reply.{Reply}
 use Rattle.glob_c.specs.declared.session.Reply.TheVariants as reply
 
@@ -34,7 +33,7 @@ kind_of (Says (LimitAt path)) = 5
 kind_of (Says NoMemory) = 6
 kind_of Ends = 8
 
--- the path of an error, or the path at which the limit was reached
+-- the path of an error; for the limit, the path where it was reached
 abbrev pub error_path : Saying → Option Text
 error_path (Says (Gives (Unread path kind))) = Some path
 error_path (Says (LimitAt path)) = Some path

@@ -3,7 +3,7 @@ use Rattle.std.specs.Prelude.{◌≡◌, ℕ, List, []}
 use Rattle.std.specs.declared.io.ErrorKind.{ErrorKind}
 use Rattle.glob_tree.specs.Content.{Content, DirEntry}
 use Rattle.glob_walk.specs.Machines.{Ends, HasGiven, GivesNext}
-use Rattle.glob_walk.specs.Marks.{Item, Mark}
+use Rattle.glob_walk.specs.Walks.{Item, Mark}
 use Rattle.std.specs.declared.option.Option.{Option}
 use Rattle.std.specs.declared.option.Option.TheVariants.{None, Some}
 use Rattle.glob_c.specs.Sessions.{Sitting, Counts, entries_so_far, kind_of, AreListed, IsUnanswered, IsUnread, SaysUnread}

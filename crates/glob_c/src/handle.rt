@@ -1,4 +1,4 @@
-//! The handle that a C program has of a pattern.
+//! A C program's handle of a pattern.
 ghost use Rattle.std.specs.Prelude.{◌≡◌, MatchOption, is_some};
 ghost use Rattle.std.specs.declared.option.Option.TheVariants.{None, Some};
 
@@ -10,7 +10,7 @@ use std::mem;
 
 /// A C program's handle of a pattern, or an empty one.
 #[repr(C)]
-pub struct Handle {
+pub struct PatternHandle {
     pub(crate) slot: Slot,
     /// Whether the slot has a pattern.
     full: bool,
@@ -18,7 +18,7 @@ pub struct Handle {
     ghost no_walk: { slot.walk ≡ None },
 }
 
-impl Handle {
+impl PatternHandle {
     /// Whether the handle has a pattern.
     pub(crate) fn is_full(&self) -> bool
         ensures { result ≡ is_some self.now.slot.text }
@@ -31,9 +31,9 @@ impl Handle {
         requires { self.old.slot.text ≡ None }
         ensures { self.new.slot.text ≡ Some pattern.value }
     {
-        let Handle { slot, full: _ } = mem::replace(
+        let PatternHandle { slot, full: _ } = mem::replace(
             self,
-            Handle {
+            PatternHandle {
                 slot: Slot::of_pattern(Loose::of(pattern)),
                 full: true,
             },
@@ -47,9 +47,9 @@ impl Handle {
         ensures value { MatchOption result (self.old.slot.text ≡ None)
             (λ b. self.old.slot.text ≡ Some b.value) }
     {
-        let Handle { slot, full } = mem::replace(
+        let PatternHandle { slot, full } = mem::replace(
             self,
-            Handle {
+            PatternHandle {
                 slot: Slot::empty(),
                 full: false,
             },

@@ -1,4 +1,4 @@
-//! A box taken apart.
+//! A box taken apart, so that a handle of C can hold its pointer.
 ghost use Rattle.std.specs.Prelude.{◌≡◌};
 ghost use Rattle.std_alloc.specs.Box.Ownership.{box_owns};
 

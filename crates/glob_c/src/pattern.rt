@@ -11,7 +11,7 @@ ghost use types.Logic.{sem};
 ghost use denote.Struct.Lending.{lent_at};
 
 use crate::fault::{self, Fault, Refusal};
-use crate::handle::Handle;
+use crate::handle::PatternHandle;
 use glob_pattern::{MatchOptions, Pattern};
 use std::alloc::Global;
 
@@ -38,7 +38,7 @@ const YES: u32 = 1;
 #[unsafe(no_mangle)]
 pub extern "C" fn cadmiumdove_pattern_new(
     alloc: Global,
-    handle: &mut Handle,
+    handle: &mut PatternHandle,
     pattern: &[u8],
     fault: &mut Fault,
 ) -> u32
@@ -76,7 +76,7 @@ pub extern "C" fn cadmiumdove_pattern_new(
 }
 
 /// Whether a pattern matches the text, under the options of the flags. `at` is the field `at` of a handle that has a
-/// pattern. With the flag 8 the caller promises that the text is UTF-8, and it is not checked.
+/// pattern. With the flag 8 the caller promises that the text is UTF-8, and the call does not check it.
 ///
 /// Returns 0 for no, 1 for yes, 2 if an allocation fails, 3 if the bytes are not UTF-8, and 5 for an unknown flag.
 #[unsafe(no_mangle)]
@@ -116,7 +116,7 @@ fn answer_of(pattern: &Pattern<Global>, text: &[u8], flags: u32) -> u32
 
 /// Frees the handle's pattern, if there is one, and leaves the handle empty.
 #[unsafe(no_mangle)]
-pub extern "C" fn cadmiumdove_pattern_free(alloc: Global, handle: &mut Handle)
+pub extern "C" fn cadmiumdove_pattern_free(alloc: Global, handle: &mut PatternHandle)
     ensures empty { handle.new.slot.text ≡ None }
 {
     drop(handle.take(alloc));

@@ -6,8 +6,7 @@ ghost use Rattle.glob_tree.specs.Paths.{is_proper};
 ghost use Rattle.glob_walk.specs.Machines.{AsksList, AsksLook, Ends, GivesNext, HasGiven, IsAskedAfter, Says, saying};
 ghost use Rattle.glob_text.specs.Text.{Text};
 ghost use Rattle.glob_walk.specs.Questions.{question_path};
-ghost use Rattle.glob_walk.specs.Walks.{Gives, outcome};
-ghost use Rattle.glob_walk.specs.Marks.{Found, Item, Mark};
+ghost use Rattle.glob_walk.specs.Walks.{Gives, outcome, Found, Item, Mark};
 ghost use Rattle.glob_c.specs.Answers.{done, is_entry_answer, no_name, not_asked, not_utf8, out_of_memory};
 ghost use Rattle.glob_c.specs.Sessions.{AreListed, Counts, IsUnanswered, IsUnread, Replies, RepliesTo, SaysUnread};
 ghost use Rattle.glob_c.specs.Sessions.{entries_so_far, error_path, kind_of};
@@ -93,7 +92,7 @@ impl Session {
         kind_of(&self.step)
     }
 
-    /// Answers what the path refers to. Returns 0, or 9 if that was not asked.
+    /// Answers what the path refers to. Returns 0, or 9 if the walk did not ask that.
     pub(crate) fn looked(&mut self, seen: Look) -> u32
         ensures answered { result ≡ done
             → self.new ≡ record self.old { reply = Reply.Look seen } }

@@ -1,4 +1,4 @@
-//! The pointer in a handle, with what it owns.
+//! The pointer in a handle, and what it owns.
 ghost use Rattle.std.specs.Prelude.{◌≡◌, ℕ, List, IsSome};
 ghost use Rattle.std.specs.declared.option.Option.{Option};
 ghost use Rattle.std.specs.declared.option.Option.TheVariants.{None, Some};

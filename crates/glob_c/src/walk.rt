@@ -9,10 +9,8 @@ ghost use Rattle.glob_tree.specs.Paths.{is_proper};
 ghost use Rattle.glob_text.specs.Text.{Text};
 ghost use Rattle.glob_walk.specs.Machines.{AsksList, AsksLook, Ends, HasGiven, Says};
 ghost use Rattle.glob_walk.specs.Questions.{question_path};
-ghost use Rattle.glob_walk.specs.Walks.{Gives};
+ghost use Rattle.glob_walk.specs.Walks.{Gives, listing, Found, Item, Mark};
 ghost use Rattle.glob_walk.specs.Components.{walk_fault};
-ghost use Rattle.glob_walk.specs.Listing.{listing};
-ghost use Rattle.glob_walk.specs.Marks.{Found, Item, Mark};
 ghost use Rattle.glob_c.specs.Answers.{done, empty, in_use, is_entry_answer, no_name, not_asked, not_utf8};
 ghost use Rattle.glob_c.specs.Answers.{out_of_memory, syntax_fault, too_short, unknown_flag};
 ghost use Rattle.glob_c.specs.Sessions.{Replies, Sitting, entries_so_far, error_path, look_of, looked_at};
@@ -93,10 +91,10 @@ pub extern "C" fn cadmiumdove_walk_new(
     }
 }
 
-/// Takes the next step with what was answered since the last, and returns its number: 0 asks what the path refers to, 1
-/// asks for a listing, 2 for a listing of names only; 3 is a path, 4 a directory that could not be listed, 5 the limit,
-/// 6 a failed allocation, and 8 the end. It returns 7 if the handle is empty. A question without a complete answer is
-/// repeated.
+/// Takes the next step with what was answered since the last one, and returns its number: 0 asks what the path refers
+/// to, 1 asks for a listing, and 2 for a listing of names only; 3 is a path, 4 a directory that could not be listed, 5
+/// the limit, 6 a failed allocation, and 8 the end. It returns 7 if the handle is empty. A question without a complete
+/// answer is repeated.
 #[unsafe(no_mangle)]
 pub extern "C" fn cadmiumdove_walk_next(alloc: Global, handle: &mut WalkHandle) -> u32
     ensures empty { handle.old.slot.walk ≡ None → result ≡ empty }
@@ -182,7 +180,7 @@ fn write(bytes: &[u8], out: &mut [u8], needed: &mut usize) -> u32
 /// Answers what the path refers to: `kind` is 0 for a directory, 1 for something else, and any other number for
 /// nothing.
 ///
-/// Returns 0; 7 if the handle is empty; or 9 if that was not asked.
+/// Returns 0; 7 if the handle is empty; or 9 if the walk did not ask that.
 #[unsafe(no_mangle)]
 pub extern "C" fn cadmiumdove_walk_looked(alloc: Global, handle: &mut WalkHandle, kind: u32) -> u32
     ensures empty { handle.old.slot.walk ≡ None → result ≡ empty }

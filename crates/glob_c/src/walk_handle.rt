@@ -1,4 +1,4 @@
-//! The handle that a C program has of a walk.
+//! A C program's handle of a walk.
 ghost use Rattle.std.specs.Prelude.{◌≡◌, MatchOption, is_some};
 ghost use Rattle.std.specs.declared.option.Option.TheVariants.{None, Some};
 

@@ -5,24 +5,24 @@ use Rattle.std.proofs.lemmas.List.{length-append, take-append-drop}
 use Rattle.std.proofs.Math.Seq.{take-add}
 use Rattle.std.proofs.lemmas.Str.{encodes-append}
 
--- of two texts, one after the other
+-- the bytes of two texts, one after the other
 pub length-encodes_append : (xs ys : List ℕ) → length (encode_utf8_all (xs ++ ys)) ≡ length (encode_utf8_all xs) +
     length (encode_utf8_all ys)
 length-encodes_append xs ys = ap length (encodes-append xs ys) ∙ length-append (encode_utf8_all xs) (encode_utf8_all ys)
 
--- of a text and a character
+-- the bytes of a text and a character
 pub length-encodes_push : (xs : List ℕ) (c : ℕ) → length (encode_utf8_all (xs ++ c ∷ [])) ≡ length (encode_utf8_all xs)
     + length (encode_utf8 c)
 length-encodes_push xs c =
     let one = length-append (encode_utf8 c) [] in
     omega (arith, length-encodes_append xs (c ∷ []), one)
 
--- the front of a text has no more
+-- the front of a text has no more bytes than the text
 pub length-encodes_take : (cs : List ℕ) (i : ℕ) → length (encode_utf8_all (take i cs)) ≤ length (encode_utf8_all cs)
 length-encodes_take cs i =
     omega (arith, length-encodes_append (take i cs) (drop i cs), ap (λ xs. length (encode_utf8_all xs)) (take-append-drop i cs))
 
--- nor has its back
+-- the back of a text has no more bytes than the text
 pub length-encodes_drop : (cs : List ℕ) (i : ℕ) → length (encode_utf8_all (drop i cs)) ≤ length (encode_utf8_all cs)
 length-encodes_drop cs i =
     omega (arith, length-encodes_append (take i cs) (drop i cs), ap (λ xs. length (encode_utf8_all xs)) (take-append-drop i cs))

@@ -98,7 +98,7 @@ pub TakeFront-none : (o : MatchOptions) (tokens : List Token) (text : Text) (k :
 unfolding TakeFront PrefixSplits
 TakeFront-none o tokens text k = ((λ h. h), (λ h. h))
 
--- a row up to one place more, after that place was written
+-- a row up to one more place, after that place was written
 pub row_more : (P : ℕ → Type 0) (xs : List Bool) (i : ℕ) (b : Bool) → i < length xs → ((k : ℕ) → k < i → IsTrue
     (get_or xs k false) ↔ P k) → (IsTrue b ↔ P i)
     → (k : ℕ) → k < i + 1 → IsTrue (get_or (set xs i b) k false) ↔ P k
@@ -119,7 +119,7 @@ pub written_back : (xs ys : List Bool) (m : ℕ) → length ys ≡ length xs →
 written_back xs ys m same all =
     ap (λ zs. take m (ys ++ zs)) (drop_all (length ys) xs (omega arith)) ∙ ap (take m) (append-nil ys) ∙ take_all m ys (omega arith)
 
--- the numbers that are listed so far, where one more is
+-- the numbers listed so far, if one more is listed
 pub listed_push : (W : ℕ → Type 0) (xs : List ℕ) (n : ℕ) → ((m : ℕ) → Contains xs m ↔ ((m < n) × W m)) → W n → (m : ℕ)
     → Contains (xs ++ n ∷ []) m ↔ ((m < n + 1) × W m)
 listed_push W xs n listed here m = (
@@ -134,7 +134,7 @@ listed_push W xs n listed here m = (
       (cases_eq m n),
 )
 
--- and where it is not
+-- the numbers listed so far, if the next is not listed
 pub listed_kept : (W : ℕ → Type 0) (xs : List ℕ) (n : ℕ) → ((m : ℕ) → Contains xs m ↔ ((m < n) × W m)) → ¬ (W n) →
     (m : ℕ) → Contains xs m ↔ ((m < n + 1) × W m)
 listed_kept W xs n listed none m = (
@@ -145,7 +145,7 @@ listed_kept W xs n listed none m = (
       (cases_eq m n),
 )
 
--- each of them is below the bound
+-- each listed number is below the bound
 pub listed_below : (W : ℕ → Type 0) (xs : List ℕ) (n : ℕ) → ((m : ℕ) → Contains xs m ↔ ((m < n) × W m)) → (k d : ℕ)
     → k < length xs → get_or xs k d < n
 listed_below W xs n listed k d below = ((listed (get_or xs k d)).0 (Contains-get_or xs k d below)).0

@@ -17,7 +17,7 @@ use Rattle.glob_captures.specs.declared.written.Written.{Written}
 use Rattle.glob_captures.specs.Writing.{AreAdjacent, AreWritten, TokenBetween, byte_place}
 use Rattle.glob_captures.specs.Private.Written.{IsAfterStars, IsRead, IsTokenEnd, OthersFrom, TokensFrom}
 
--- with one more token, which is written from their end on
+-- one more token, written from their end on
 pub AreAdjacent-push : (tokens : List Written) (start end : ℕ) (token : Written) → AreAdjacent start tokens end
     → token.piece.start ≡ end → end ≤ token.piece.end
     → AreAdjacent start (tokens ++ token ∷ []) token.piece.end
@@ -49,7 +49,7 @@ begins-same (t ∷ u ∷ us) =
 between_one : (text : Text) (f : ℕ) (t : Token) (e : ℕ) → UnitAt text f t e → TokenBetween text f t e
 between_one text f t e unit = (t ∷ [], (e, unit, refl), folded_one t)
 
--- a first token that is no `**` is the first unit
+-- a first token that is not `**` is the first unit
 plain_first : (text : Text) (f : ℕ) (token : Token) (tokens units : List Token) → is_recursive token ≡ false
     → UnitsBetween text f units (length text) → tokens_of_units units ≡ token ∷ tokens
     → (m : ℕ) × UnitAt text f token m × TokensFrom text m tokens
@@ -88,7 +88,7 @@ recursive_first text f tokens (u ∷ us) between folded =
     (between.0, subst (λ t. UnitAt text f t between.0) first between.1, inr (us, between.2, rest, not_more)))
     folded
 
--- where a unit of this kind ends, which is no `**`
+-- where a unit of a kind other than `**` ends
 abbrev pub EndsAt : Text → ℕ → TokenKind → ℕ → Type 0
 EndsAt text f kind.Literal e = e ≡ f + 1
 EndsAt text f kind.AnyChar e = e ≡ f + 1
@@ -121,7 +121,7 @@ kind_same Recursive = refl
 kind_same (OneOf entries) = refl
 kind_same (NoneOf entries) = refl
 
--- a token that is no `**` ends where its unit does
+-- a token that is not `**` ends where its unit does
 pub IsTokenEnd-plain : (text : Text) (f : ℕ) (kind : TokenKind) (e : ℕ) → is_recursive_kind kind ≡ false →
     ((m : ℕ) → m ≤ length text → EndsAt text f kind m → m ≡ e) → IsTokenEnd text f kind e
 unfolding IsTokenEnd
@@ -203,7 +203,7 @@ no_more text e tokens stop from =
     let first = recursive_first text e tokens from.0 from.1 from.2 in
     stop (first.1.0.0 e (omega arith) (omega arith)) (first.1.0.0 (e + 1) (omega arith) (omega arith))
 
--- all is read where no two stars follow
+-- all of the neighbouring `**` are read if no two stars follow
 pub IsRead-end : (text : Text) (f e : ℕ) → IsRead text f e → (Has text e star → Has text (e + 1) star → ⊥)
     → IsTokenEnd text f kind.Recursive e
 unfolding IsRead IsTokenEnd
@@ -233,6 +233,6 @@ no_units : (text : Text) (f : ℕ) (units : List Token) → UnitsBetween text f 
 no_units text f [] between folded = between
 no_units text f (t ∷ ts) between folded = absurd (omega (arith, folded_some t ts, ap length folded))
 
--- where no token is left, the text ends
+-- if no token is left, the text ends
 pub end_of_text : (text : Text) (f : ℕ) → TokensFrom text f [] → f ≡ length text
 end_of_text text f from = no_units text f from.0 from.1 from.2

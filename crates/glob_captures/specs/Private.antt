@@ -1,3 +1,4 @@
+-- Definitions that only private contracts cite.
 pub mod Ends
 pub mod Fronts
 pub mod Rests

@@ -10,8 +10,8 @@ use Rattle.glob_pattern.specs.declared.options.MatchOptions.{MatchOptions}
 unfoldable pub TakeFront : MatchOptions → List Token → Text → (n k : ℕ) → Type 0
 TakeFront o tokens text n k = PrefixSplits (table_of o tokens text) (map shape_of tokens) n k
 
--- Token n waits at place k: the tokens before it take the text up to k; or they take it up to an earlier place, from
--- which on token n takes every character up to k, and its pieces may have any number of characters.
+-- Token n waits at place k if the tokens before it take the text up to k. So does a token with pieces of any length, if
+-- the tokens before it take the text up to an earlier place, and it takes every character from there up to k.
 unfoldable pub Waits : MatchOptions → List Token → Text → (n k : ℕ) → Type 0
 Waits o tokens text n k = IsAlive (table_of o tokens text) (map shape_of tokens) n k
 

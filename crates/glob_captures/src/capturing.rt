@@ -10,7 +10,7 @@ ghost use Rattle.glob_captures.specs.Private.Ends.{may_end, IsFirstEnd, IsShorte
 use crate::error::CapturesError;
 use crate::piece::Piece;
 use crate::rests::{Rests, rests_of};
-use crate::span::{Span, span_of};
+use crate::span::{WildcardSpan, span_of};
 use crate::steps::{MOST_STEPS, bytes_of, form_of, is_too_large};
 use glob_pattern::{MatchOptions, Pattern, characters_of, opens, tokens_len};
 use std::alloc::{AllocError, Allocator};
@@ -64,7 +64,7 @@ fn shortest_pieces<A: Allocator + Copy, B: Allocator>(
     pattern: &Pattern<B>,
     options: MatchOptions,
     text: &[char],
-    span: Span,
+    span: WildcardSpan,
     rests: &[Rests<A>],
 ) -> Result<Vec<Piece, A>, AllocError>
     requires bytes { length (encode_utf8_all text.now) < 2 ^ 64 }
@@ -95,7 +95,7 @@ fn shortest_end<A: Allocator, B: Allocator>(
     options: MatchOptions,
     text: &[char],
     place: usize,
-    span: Span,
+    span: WildcardSpan,
     rests: &[Rests<A>],
 ) -> usize
     requires token { token < length (tokens_of (chars pattern.now)) }

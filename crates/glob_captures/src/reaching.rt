@@ -131,8 +131,8 @@ fn fronts_at_start<A: Allocator>(alloc: A, text: &[char]) -> Result<Vec<bool, A>
     Ok(places)
 }
 
-/// Extends `whole`, the places up to which the tokens before this one take the text, to those up to which they and this
-/// one take it. Sets `alive` to the places where this one waits.
+/// Updates `whole`, the places up to which the first tokens take the text, to include this token. Sets `alive` to the
+/// places where this token waits.
 fn step<A: Allocator>(
     pattern: &Pattern<A>,
     token: usize,

@@ -5,7 +5,7 @@ ghost use Rattle.glob_text.specs.Text.{opens};
 ghost use Rattle.std.specs.Prelude.{IsTrue};
 ghost use Rattle.glob_captures.specs.Private.Rests.{AreRests, AreInnerRests, IsSpan, TakesRest, grows, shape_at};
 
-use crate::span::Span;
+use crate::span::WildcardSpan;
 use crate::steps::{Form, form_of, takes_if};
 use glob_pattern::{MatchOptions, Pattern, opens, tokens_len};
 use std::alloc::{AllocError, Allocator};
@@ -42,7 +42,7 @@ pub fn rests_of<A: Allocator + Copy, B: Allocator>(
     pattern: &Pattern<B>,
     options: MatchOptions,
     text: &[char],
-    span: Span,
+    span: WildcardSpan,
 ) -> Result<Vec<Rests<A>, A>, AllocError>
     requires span { IsSpan (tokens_of (chars pattern.now)) span }
     requires taken { TakesRest options (tokens_of (chars pattern.now)) text.now 0 0 }
@@ -89,7 +89,7 @@ fn rests_after_span<A: Allocator + Copy, B: Allocator>(
     pattern: &Pattern<B>,
     options: MatchOptions,
     text: &[char],
-    span: Span,
+    span: WildcardSpan,
 ) -> Result<Vec<bool, A>, AllocError>
     requires span { IsSpan (tokens_of (chars pattern.now)) span }
     requires some { span.first < span.last }
@@ -140,8 +140,8 @@ fn may_take(form: Form, text: &[char], place: usize, rest: bool, more: bool) -> 
     (rest && (!form.closes || opens(text, place + 1))) || (form.grows && more)
 }
 
-/// Whether a token and those after it take the rest from a place: the token takes a character there (`more`), or its
-/// piece may be empty.
+/// Whether a token and the tokens after it take the rest from a place: the token takes a character there (`more`), or
+/// its piece may be empty.
 #[inline(always)]
 fn is_taken(form: Form, rest: bool, more: bool) -> bool
     ensures { result ≡ (more || (form.grows && rest)) }

@@ -9,7 +9,7 @@ use std::alloc::Allocator;
 
 /// The numbers of the first and the last token that is `*` or `**`. If there is none, both are the number of tokens.
 #[derive(Clone, Copy)]
-pub struct Span {
+pub struct WildcardSpan {
     /// The number of the first.
     pub first: usize,
     /// The number of the last.
@@ -17,7 +17,7 @@ pub struct Span {
 }
 
 /// Where the wildcards are.
-pub fn span_of<A: Allocator>(pattern: &Pattern<A>) -> Span
+pub fn span_of<A: Allocator>(pattern: &Pattern<A>) -> WildcardSpan
     ensures { IsSpan (tokens_of (chars pattern.now)) result }
 {
     let tokens = tokens_len(pattern);
@@ -31,5 +31,5 @@ pub fn span_of<A: Allocator>(pattern: &Pattern<A>) -> Span
             }
         }
     }
-    Span { first, last }
+    WildcardSpan { first, last }
 }

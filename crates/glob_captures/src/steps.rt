@@ -9,8 +9,8 @@ ghost use Rattle.glob_captures.specs.Private.Rests.{IsFormAt};
 use glob_pattern::{MatchOptions, Pattern, TokenKind, opens, token_kind, token_takes, tokens_len};
 use std::alloc::Allocator;
 
-/// The most that a call accepts of the pattern's tokens times the text's bytes. A pattern of 8 tokens may have a text
-/// of 8 MiB.
+/// The greatest product of pattern tokens and text bytes that a call accepts. A pattern of 8 tokens may have a text of
+/// 8 MiB.
 pub const MOST_STEPS: usize = 1 << 26;
 
 /// Whether the tokens times the bytes are more than [`MOST_STEPS`].
@@ -24,7 +24,7 @@ pub fn is_too_large<A: Allocator>(pattern: &Pattern<A>, text: &str) -> bool
     }
 }
 
-/// What the pieces of a token may be.
+/// Which pieces a token may have.
 #[derive(Clone, Copy)]
 pub struct Form {
     /// They may have any number of characters, rather than exactly one.
@@ -33,7 +33,7 @@ pub struct Form {
     pub closes: bool,
 }
 
-/// What the pieces of token `token` may be.
+/// Which pieces token `token` may have.
 pub fn form_of<A: Allocator>(pattern: &Pattern<A>, token: usize) -> Form
     requires { token < length (tokens_of (chars pattern.now)) }
     ensures { IsFormAt (tokens_of (chars pattern.now)) token result }
@@ -54,7 +54,7 @@ pub fn form_of<A: Allocator>(pattern: &Pattern<A>, token: usize) -> Form
     }
 }
 
-/// Whether token `token` takes the character at `place`, where `may` says whether it may take one there.
+/// Whether token `token` takes the character at `place`. `may`: whether it may take one there at all.
 #[inline(always)]
 #[tactic(auto, unfolding(glob_pattern::specs::Private::TextTable::table_of))]
 pub fn takes_if<A: Allocator>(

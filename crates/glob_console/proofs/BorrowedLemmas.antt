@@ -14,7 +14,7 @@ same_tail e = cc
 abbrev borrowed_bytes : {W : Type 0} → (W → Option (List ℕ)) → Borrowed W → Option (List ℕ)
 borrowed_bytes held borrowed = option_map (λ bytes. borrowed.writer.ghost_name ∷ bytes) (held borrowed.writer.now)
 
--- the same reference came back, where the bytes are known
+-- the same reference came back, if the bytes are known
 Appends-named : (old new given : Option (List ℕ)) (n m : ℕ) (bytes : List ℕ) → Appends (option_map (λ l. n ∷ l) old)
     (option_map (λ l. m ∷ l) new) bytes → (n ≡ m → given ≡ new) → Appends old given bytes
 Appends-named None new given n m bytes wrote same = tt
@@ -22,8 +22,8 @@ Appends-named (Some xs) None given n m bytes wrote same = absurd wrote
 Appends-named (Some xs) (Some ys) given n m bytes wrote same =
     subst (λ l. Appends (Some xs) l bytes) (sym (same (sym (same_head wrote)))) (same_tail wrote)
 
--- `borrowed` is what was borrowed, `first` and `last` what the call saw and left, and `back` what came back. Where its bytes are
--- known, that is the reference that was borrowed.
+-- `borrowed` is what was borrowed, `first` and `last` are what the call saw and left, and `back` is what came back. If
+-- the bytes are known, `back` is the reference that was borrowed.
 module _ {W : Type 0} (held : W → Option (List ℕ)) (borrowed first last back : Borrowed W) (given : W) where
   -- What the call appended was appended behind the reference.
   pub Appends-borrowed : first ≡ borrowed → back ≡ last → (borrowed.writer.ghost_name ≡ back.writer.ghost_name → given ≡ back.writer.now)

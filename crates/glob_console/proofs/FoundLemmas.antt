@@ -13,7 +13,8 @@ use Rattle.glob_walk.specs.Machines.{MachineState, Saying, AsksLook, AsksList, S
 use Rattle.glob_walk.specs.Machines.{GivesNext, is_last, left_of, saying, step_units}
 use Rattle.glob_lines.specs.Lines.{AppendsFront, ended_record, with_ends}
 use Rattle.glob_walk.specs.Private.Walkers.{Walk}
-use Rattle.glob_walk.specs.Marks.{Mark, Item, Found, Unread, items, cost, front, IsBeginning}
+use Rattle.glob_walk.specs.Walks.{Mark, Item, Found, Unread, items, cost, front, IsBeginning, Outcome, Gives, LimitAt}
+use Rattle.glob_walk.specs.Walks.{NoMemory, outcome, error_outcome}
 use Rattle.glob_text.specs.Text.{Text}
 use Rattle.glob_walk.specs.declared.ending.End.{End}
 use Rattle.glob_walk.specs.declared.error.GlobCause.{GlobCause}
@@ -22,7 +23,6 @@ use Rattle.glob_walk.specs.declared.machine.Step.{Step}
 use Rattle.glob_walk.specs.declared.machine.Step.TheVariants as step
 use Rattle.glob_walk.specs.declared.ending.End.TheVariants as last
 use Rattle.glob_walk.specs.declared.error.GlobCause.TheVariants as cause
-use Rattle.glob_walk.specs.Walks.{Outcome, Gives, LimitAt, NoMemory, outcome, error_outcome}
 use Rattle.glob_walk.proofs.WalkLemmas.Giving.{upto_cut, upto_end, upto_limit}
 use Rattle.glob_walk.proofs.ListingLemmas.Marks.{IsBeginning-append}
 use Rattle.glob_console.specs.FoundPaths.{FindsPaths, FindsSomeBytes, GaveItems, has_any, has_unread, wanted_paths}
@@ -32,11 +32,11 @@ use Rattle.glob_console.proofs.ItemLemmas.{wanted_one, unwanted_one, wanted_push
 use Rattle.glob_console.proofs.WritingLemmas.{Queues-all, Queues-some, Queues-more, Queues-trans}
 use Rattle.glob_console.specs.declared.find.findings.Findings.{Findings}
 
--- what holds of a walk from its beginning on, over a known content
+-- what holds for a walk from its beginning on, over a known content
 abbrev pub Over : {X A : Type 0} → (X → Option Content) → X → MachineState (Walk A) → (List Mark → Content → Type 0) → Type 0
 Over tells of first P = (c : Content) → IsTold (tells of) c → (ms : List Mark) → HasGiven ms c [] first → P ms c
 
--- the walk is still going on, or it came to an end within which it gave these items
+-- the walk is still going on, or it ended and gave these items
 abbrev pub GoesOn : {X A : Type 0} → (X → Option Content) → X → MachineState (Walk A) → List Item → MachineState (Walk A) → End → Type 0
 GoesOn tells of first given walk e =
     ((e ≡ last.Done) × Over tells of first (λ ms c. HasGiven ms c given walk))
@@ -81,7 +81,7 @@ begins_from c ms given walk h =
     subst (λ js. IsBeginning js (items ms)) (sym u.same)
     (subst (λ l. IsBeginning (items u.done) (items l)) (sym u.whole) (IsBeginning-append u.done (left_of c walk)))
 
--- an error of a walk is no path
+-- an error of a walk is not a path
 abbrev IsNoPath : Outcome → Type 0
 IsNoPath (Gives (Found p)) = ⊥
 IsNoPath (Gives (Unread p k)) = ⊤
@@ -107,7 +107,7 @@ module _ {X A : Type 0} (end : ℕ) (f : Content → Text → Bool) (tells : X �
   abbrev pub Steps : Saying → Type 0
   Steps s = StepGoes (IsTold (tells tree)) n walk s walk'
 
-  -- the step comes of what is left, or the walk has ended
+  -- the step is the next of what is left, or the walk has ended
   goes_on : (s : Saying) → Steps s
       → ((findings.end ≡ last.Done) × Over tells of first (λ ms c. GivesNext ms c w.given s walk'))
       ⊎ ((s ≡ Ends) × Over tells of first (λ ms c. GaveItems ms first.limit findings.end w.given))
@@ -116,7 +116,7 @@ module _ {X A : Type 0} (end : ℕ) (f : Content → Text → Bool) (tells : X �
       (λ going. inl (going.0, λ c told ms begun. steps.gives c (told_here c told) ms w.given (going.1 c told ms begun)))
       (λ ended. inr ((steps.counts.counts.stays ended.0).0, ended.1)) w.going
 
-  -- an item is one of what is left
+  -- an item is among what is left
   gives : (o : Outcome) → Steps (Says o) → (findings.end ≡ last.Done) × Over tells of first (λ ms c. GivesNext ms c w.given (Says o) walk')
   gives o steps = by_going (goes_on (Says o) steps)
     where
@@ -126,7 +126,7 @@ module _ {X A : Type 0} (end : ℕ) (f : Content → Text → Bool) (tells : X �
       by_going (inl said) = said
       by_going (inr (is, gave)) = absurd (cc)
 
-  -- so it is one of the listing
+  -- so it is an item of the listing
   has_given : (o : Outcome) (item : Item) → o ≡ Gives item → Steps (Says o) → Over tells of first
       (λ ms c. HasGiven ms c (w.given ++ item ∷ []) walk')
   has_given o item is steps c told ms begun = subst (λ p. GivesNext ms c w.given (Says p) walk') is ((gives o steps).1 c told ms begun)
@@ -307,7 +307,7 @@ module _ {X A : Type 0} (end : ℕ) (f : Content → Text → Bool) (tells : X �
     abbrev pub Writes : Step A → Findings → Type 0
     Writes s findings' = StepWrites end IsAnswered s findings findings' (Queues held waiting held' waiting') waiting'
 
-    -- an item was written, or waits, where it is wanted
+    -- an item that is wanted was written, or waits
     Written-item : (item : Result (PathBuf A) (GlobError A)) → Steps (Says (outcome item)) → (findings' : Findings)
         → Writes (step.Item item) findings'
         → Written end f tells of first old tree' walk' findings' held' waiting'

@@ -6,7 +6,7 @@ use Rattle.std.proofs.lemmas.List.Concat.{flat_map-append}
 use Rattle.std.proofs.lemmas.List.Elements.{filter-append}
 use Rattle.glob_text.specs.Text.{Text}
 use Rattle.glob_lines.specs.Lines.{ended_record, with_ends}
-use Rattle.glob_walk.specs.Marks.{Item, Found, Unread, paths}
+use Rattle.glob_walk.specs.Walks.{Item, Found, Unread, paths}
 use Rattle.glob_console.specs.FoundPaths.{has_any, has_unread, wanted_paths}
 
 pub paths-append : (is js : List Item) → paths (is ++ js) ≡ paths is ++ paths js
@@ -28,12 +28,12 @@ has_unread-push [] p k = refl
 has_unread-push (Found q ∷ is) p k = has_unread-push is p k
 has_unread-push (Unread q l ∷ is) p k = refl
 
--- what is wanted of some items and of those after them
+-- the wanted paths of some items and of the items after them
 pub wanted-append : (wanted : Text → Bool) (is js : List Item) → wanted_paths wanted (is ++ js) ≡ wanted_paths wanted
     is ++ wanted_paths wanted js
 wanted-append wanted is js = ap (filter wanted) (paths-append is js) ∙ filter-append wanted (paths is) (paths js)
 
--- the records of these paths are a beginning of those of all
+-- the records of these paths are a prefix of the records of all
 pub records_begin : (end : ℕ) (wanted : Text → Bool) (texts : List Text) (given more all : List Item)
     → texts ≡ wanted_paths wanted given → all ≡ given ++ more
     → with_ends end (wanted_paths wanted all) ≡ with_ends end texts ++ with_ends end (wanted_paths wanted more)

@@ -13,19 +13,19 @@ use Rattle.glob_walk.specs.declared.ending.End.TheVariants as end
 use Rattle.glob_console.specs.declared.find.findings.Findings.{Findings}
 use Rattle.glob_console.specs.Private.Writing.{noting}
 
--- a refusal ends the walk so
+-- how a refusal ends the walk
 pub noting_end : (f : Findings) (o : Outcome) (e : End) → refusal_end o ≡ Some e → noting f o ≡ record f { end = e }
 noting_end f (Gives item) e is = absurd (cc)
 noting_end f (LimitAt path) e is = ap (λ x. record f { end = x }) (same_Some end.Limit e is)
 noting_end f NoMemory e is = ap (λ x. record f { end = x }) (same_Some end.Memory e is)
 
--- a path is a path
+-- the item of a path is a path
 pub noting_path : {A : Type 0} (f : Findings) (item : Result (PathBuf A) (GlobError A)) → is_ok item ≡ true → noting f
     (outcome item) ≡ record f { has_path = true }
 noting_path f (Ok path) is = refl
 noting_path f (Err error) is = absurd (cc)
 
--- an error that is no refusal is a directory that could not be listed
+-- an error that is not a refusal is about a directory that could not be listed
 pub noting_error : {A : Type 0} (f : Findings) (item : Result (PathBuf A) (GlobError A)) → is_ok item ≡ false
     → refusal_end (outcome item) ≡ None → noting f (outcome item) ≡ record f { has_error = true }
 noting_error f (Ok path) is none = absurd (cc)

@@ -43,7 +43,7 @@ is_limit-numeral word e =
     let (some, others) = both _ _ e in
     (ltb-true 0 (length word) some, ltb-true (digits_value 10 word) (2 ^ 64) (both _ _ (both _ _ others).1).1)
 
--- of at most twenty digits, `parse` gives the limit
+-- for at most twenty digits, `parse` gives the limit
 pub result_ok-limit : {E : Type 0} (r : Result ℕ E) (word : List ℕ) → length word ≤ 20 → list_all is_ascii_digit word ≡
     true → ParsesUnsigned 64 10 word r
     → result_ok r ≡ limit_of word

@@ -4,11 +4,10 @@ use Rattle.std.specs.List.{filter}
 use Rattle.std.specs.Io.KnownBytes.{Appends}
 use Rattle.glob_lines.specs.Lines.{AppendsFront, with_ends}
 use Rattle.glob_pattern.specs.Words.{refusal_words}
-use Rattle.glob_walk.specs.Marks.{Mark, Item, Found, Unread, items, cost, front, paths}
+use Rattle.glob_walk.specs.Walks.{Mark, Item, Found, Unread, items, cost, front, paths, IsCutShort, RefusesWith}
 use Rattle.glob_text.specs.Text.{Text}
 use Rattle.glob_walk.specs.declared.ending.End.{End}
 use Rattle.glob_walk.specs.declared.ending.End.TheVariants as end
-use Rattle.glob_walk.specs.Walks.{IsCutShort, RefusesWith}
 use Rattle.glob_walk.specs.Components.{walk_fault}
 use Rattle.glob_console.specs.declared.find.fault.FindFault.{FindFault}
 use Rattle.glob_console.specs.declared.find.fault.FindFault.TheVariants.{Pattern, Memory, Write}
@@ -37,14 +36,15 @@ wanted_paths wanted is = filter wanted (paths is)
 abbrev pub found_status : (wanted : Text → Bool) → List Item → ℕ
 found_status wanted is = if has_unread is then 2 else (if has_any (wanted_paths wanted is) then 0 else 1)
 
--- The items that a walk with this limit gave if it ended so: all items of the listing; those before the first unit of
--- work that does not fit; or, if an allocation failed, those of the units charged, perhaps without the last.
+-- The items that a walk with this limit gave, by how it ended: all items of the listing; the items before the first
+-- unit of work that does not fit; or, if an allocation failed, the items of the units charged, perhaps without the
+-- last.
 abbrev pub GaveItems : (listing : List Mark) → (limit : ℕ) → End → List Item → Type 0
 GaveItems ms limit end.Done given = (cost ms ≤ limit) × (given ≡ items ms)
 GaveItems ms limit end.Limit given = (limit < cost ms) × (given ≡ items (front limit ms))
 GaveItems ms limit end.Memory given = (spent : ℕ) × (spent ≤ limit) × IsCutShort ms spent given
 
--- The wanted paths among the items of the walk were written, a record each, in order, whether or not there were errors.
+-- The wanted paths among the items of the walk were written, a record each, in order, even if there were errors.
 abbrev pub FindsPaths : (end : ℕ) → (wanted : Text → Bool) → (listing : List Mark) → (limit : ℕ)
     → (old new : Option (List ℕ)) → Findings → Type 0
 FindsPaths end wanted ms limit old new findings =
@@ -64,7 +64,7 @@ unfoldable pub IsFindStatus : (wanted : Text → Bool) → (listing : List Mark)
 IsFindStatus wanted ms limit status =
     (status ≡ 2) ⊎ ((cost ms ≤ limit) × (status ≡ found_status wanted (items ms)))
 
--- the status of what was found
+-- the status of the findings
 abbrev pub status_of : Findings → ℕ
 status_of findings = elim findings.end [
   | end.Done ↦ if findings.has_error then 2 else (if findings.has_path then 0 else 1)
@@ -72,8 +72,8 @@ status_of findings = elim findings.end [
   | end.Memory ↦ 2
 ]
 
--- What was written, and the status: all wanted paths that were found, with the status of the findings; or, with the
--- status 2, only the first bytes of the records of all wanted paths of the listing.
+-- What was written, and the status. Either all wanted paths that were found were written, with the status of the
+-- findings; or the status is 2, and only the first bytes of the records of the listing's wanted paths were written.
 unfoldable pub WritesFound : (end : ℕ) → (wanted : Text → Bool) → (listing : List Mark) → (limit : ℕ)
     → (old new : Option (List ℕ)) → (status : ℕ) → Type 0
 WritesFound end wanted ms limit old new status =
@@ -92,14 +92,14 @@ IsWriting (Pattern refusal) = ⊥
 IsWriting Memory = ⊤
 IsWriting (Write error) = ⊤
 
--- the fault is the one that the pattern is refused with, or a failed allocation or write
+-- the fault is the refusal of the pattern, or a failed allocation or write
 abbrev pub IsFindFault : (pattern : Text) → FindFault → Type 0
 IsFindFault pattern (Pattern refusal) = RefusesWith (walk_fault pattern) refusal
 IsFindFault pattern Memory = ⊤
 IsFindFault pattern (Write error) = ⊤
 
--- The message of a fault. Its line says `out of memory` instead if there is no memory for it, and a failed write may
--- have no line.
+-- The message of a fault. If there is no memory for its line, the line says `out of memory`; a failed write may have no
+-- line.
 abbrev pub find_fault_words : FindFault → Text
 find_fault_words (Pattern refusal) = refusal_words refusal
 find_fault_words Memory = codes "out of memory"

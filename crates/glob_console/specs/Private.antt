@@ -1,1 +1,2 @@
+-- Definitions that only private contracts cite.
 pub mod Writing

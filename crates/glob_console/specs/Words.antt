@@ -23,7 +23,7 @@ is_limit word =
 abbrev pub limit_of : Text → Option ℕ
 limit_of word = if is_limit word then Some (digits_value 10 word) else None
 
--- the options with the one that the word sets: a hyphen and the letter of a match option
+-- the options, plus the one that the word sets: a hyphen and the letter of a match option
 abbrev pub option_set : Text → MatchOptions → Option MatchOptions
 option_set [] options = None
 option_set (dash ∷ []) options = None

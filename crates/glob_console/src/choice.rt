@@ -12,7 +12,7 @@ use std::alloc::{AllocError, Allocator};
 use std::io::Write;
 
 /// Decides which paths of a walk are written, perhaps by looking them up in the tree, and how errors of the walk are
-/// reported. The same choice gives the same answer for the same path and content.
+/// reported. A choice always gives the same answer for the same path and content.
 ///
 /// ```text
 /// struct Directories;

@@ -37,7 +37,7 @@ impl<'e, A: Allocator + Copy, E: Write> ErrorLines<'e, A, E> {
         }
     }
 
-    /// The same, but silent about a failed write whose reader is gone (a broken pipe).
+    /// The same, but silent about a failed write if the reader of the output is gone (a broken pipe).
     pub fn quiet(alloc: A, prefix: &'e str, writer: &'e mut E) -> Self
         ensures prefix { result.prefix.now ≡ prefix.entry.now }
         ensures quiet { result.is_quiet ≡ true }
@@ -70,6 +70,17 @@ impl<'e, A: Allocator + Copy, E: Write> ErrorLines<'e, A, E> {
         FAULT
     }
 
+    /// Writes the line of a failed allocation, `out of memory`, and returns the exit status of a fault.
+    pub fn memory_fault(&mut self) -> u8
+        ensures status { result ≡ 2 }
+        ensures line { WritesLine self.old.prefix.now (codes "out of memory")
+            (E.contents self.old.writer.now) (E.contents self.new.writer.now) }
+        ensures prefix { self.new.prefix.now ≡ self.old.prefix.now }
+        ensures quiet { self.new.is_quiet ≡ self.old.is_quiet }
+    {
+        self.fault("out of memory")
+    }
+
     /// Writes the line of a failed write to the output, `writing failed`, and returns the exit status of a fault. Quiet
     /// lines say nothing if the reader of the output is gone.
     pub fn write_fault(&mut self, error: &io::Error) -> u8
@@ -100,7 +111,7 @@ impl<'e, A: Allocator + Copy, E: Write> ErrorLines<'e, A, E> {
         ensures quiet { self.new.is_quiet ≡ self.old.is_quiet }
     {
         match error.kind() {
-            io::ErrorKind::OutOfMemory => self.fault("out of memory"),
+            io::ErrorKind::OutOfMemory => self.memory_fault(),
             _ => self.fault(message),
         }
     }
@@ -132,7 +143,7 @@ fn write_scarce<E: Write>(prefix: &str, writer: &mut E) -> io::Result<()>
     write_whole(writer, b"out of memory\n")
 }
 
-/// Whether a failed write is reported: it is not if the lines are quiet and the reader is gone.
+/// Whether a failed write is reported: not if the lines are quiet and the reader is gone.
 fn is_reported(is_quiet: bool, error: &io::Error) -> bool
     ensures { IsFalse result ↔ (IsTrue is_quiet × (error_kind error.now ≡ BrokenPipe)) }
 {

@@ -17,5 +17,5 @@ pub use find::fault::FindFault;
 pub use find::findings::Findings;
 pub use find::{WalkSettings, find_in};
 pub use status::{FAULT, FOUND, UNFOUND};
-pub use words::{arguments, parse_limit, set_match_option, words_of};
+pub use words::{arguments, as_strs, parse_limit, set_match_option};
 pub use writing::write_text;

@@ -14,7 +14,7 @@ pub fn arguments(rt: &HostRuntime) -> io::Result<Vec<String>> {
 }
 
 /// The texts of the arguments.
-pub fn words_of<A: Allocator + Copy>(
+pub fn as_strs<A: Allocator + Copy>(
     alloc: A,
     arguments: &[String<A>],
 ) -> Result<Vec<&str, A>, AllocError>
@@ -42,7 +42,7 @@ pub fn set_match_option(options: &mut MatchOptions, word: &str) -> bool
     }
 }
 
-/// The options with the one that the word sets: a hyphen and the letter of a match option.
+/// The options, plus the one that the word sets: a hyphen and the letter of a match option.
 fn option_set(options: MatchOptions, word: &str) -> Option<MatchOptions>
     ensures { result ≡ option_set word.now options }
 {

@@ -1,4 +1,4 @@
--- The paths of a walk, of which the rules choose some.
+-- The paths of a walk that the rules choose.
 use Rattle.std.proofs.Common.{◌≡◌, ◌≢◌, Less, ◌↔◌, Bool, true, false, not, IsTrue, List, refl, subst}
 use Rattle.std.proofs.lemmas.Bool.{false≢true}
 use Rattle.glob.specs.Content.{Content}
@@ -16,14 +16,15 @@ module _ (rules : CopyRules) (path : Text) where
   unfolding Copies
   Copies-not_included none copies = none copies.0
 
-  -- another is, unless an exclude pattern matches it
-  pub Copies-unless : AnyMatch rules.include.options rules.include.patterns path → (excluded : Bool) → (IsTrue excluded ↔ AnyMatch rules.exclude.options rules.exclude.patterns path)
+  -- any other path is copied, unless an exclude pattern matches it
+  pub Copies-unless : AnyMatch rules.include.options rules.include.patterns path → (excluded : Bool) →
+      (IsTrue excluded ↔ AnyMatch rules.exclude.options rules.exclude.patterns path)
       → IsTrue (not excluded) ↔ Copies rules path
   unfolding Copies
   Copies-unless included true tells = (λ no. absurd (false≢true no), λ copies. absurd (copies.1 (tells.0 refl)))
   Copies-unless included false tells = (λ _. (included, λ any. false≢true (tells.1 any)), λ _. refl)
 
--- what was kept of the sources is what is to be copied
+-- the sources that were kept are the ones to be copied
 pub AreToCopy-kept : (c : Content) (pattern : Text) (rules : CopyRules) (found files : List Text) → AreSources c pattern found
     → AreKept (Copies rules) found files → AreToCopy c pattern rules files
 AreToCopy-kept c pattern rules found files are keeps =
@@ -35,7 +36,8 @@ AreToCopy-kept c pattern rules found files are keeps =
           );
       orderly = record {
         once = λ one. AreKept-AllPairs P (λ path later. path ≢ later) found files keeps (are.orderly.once one);
-        ascending = λ one. AreKept-AllPairs P (λ path later. path_cmp path later ≡ Less) found files keeps (are.orderly.ascending one);
+        ascending = λ one few. AreKept-AllPairs P (λ path later. path_cmp path later ≡ Less) found files keeps
+            (are.orderly.ascending one few);
       };
       listed = subst (λ paths. AreKept P paths files) are.listed keeps;
     }

@@ -1,5 +1,7 @@
--- A folder's name that is escaped, and the pattern of all that is below it.
-use Rattle.std.proofs.Common.{◌≡◌, ◌≢◌, ℕ, ◌+◌, ◌-◌, ◌<◌, ◌≤◌, ◌↔◌, inr, ⊎_elim, Bool, true, false, not, ◌&&◌, ◌||◌, ◌==◌, List, [], ◌∷◌, ◌++◌, length, drop, map, slice_index, refl, sym, ap, subst, ◌∙◌, arith, append_assoc}
+-- A folder's escaped name, and the pattern for everything below the folder.
+use Rattle.std.proofs.Common.{◌≡◌, ◌≢◌, ℕ, ◌+◌, ◌-◌, ◌<◌, ◌≤◌, ◌↔◌, inr, ⊎_elim, Bool, true, false, not, ◌&&◌, ◌||◌}
+use Rattle.std.proofs.Common.{◌==◌, List, [], ◌∷◌, ◌++◌, length, drop, map, slice_index, refl, sym, ap, subst, ◌∙◌}
+use Rattle.std.proofs.Common.{arith, append_assoc}
 use Rattle.std.proofs.lemmas.Bool.{false≢true, and_parts, and_from, or_cases, or_right, eqb-true, eq-eqb, cases_lt, cond_both}
 use Rattle.glob.specs.Characters.{slash}
 use Rattle.glob.specs.Text.{Text, Has}
@@ -46,7 +48,8 @@ module _ (whole : Text) (f : ℕ) (at : drop f whole ≡ all_below) where
   deep : UnitAt whole (f + 1) Recursive (f + 4)
   deep = (
     (
-      (λ k low high. ⊎_elim (λ one. stands_at k 1 star (omega arith) (omega arith) refl) (λ two. stands_at k 2 star (omega arith) (omega arith) refl) (cases_lt k (f + 2))),
+      (λ k low high. ⊎_elim (λ one. stands_at k 1 star (omega arith) (omega arith) refl)
+          (λ two. stands_at k 2 star (omega arith) (omega arith) refl) (cases_lt k (f + 2))),
       other (f + 1 + 2) 3 star (omega arith) (omega arith) (λ e. absurd (cc)),
       (λ _. other (f + 1 - 1) 0 star (omega arith) (omega arith) (λ e. absurd (cc))),
     ),
@@ -71,7 +74,7 @@ module _ (whole : Text) (f : ℕ) (at : drop f whole ≡ all_below) where
     (f + 4, deep, (f + 5, run, sym long)),
   )
 
--- and of an escaped name before it
+-- the units of an escaped name before it
 units-written : (cs whole : Text) (f : ℕ) → drop f whole ≡ escaped_text cs ++ all_below → f ≤ length whole
     → UnitsBetween whole f (map escaped_token cs ++ below_tokens) (length whole)
 units-written [] whole f e h = units-below whole f e
@@ -84,11 +87,12 @@ units-written (c ∷ cs) whole f e h =
           (length-after_piece whole (escaped_character c) rest f first h),
     )
 
--- an escaped character takes itself alone, and what is after it goes on
+-- an escaped character takes only itself, and the tokens after it take the rest
 fits-escaped : (x : ℕ) (ts : List Token) (b : Bool) (cs : Text)
     → fits path_options (escaped_token x ∷ ts) b cs ≡ one_then path_options (escaped_token x) (fits path_options ts) b cs
 fits-escaped x ts b cs =
-    cond_both (is_special x) (OneOf (Single x ∷ [])) (Literal x) (λ t. fits path_options (t ∷ ts) b cs ≡ one_then path_options t (fits path_options ts) b cs) (λ _. refl) (λ _. refl)
+    cond_both (is_special x) (OneOf (Single x ∷ [])) (Literal x)
+    (λ t. fits path_options (t ∷ ts) b cs ≡ one_then path_options t (fits path_options ts) b cs) (λ _. refl) (λ _. refl)
 
 same_character : (c x : ℕ) → is_same true c x ≡ true → c ≡ x
 same_character c x h = ⊎_elim (λ e. eqb-true c x e) (λ never. absurd (false≢true never)) (or_cases (c == x) false h)
@@ -101,7 +105,8 @@ fits-name : (name : Text) (ts : List Token) (b : Bool) (text : Text) → fits pa
 fits-name [] ts b text h = (text, b, refl, h)
 fits-name (x ∷ name) ts b [] h = absurd (false≢true (sym (fits-escaped x (map escaped_token name ++ ts) b []) ∙ h))
 fits-name (x ∷ name) ts b (c ∷ cs) h =
-    let both = and_parts (takes path_options b c (escaped_token x)) _ (sym (fits-escaped x (map escaped_token name ++ ts) b (c ∷ cs)) ∙ h) in
+    let both = and_parts (takes path_options b c (escaped_token x)) _
+    (sym (fits-escaped x (map escaped_token name ++ ts) b (c ∷ cs)) ∙ h) in
     let same : c ≡ x = same_character c x (sym ((stands-literal path_options _ _ x (escaped_stands x)).1 b c) ∙ both.0) in
     let (rest, after, is, others) = fits-name name ts (c == slash) cs both.1 in
     (rest, after, ap (λ y. y ∷ cs) same ∙ ap (λ ys. x ∷ ys) is, others)
@@ -111,7 +116,8 @@ fits-from_name : (name : Text) (ts : List Token) (b : Bool) (rest : Text) → ((
 fits-from_name [] ts b rest h = h b
 fits-from_name (x ∷ name) ts b rest h =
     fits-escaped x (map escaped_token name ++ ts) b (x ∷ name ++ rest)
-    ∙ and_from _ _ ((stands-literal path_options _ _ x (escaped_stands x)).1 b x ∙ is_same-itself x) (fits-from_name name ts (x == slash) rest h)
+    ∙ and_from _ _ ((stands-literal path_options _ _ x (escaped_stands x)).1 b x ∙ is_same-itself x)
+    (fits-from_name name ts (x == slash) rest h)
 
 -- what `**/*` takes: any text
 either : (e m c : Bool) → (m || c) ≡ true → ((not e && true) && m || (e && m || c)) ≡ true
@@ -120,7 +126,8 @@ either false m c h = h
 
 any_fits : (b : Bool) (text : Text) → fits path_options (Recursive ∷ AnySequence ∷ []) b text ≡ true
 any_fits b [] = refl
-any_fits b (c ∷ cs) = either (c == slash) (many_then path_options AnySequence (fits path_options []) (c == slash) cs) (closed_then path_options Recursive (fits path_options (AnySequence ∷ [])) (c == slash) cs) (any_fits (c == slash) cs)
+any_fits b (c ∷ cs) = either (c == slash) (many_then path_options AnySequence (fits path_options []) (c == slash) cs)
+    (closed_then path_options Recursive (fits path_options (AnySequence ∷ [])) (c == slash) cs) (any_fits (c == slash) cs)
 
 -- what `/**/*` takes: a separator and any text
 slash_fits : (b : Bool) (text : Text) → fits path_options below_tokens b text ≡ true → (rest : Text) × (text ≡ slash ∷ rest)
@@ -132,12 +139,14 @@ pub Matches-below : (folder pattern text : Text) → pattern ≡ escaped_text fo
     → Matches path_options pattern text ↔ ((rest : Text) × (text ≡ folder ++ slash ∷ rest))
 Matches-below folder pattern text is =
     let units : List Token = map escaped_token folder ++ below_tokens in
-    let decides = Decides-Matches path_options pattern text (λ tokens. ((reading_of-Ok pattern tokens).1, (reading_of-Ok pattern tokens).0)) in
+    let decides = Decides-Matches path_options pattern text (λ tokens.
+    ((reading_of-Ok pattern tokens).1, (reading_of-Ok pattern tokens).0)) in
     let reads : is_match path_options pattern text ≡ fits path_options units true text =
     is_match-units path_options pattern text units (units-written folder pattern 0 is (omega arith)) in (
       (λ matches.
           let (rest, after, split, others) = fits-name folder below_tokens true text (sym reads ∙ decides.1 matches) in
           let (more, begins) = slash_fits after rest others in
           (more, split ∙ ap (λ xs. folder ++ xs) begins)),
-      (λ below. decides.0 (reads ∙ ap (fits path_options units true) below.1 ∙ fits-from_name folder below_tokens true (slash ∷ below.0) (λ after. any_fits true below.0))),
+      (λ below. decides.0 (reads ∙ ap (fits path_options units true) below.1 ∙
+          fits-from_name folder below_tokens true (slash ∷ below.0) (λ after. any_fits true below.0))),
     )

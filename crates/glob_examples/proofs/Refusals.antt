@@ -1,4 +1,4 @@
--- The first component that is no pattern.
+-- The first component that is not a pattern.
 use Rattle.std.proofs.Common.{◌≡◌, ℕ, ◌+◌, List, ◌∷◌, ◌++◌, length, take, drop, map, Option, Some, sym, ap, ◌∙◌}
 use Rattle.std.proofs.lemmas.Iterator.{YieldsList}
 use Rattle.std.proofs.lemmas.Iterator.Consumers.{YieldsList-turn, YieldsList-so_far}
@@ -11,12 +11,15 @@ use Rattle.glob_pattern.specs.declared.error.PatternRefusal.{PatternRefusal}
 use Rattle.glob_walk.proofs.WalkLemmas.Reading.{drop_from}
 use Rattle.glob_examples.specs.Names.{IsComponent, RefusesComponent}
 
--- A refusal of the component that a reading of the components has come to, before which all are patterns.
-pub RefusesComponent-turn : {S A : Type 0} {steps : S → Option A → S → Type 0} {shows : A → List ℕ} {s : S} {components : List (List ℕ)} → YieldsList steps shows s components
-    → (yielded : List A) (t : S) → Yields steps s yielded t → (next : Option A) (u : S) (component : A) → next ≡ Some component → steps t next u
+-- A refusal of the next component to be read, if all components before it are patterns.
+pub RefusesComponent-turn : {S A : Type 0} {steps : S → Option A → S → Type 0} {shows : A → List ℕ} {s : S}
+    {components : List (List ℕ)} → YieldsList steps shows s components
+    → (yielded : List A) (t : S) → Yields steps s yielded t → (next : Option A) (u : S) (component : A) → next ≡
+    Some component → steps t next u
     → (front : List (List ℕ)) → front ≡ map shows yielded → All IsComponent front
     → (refusal : PatternRefusal) → Refuses (chars (shows component)) refusal → RefusesComponent components refusal
-RefusesComponent-turn {shows = shows} {components = components} reading yielded t read next u component is step front before accepted refusal refuses =
+RefusesComponent-turn {shows = shows} {components = components} reading yielded t read next u component is step front
+    before accepted refusal refuses =
     let n : ℕ = length yielded in
     let c : List ℕ = shows component in
     let turn = YieldsList-turn reading yielded t read next u component is step in

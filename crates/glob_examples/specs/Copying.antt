@@ -4,8 +4,7 @@ use Rattle.glob.specs.Characters.{slash}
 use Rattle.glob.specs.Content.{Content}
 use Rattle.glob.specs.Goal.{goal, IsOrderly}
 use Rattle.glob.specs.Lines.{AreKept}
-use Rattle.glob.specs.Listing.{listing}
-use Rattle.glob.specs.Marks.{items, paths}
+use Rattle.glob.specs.Walks.{listing, items, paths}
 use Rattle.glob.specs.Matching.Options.{new_options}
 use Rattle.glob.specs.Text.{Text}
 use Rattle.glob_set.specs.Sets.{Set, AnyMatch}
@@ -21,8 +20,8 @@ Copies rules path =
     AnyMatch rules.include.options rules.include.patterns path
     × (¬ (AnyMatch rules.exclude.options rules.exclude.patterns path))
 
--- The files are all paths in the tree that the undivided pattern matches and the rules copy: each once and in order, as
--- far as its `**` components allow, and in the order of the written listing.
+-- The files are all paths in the tree that the undivided pattern matches and the rules copy, in the order of the
+-- written listing. As far as the pattern's `**` components allow, each comes once and in order.
 pub record AreToCopy (c : Content) (pattern : Text) (rules : CopyRules) (files : List Text) : Type 0 where
   pub exact : (path : Text)
       → Contains files path ↔ (Contains (goal c new_options pattern) path × Copies rules path)

@@ -11,8 +11,8 @@ use Rattle.glob.specs.Matching.Texts.{Matches}
 use Rattle.glob_pattern.specs.declared.error.PatternRefusal.{PatternRefusal}
 
 -- the parts of a text between separators: a path's names, or a path pattern's components
-abbrev pub names_of : List ℕ → List (List ℕ)
-names_of text = slice_split (λ b. b == slash) text
+abbrev pub split_names : List ℕ → List (List ℕ)
+split_names text = slice_split (λ b. b == slash) text
 
 -- `**`, the component for any number of names
 abbrev pub any_names : List ℕ

@@ -6,14 +6,12 @@ use Rattle.glob.specs.Components.{walk_fault}
 use Rattle.glob.specs.Content.{Content}
 use Rattle.glob.specs.Goal.{is_plain}
 use Rattle.glob.specs.GlobErrors.{path_of, error_of, cause_of}
-use Rattle.glob.specs.Listing.{listing}
-use Rattle.glob.specs.Marks.{Unread as UnreadItem, items, cost}
+use Rattle.glob.specs.Walks.{listing, Unread as UnreadItem, items, cost, RefusesWith}
 use Rattle.glob.specs.Matching.Options.{new_options}
 use Rattle.glob.specs.Text.{Text}
 use Rattle.glob.specs.Types.{GlobCause, GlobError, PatternRefusal}
 use Rattle.glob.specs.Variants.GlobCause as cause
 use Rattle.glob.specs.Variants.PatternRefusal as refusal
-use Rattle.glob.specs.Walks.{RefusesWith}
 use Rattle.glob_examples.specs.declared.faults.WalkFault.{WalkFault}
 use Rattle.glob_examples.specs.declared.faults.WalkFault.TheVariants.{Syntax, NotPlain, Limit, Memory, Unread}
 
@@ -32,7 +30,7 @@ fault_by_cause cause.Limit e = Limit
 abbrev pub EndsAt : {A : Type 0} → Result (PathBuf A) (GlobError A) → WalkFault A → Type 0
 EndsAt {A = A} item fault = (fault ≡ Memory) ⊎ ((e : GlobError A) × (item ≡ Err e) × (fault ≡ fault_by_cause (cause_of e) e))
 
--- The pattern may be refused with the fault: its syntax error, that it is not plain, or a failed allocation.
+-- The fault may be why the pattern is refused: a syntax error, a failed allocation, or that it is not plain.
 abbrev pub IsPatternFault : {A : Type 0} → (pattern : Text) → WalkFault A → Type 0
 IsPatternFault pattern (Syntax e) = RefusesWith (walk_fault pattern) (refusal.Syntax e)
 IsPatternFault pattern NotPlain = (walk_fault pattern ≡ None) × (is_plain pattern ≡ false)
@@ -40,8 +38,8 @@ IsPatternFault pattern Limit = ⊥
 IsPatternFault pattern Memory = ⊤
 IsPatternFault pattern (Unread e) = ⊥
 
--- A walk by the pattern may fail with the fault: the pattern is refused, or it is plain and the walk is ended by its
--- limit, by an allocation failure, or by a directory that cannot be listed.
+-- A walk by the pattern may fail with the fault: the pattern is refused; or the pattern is plain, and the limit, an
+-- allocation failure, or a directory that cannot be listed ends the walk.
 abbrev pub IsWalkFault : {A : Type 0} → (pattern : Text) → WalkFault A → Type 0
 IsWalkFault pattern (Syntax e) = RefusesWith (walk_fault pattern) (refusal.Syntax e)
 IsWalkFault pattern NotPlain = (walk_fault pattern ≡ None) × (is_plain pattern ≡ false)

@@ -66,8 +66,8 @@ impl<A: Allocator + Copy> CopyRules<A> {
     }
 }
 
-/// The paths found by a plain pattern that the rules copy. Either the walk finishes, or its first error is returned, so
-/// over a tree with known content no path is missing. `limit` is in lookups, listings and entries.
+/// The paths that a plain pattern finds and the rules copy. If the walk does not finish, its first error is returned,
+/// so over a tree with known content no path is missing. `limit` is in lookups, listings and entries.
 ///
 /// All paths found are held in memory at once. Directories are paths too. With `src/**/*` and the lists `**/*.rs` and
 /// `**/tests/*`, `src/main.rs` is copied.
@@ -112,7 +112,7 @@ fn found_paths<T: Tree>(
     Ok(files)
 }
 
-/// Adds an item of a walk if it is a path, and returns it if it is an error. Otherwise fails only if allocation fails.
+/// Adds an item of a walk if it is a path, and returns it if it is an error. Also fails if allocation fails.
 fn push_found<A: Allocator>(
     files: &mut Vec<PathBuf<A>, A>,
     item: Result<PathBuf<A>, GlobError<A>>,

@@ -9,8 +9,9 @@ use glob::{Disk, MatchOptions, MemSystem, MemTree, PatternRefusal, System, Walk,
 use glob_tree::{PhysicalDisk, Strays};
 use std::alloc::Allocator;
 
-/// Walks the disk that a system reaches, for a pattern. If the system holds a known file system in which all names are
-/// UTF-8 and no symbolic link points to a directory, it finds what a walk over a tree in memory with this content does.
+/// Walks the disk that a system reaches, for a pattern. If the system holds a known file system in which each listed
+/// file can be looked up, all names are UTF-8 and no symbolic link points to a directory, the walk finds the same as a
+/// walk over a tree in memory with this content.
 pub fn walk_disk<S: System, A: Allocator + Copy>(
     alloc: A,
     system: S,
@@ -29,8 +30,9 @@ pub fn walk_disk<S: System, A: Allocator + Copy>(
 }
 
 /// Walks the disk that a system reaches, for a pattern, with symbolic links kept. If the system holds a known file
-/// system, it finds what a walk over a tree in memory does in which each symbolic link is a file, even one to a
-/// directory: nothing below a link is found. Names that are not UTF-8 go to `strays`.
+/// system in which each listed file can be looked up, the walk finds the same as a walk over a tree in memory in which
+/// each symbolic link is a file, even a link to a directory: nothing below a link is found. Names that are not UTF-8 go
+/// to `strays`.
 pub fn walk_physical<R: System, S: Strays, A: Allocator + Copy>(
     alloc: A,
     system: R,
@@ -50,8 +52,8 @@ pub fn walk_physical<R: System, S: Strays, A: Allocator + Copy>(
     walk_in(alloc, disk, pattern, options, limit)
 }
 
-/// Walks, for a pattern, a disk with the files of a tree in memory, whose directories are read in pieces of the given
-/// number of bytes. It finds what a walk over the tree itself does.
+/// Walks, for a pattern, a disk that has the files of a tree in memory and reads directories in pieces of the given
+/// number of bytes. The walk finds the same as a walk over the tree itself.
 pub fn walk_files<A: Allocator + Copy>(
     alloc: A,
     files: MemTree<A>,

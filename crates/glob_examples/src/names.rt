@@ -1,4 +1,4 @@
-//! Path patterns that are matched name by name: an example of a judge for another alphabet than text.
+//! Path patterns that are matched name by name: an example of a judge whose alphabet is not text.
 //!
 //! The characters of this alphabet are the names of a path, separated by `/`, and a token matches a whole name. So
 //! `a/**/*.rs` has three tokens: two patterns for one name each, and `**`, which matches any number of names. It

@@ -1,11 +1,10 @@
-//! A tree type of one's own, whose content contracts know, and a walk over it that the proof computes.
+//! A caller's own tree, whose content contracts know, and a walk over it that the proof computes.
 ghost use Rattle.std.specs.Prelude.{◌≡◌, ◌≢◌, false, [], ◌∷◌, Some, IfOk, IfErr, codes, option_and_then};
 ghost use Rattle.glob.specs.Answers.{entries_of};
 ghost use Rattle.glob.specs.Content.{resolve, step};
-ghost use Rattle.glob.specs.Marks.{Found};
+ghost use Rattle.glob.specs.Walks.{Found, AreItems};
 ghost use Rattle.glob.specs.Types.{End};
 ghost use Rattle.glob.specs.Variants.PatternRefusal.{Memory};
-ghost use Rattle.glob.specs.Walks.{AreItems};
 ghost use Rattle.glob_examples.specs.OneFile.{key_seen, one_file};
 
 use glob::{

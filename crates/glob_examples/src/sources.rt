@@ -13,7 +13,7 @@ use std::path::PathBuf;
 
 /// The sources of a build: each path below the current directory, or below `/` if the pattern begins with `/`, that the
 /// whole pattern matches case-sensitively and with the separator rule. It is an error if the pattern is not plain, the
-/// walk does not finish, or a directory on its way cannot be listed; so over a known content none is missing.
+/// walk does not finish, or a directory on its way cannot be listed; so over a known content no source is missing.
 pub fn sources<T: Tree>(
     alloc: T::Alloc,
     tree: T,

@@ -61,28 +61,41 @@ Selected selects bytes = selects bytes ≡ true
 abbrev pub AppendsFront : (old new : Option (List ℕ)) → (bytes : List ℕ) → Type 0
 AppendsFront old new bytes = (n : ℕ) × Appends old new (take n bytes)
 
--- The records that satisfy P were written, each with its end, after what the writer held before. `count` is their
--- number, which stops at `u64::MAX`.
-abbrev pub WritesKept : (end : ℕ) → (P : List ℕ → Type 0) → (input : List ℕ) → (old new : Option (List ℕ)) → (count : ℕ) → Type 0
-WritesKept end P input old new count =
+-- For each record that satisfies P, what `write` gives was written, after what the writer held before. `count` is the
+-- number of these records, which stops at `u64::MAX`.
+abbrev pub WritesEach : (end : ℕ) → (write : List ℕ → List ℕ) → (P : List ℕ → Type 0) → (input : List ℕ)
+    → (old new : Option (List ℕ)) → (count : ℕ) → Type 0
+WritesEach end write P input old new count =
     (kept : List (List ℕ))
     × AreKept P (records_of end input) kept
-    × Appends old new (with_ends end kept)
+    × Appends old new (flat_map write kept)
     × (count ≡ min (length kept) (2 ^ 64 - 1))
 
--- the first n of these records were written, for some n
-abbrev pub WritesSomeKept : (end : ℕ) → (P : List ℕ → Type 0) → (input : List ℕ) → (old new : Option (List ℕ)) → Type 0
-WritesSomeKept end P input old new =
+-- the same for the first n of these records only, for some n
+abbrev pub WritesSomeOf : (end : ℕ) → (write : List ℕ → List ℕ) → (P : List ℕ → Type 0) → (input : List ℕ)
+    → (old new : Option (List ℕ)) → Type 0
+WritesSomeOf end write P input old new =
     (kept : List (List ℕ))
     × AreKept P (records_of end input) kept
-    × ((n : ℕ) × Appends old new (with_ends end (take n kept)))
+    × ((n : ℕ) × Appends old new (flat_map write (take n kept)))
 
--- the first n bytes of these records were written, for some n
-abbrev pub WritesKeptBytes : (end : ℕ) → (P : List ℕ → Type 0) → (input : List ℕ) → (old new : Option (List ℕ)) → Type 0
-WritesKeptBytes end P input old new =
+-- the first n of these bytes were written, for some n
+abbrev pub WritesBytesOf : (end : ℕ) → (write : List ℕ → List ℕ) → (P : List ℕ → Type 0) → (input : List ℕ)
+    → (old new : Option (List ℕ)) → Type 0
+WritesBytesOf end write P input old new =
     (kept : List (List ℕ))
     × AreKept P (records_of end input) kept
-    × ((n : ℕ) × Appends old new (take n (with_ends end kept)))
+    × ((n : ℕ) × Appends old new (take n (flat_map write kept)))
+
+-- the same three for records that are written as they are, each with its end
+abbrev pub WritesKept : (end : ℕ) → (P : List ℕ → Type 0) → (input : List ℕ) → (old new : Option (List ℕ)) → (count : ℕ) → Type 0
+WritesKept end P input old new count = WritesEach end (ended_record end) P input old new count
+
+abbrev pub WritesSomeKept : (end : ℕ) → (P : List ℕ → Type 0) → (input : List ℕ) → (old new : Option (List ℕ)) → Type 0
+WritesSomeKept end P input old new = WritesSomeOf end (ended_record end) P input old new
+
+abbrev pub WritesKeptBytes : (end : ℕ) → (P : List ℕ → Type 0) → (input : List ℕ) → (old new : Option (List ℕ)) → Type 0
+WritesKeptBytes end P input old new = WritesBytesOf end (ended_record end) P input old new
 
 -- the same three for the records that the pattern matches
 abbrev pub WritesRecords : (end : ℕ) → MatchOptions → (pattern input : List ℕ) → (old new : Option (List ℕ)) → (count : ℕ) → Type 0
@@ -94,27 +107,49 @@ WritesSomeRecords end o pattern input old new = WritesSomeKept end (RecordMatche
 abbrev pub WritesSomeBytes : (end : ℕ) → MatchOptions → (pattern input : List ℕ) → (old new : Option (List ℕ)) → Type 0
 WritesSomeBytes end o pattern input old new = WritesKeptBytes end (RecordMatches o pattern) input old new
 
--- the same three for the selected records, if the input is known; they say nothing if it is not
-unfoldable pub CopiesSelected : (end : ℕ) → (List ℕ → Bool) → (input old new : Option (List ℕ)) → (count : ℕ) → Type 0
-CopiesSelected end selects input old new count = IfSome input (λ bytes. WritesKept end (Selected selects) bytes old new count)
+-- What `write` gives was written for each selected record, if the input is known. This and the next two say nothing if
+-- it is not.
+unfoldable pub Rewrites : (end : ℕ) → (selects : List ℕ → Bool) → (write : List ℕ → List ℕ) →
+    (input old new : Option (List ℕ)) → (count : ℕ) → Type 0
+Rewrites end selects write input old new count =
+    IfSome input (λ bytes. WritesEach end write (Selected selects) bytes old new count)
 
-unfoldable pub CopiesSomeSelected : (end : ℕ) → (List ℕ → Bool) → (input old new : Option (List ℕ)) → Type 0
-CopiesSomeSelected end selects input old new = IfSome input (λ bytes. WritesSomeKept end (Selected selects) bytes old new)
+-- the same for the first n of these records only, for some n
+unfoldable pub RewritesSome : (end : ℕ) → (selects : List ℕ → Bool) → (write : List ℕ → List ℕ) → (input old new : Option (List ℕ)) → Type 0
+RewritesSome end selects write input old new =
+    IfSome input (λ bytes. WritesSomeOf end write (Selected selects) bytes old new)
 
-unfoldable pub CopiesSelectedBytes : (end : ℕ) → (List ℕ → Bool) → (input old new : Option (List ℕ)) → Type 0
-CopiesSelectedBytes end selects input old new = IfSome input (λ bytes. WritesKeptBytes end (Selected selects) bytes old new)
+-- the first n of these bytes were written, for some n
+unfoldable pub RewritesBytes : (end : ℕ) → (selects : List ℕ → Bool) → (write : List ℕ → List ℕ) →
+    (input old new : Option (List ℕ)) → Type 0
+RewritesBytes end selects write input old new =
+    IfSome input (λ bytes. WritesBytesOf end write (Selected selects) bytes old new)
 
--- What was read of the input is complete records and a part without an end. Exactly the selected ones of these records
--- were written.
-unfoldable pub CopiesWholeSelected : (end : ℕ) → (List ℕ → Bool) → (input rest old new : Option (List ℕ)) → Type 0
-CopiesWholeSelected end selects input rest old new =
+-- What was read of the input is complete records and a part without an end. What `write` gives was written for exactly
+-- the selected ones of these records.
+unfoldable pub RewritesWhole : (end : ℕ) → (selects : List ℕ → Bool) → (write : List ℕ → List ℕ) →
+    (input rest old new : Option (List ℕ)) → Type 0
+RewritesWhole end selects write input rest old new =
     (whole : List ℕ) × ((partial : List ℕ)
     × Consumes input rest (whole ++ partial)
     × AreWhole end whole
     × HasNoEnd end partial
     × ((kept : List (List ℕ))
     × AreKept (Selected selects) (records_of end whole) kept
-    × Appends old new (with_ends end kept)))
+    × Appends old new (flat_map write kept)))
+
+-- the same four for selected records that are copied as they are, each with its end
+abbrev pub CopiesSelected : (end : ℕ) → (List ℕ → Bool) → (input old new : Option (List ℕ)) → (count : ℕ) → Type 0
+CopiesSelected end selects input old new count = Rewrites end selects (ended_record end) input old new count
+
+abbrev pub CopiesSomeSelected : (end : ℕ) → (List ℕ → Bool) → (input old new : Option (List ℕ)) → Type 0
+CopiesSomeSelected end selects input old new = RewritesSome end selects (ended_record end) input old new
+
+abbrev pub CopiesSelectedBytes : (end : ℕ) → (List ℕ → Bool) → (input old new : Option (List ℕ)) → Type 0
+CopiesSelectedBytes end selects input old new = RewritesBytes end selects (ended_record end) input old new
+
+abbrev pub CopiesWholeSelected : (end : ℕ) → (List ℕ → Bool) → (input rest old new : Option (List ℕ)) → Type 0
+CopiesWholeSelected end selects input rest old new = RewritesWhole end selects (ended_record end) input rest old new
 
 -- the same three for the records that a pattern matches
 unfoldable pub FiltersRecords : (end : ℕ) → MatchOptions → (pattern : List ℕ) → (input old new : Option (List ℕ)) → (count : ℕ) → Type 0

@@ -1,11 +1,13 @@
-//! The selected records of a reader, copied as they come.
+//! The selected records of a reader, copied or rewritten as they come.
 ghost use Rattle.std.specs.Prelude.{◌≡◌, ◌↔◌, ◌≤◌, ◌-◌, false, length, take, drop, vec_len, IsTrue, IsErrAnd, IfOk, OnOk};
 ghost use Rattle.std.specs.Io.KnownBytes.{IsAtEnd};
 ghost use Rattle.glob_lines.specs.LineFaults.{IsRead, IsMemory, IsWrite};
 ghost use Rattle.glob_lines.specs.Lines.{AreWhole, HasNoEnd, CopiesSelected, CopiesSomeSelected, CopiesSelectedBytes, CopiesWholeSelected};
+ghost use Rattle.glob_lines.specs.Lines.{Rewrites, RewritesSome, RewritesBytes, RewritesWhole};
 
 use crate::fault::LineFault;
 use crate::lines::{read_piece, write_records};
+use crate::rewriting::{Copied, Rewrite};
 use crate::selection::Selection;
 use crate::watch::Watch;
 use std::alloc::Allocator;
@@ -28,7 +30,6 @@ use std::io::{Read, Write};
 ///   records were written, perhaps none, each of them completely.
 /// - [`LineFault::Write`]: a write failed, `Interrupted` included. The first bytes of the output were written,
 ///   perhaps none.
-#[tactic(auto, unfolding(crate::specs::Lines::CopiesSelected))]
 pub fn copy_selected<A: Allocator + Copy, S: Selection, R: Read, W: Write>(
     alloc: A,
     selection: &S,
@@ -52,6 +53,45 @@ pub fn copy_selected<A: Allocator + Copy, S: Selection, R: Read, W: Write>(
     ensures write_fault { IsErrAnd result IsWrite → CopiesSelectedBytes end (S.selects selection.now)
         (R.remaining reader.old.inner) (W.contents writer.old.inner) (W.contents writer.new.inner) }
 {
+    rewrite_selected(alloc, &Copied { selection, end }, end, reader, writer)
+}
+
+/// Writes to `writer` what `rewrite` gives for each record of `reader` that it selects, in order, and returns the
+/// number of these records, which stops at `u64::MAX`. The byte `end` ends a record of the input. What follows the last
+/// such byte is a record if it is not empty.
+///
+/// For example, if `rewrite` gives `"<", the record, ">"` for those that begin with `#`, and `end` is a line feed, the
+/// input `"#a\nb\n#c"` gives the output `"<#a><#c>"`, and the call returns 2.
+///
+/// What is written for the records of each read is written before the next read. Memory and errors are those of
+/// [`copy_selected`].
+#[tactic(auto, unfolding(crate::specs::Lines::Rewrites))]
+pub fn rewrite_selected<A: Allocator + Copy, S: Rewrite, R: Read, W: Write>(
+    alloc: A,
+    rewrite: &S,
+    end: u8,
+    reader: &mut Watch<R>,
+    writer: &mut Watch<W>,
+) -> Result<u64, LineFault>
+    requires reader { reader.old.failed ≡ false }
+    requires writer { writer.old.failed ≡ false }
+    ensures records { IfOk result (Rewrites end (S.selects rewrite.now) (S.written rewrite.now)
+        (R.remaining reader.old.inner)
+        (W.contents writer.old.inner) (W.contents writer.new.inner)) }
+    ensures end { OnOk result (IsAtEnd (R.remaining reader.new.inner)) }
+    ensures read_failed { IsTrue reader.new.failed ↔ IsErrAnd result IsRead }
+    ensures write_failed { IsTrue writer.new.failed ↔ IsErrAnd result IsWrite }
+    ensures read_fault { IsErrAnd result IsRead
+        → RewritesWhole end (S.selects rewrite.now) (S.written rewrite.now)
+        (R.remaining reader.old.inner) (R.remaining reader.new.inner)
+        (W.contents writer.old.inner) (W.contents writer.new.inner) }
+    ensures memory { IsErrAnd result IsMemory
+        → RewritesSome end (S.selects rewrite.now) (S.written rewrite.now)
+        (R.remaining reader.old.inner) (W.contents writer.old.inner) (W.contents writer.new.inner) }
+    ensures write_fault { IsErrAnd result IsWrite
+        → RewritesBytes end (S.selects rewrite.now) (S.written rewrite.now)
+        (R.remaining reader.old.inner) (W.contents writer.old.inner) (W.contents writer.new.inner) }
+{
     let mut input = Vec::new(alloc);
     let mut output = Vec::new(alloc);
     // The length of the incomplete record at the front of `input`.
@@ -61,12 +101,12 @@ pub fn copy_selected<A: Allocator + Copy, S: Selection, R: Read, W: Write>(
     for _ in 0..u64::MAX {
         let len = read_piece(&mut input, partial, reader)?;
         if len == 0 {
-            let last = write_records(selection, end, &input[..partial], &mut output, writer)?;
+            let last = write_records(rewrite, end, &input[..partial], &mut output, writer)?;
             return Ok(count.saturating_add(last));
         }
         let filled = partial + len;
         let whole = whole_len(&input[..filled], partial, end);
-        let copied = write_records(selection, end, &input[..whole], &mut output, writer)?;
+        let copied = write_records(rewrite, end, &input[..whole], &mut output, writer)?;
         count = count.saturating_add(copied);
         move_front(&mut input, whole, filled);
         partial = filled - whole;

@@ -3,7 +3,7 @@ ghost use Rattle.std.specs.Prelude.{◌≡◌, ◌↔◌, ◌<◌, ◌≤◌, �
 ghost use Rattle.std.specs.Prelude.{IsErr, IsErrAnd, IfOk, OnOk, OnErr};
 ghost use Rattle.std.specs.Io.KnownBytes.{Keeps, Appends, Consumes, IsAtEnd};
 ghost use Rattle.glob_lines.specs.LineFaults.{IsRead, IsMemory, IsWrite};
-ghost use Rattle.glob_lines.specs.Lines.{records_of, ended_record, AppendsFront, Selected, WritesKept, FiltersRecords};
+ghost use Rattle.glob_lines.specs.Lines.{records_of, AppendsFront, Selected, WritesEach, FiltersRecords};
 ghost use Rattle.glob_lines.specs.Lines.{FiltersSomeRecords, FiltersRecordBytes, FiltersLines, FiltersSomeLines};
 ghost use Rattle.glob_lines.specs.Lines.{FiltersSomeBytes};
 ghost use Rattle.glob_lines.specs.Private.Fronts.{WritesFrontRecords, WritesFrontBytes};
@@ -12,10 +12,10 @@ ghost use Rattle.glob_lines.specs.Private.Gathering.{IsGathered};
 use crate::fault::LineFault;
 use crate::matching::Matching;
 use crate::record_ends::first_end;
-use crate::selection::Selection;
+use crate::rewriting::{Copied, Rewrite};
 use crate::watch::Watch;
 use glob_pattern::{MatchOptions, Pattern};
-use std::alloc::{AllocError, Allocator};
+use std::alloc::Allocator;
 use std::io::{Read, Write};
 
 /// How many bytes a full input buffer grows by.
@@ -94,13 +94,12 @@ pub fn filter_records<A: Allocator + Copy, B: Allocator + Copy, R: Read, W: Writ
 {
     let input = read_all(alloc, reader)?;
     let mut output = Vec::new(alloc);
-    write_records(
-        &Matching { pattern, options },
+    let matching = Matching { pattern, options };
+    let copied = Copied {
+        selection: &matching,
         end,
-        &input,
-        &mut output,
-        writer,
-    )
+    };
+    write_records(&copied, end, &input, &mut output, writer)
 }
 
 /// Reads all bytes that are left in the reader.
@@ -153,25 +152,26 @@ pub(crate) fn read_piece<A: Allocator, R: Read>(
     reader.read(&mut input[filled..]).map_err(LineFault::Read)
 }
 
-/// Writes the selected records of the input, each with its end, and returns their number. They are gathered in
-/// `output`, a scratch buffer: its bytes before and after the call mean nothing.
-pub(crate) fn write_records<A: Allocator, S: Selection, W: Write>(
-    selection: &S,
+/// Writes what `rewrite` gives for each record of the input that it selects, and returns the number of these records.
+/// `output` is a scratch buffer: its bytes before and after the call mean nothing.
+pub(crate) fn write_records<A: Allocator, S: Rewrite, W: Write>(
+    rewrite: &S,
     end: u8,
     input: &[u8],
     output: &mut Vec<u8, A>,
     writer: &mut Watch<W>,
 ) -> Result<u64, LineFault>
     requires { writer.old.failed ≡ false }
-    ensures records { IfOk result (WritesKept end (Selected (S.selects selection.now)) input.now
+    ensures records { IfOk result (WritesEach end (S.written rewrite.now)
+        (Selected (S.selects rewrite.now)) input.now
         (W.contents writer.old.inner) (W.contents writer.new.inner)) }
     ensures failed { IsTrue writer.new.failed ↔ IsErrAnd result IsWrite }
     ensures no_read { ¬ (IsErrAnd result IsRead) }
-    ensures memory { IsErrAnd result IsMemory
-        → WritesFrontRecords end (Selected (S.selects selection.now)) input.now
+    ensures memory { IsErrAnd result IsMemory → WritesFrontRecords end (S.written rewrite.now)
+        (Selected (S.selects rewrite.now)) input.now
         (W.contents writer.old.inner) (W.contents writer.new.inner) }
-    ensures write_fault { IsErrAnd result IsWrite
-        → WritesFrontBytes end (Selected (S.selects selection.now)) input.now
+    ensures write_fault { IsErrAnd result IsWrite → WritesFrontBytes end (S.written rewrite.now)
+        (Selected (S.selects rewrite.now)) input.now
         (W.contents writer.old.inner) (W.contents writer.new.inner) }
 {
     output.clear();
@@ -179,8 +179,8 @@ pub(crate) fn write_records<A: Allocator, S: Selection, W: Write>(
     let mut rest = input;
     while !rest.is_empty() {
         let (first, after) = split_record(rest, end);
-        if selection.selects(first)? {
-            keep_record(first, end, output, writer)?;
+        if rewrite.rewrite(first, output)? {
+            write_long(output, writer)?;
             count = count.saturating_add(1);
         }
         rest = after;
@@ -201,42 +201,24 @@ fn split_record(bytes: &[u8], end: u8) -> (&[u8], &[u8])
     }
 }
 
-/// Appends the record and its end to `output`, and writes and empties it once it is long.
-fn keep_record<A: Allocator, W: Write>(
-    bytes: &[u8],
-    end: u8,
+/// Writes and empties `output` once it is long.
+#[inline]
+fn write_long<A: Allocator, W: Write>(
     output: &mut Vec<u8, A>,
     writer: &mut Watch<W>,
 ) -> Result<(), LineFault>
     requires { writer.old.failed ≡ false }
-    ensures ok { OnOk result (IsGathered end bytes.now output.old.items output.new.items
+    ensures ok { OnOk result (IsGathered output.old.items output.new.items
         (W.contents writer.old.inner) (W.contents writer.new.inner)) }
-    ensures memory { IsErrAnd result IsMemory
-        → Keeps (W.contents writer.old.inner) (W.contents writer.new.inner) }
-    ensures write_fault { IsErrAnd result IsWrite
-        → AppendsFront (W.contents writer.old.inner) (W.contents writer.new.inner)
-        (output.old.items ++ ended_record end bytes.now) }
+    ensures no_memory { ¬ (IsErrAnd result IsMemory) }
+    ensures write_fault { IsErrAnd result IsWrite → AppendsFront (W.contents writer.old.inner)
+        (W.contents writer.new.inner) output.old.items }
     ensures failed { IsTrue writer.new.failed ↔ IsErrAnd result IsWrite }
     ensures no_read { ¬ (IsErrAnd result IsRead) }
 {
-    push_record(bytes, end, output)?;
     if output.len() >= WRITE_LEN {
         writer.write_all(output).map_err(LineFault::Write)?;
         output.clear();
     }
-    Ok(())
-}
-
-/// Appends the record and its end to `output`.
-#[inline]
-fn push_record<A: Allocator>(
-    bytes: &[u8],
-    end: u8,
-    output: &mut Vec<u8, A>,
-) -> Result<(), AllocError>
-    ensures { OnOk result (output.new.items ≡ output.old.items ++ ended_record end bytes.now) }
-{
-    output.extend_from_slice(bytes)?;
-    output.push(end)?;
     Ok(())
 }

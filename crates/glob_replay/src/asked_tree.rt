@@ -1,4 +1,4 @@
-//! A tree that counts what it is asked. Contracts know nothing of its content, so it may give any answer.
+//! A tree that counts what it is asked. Contracts know nothing about its content, so it may give any answer.
 ghost use Rattle.std.specs.Prelude.{◌≡◌, ◌+◌, None};
 
 use crate::contents::tree_of;
@@ -18,8 +18,8 @@ pub type Listed<A> = Result<Vec<Entry<A>, A>, ListError>;
 pub enum Source<'a, M: Memory> {
     /// From a tree in memory.
     Known(MemTree<M>),
-    /// From words in this memory, one list for lookups and one for listings: the first word is the answer to the first
-    /// call, and so on. The last word answers all later calls.
+    /// From words in this memory, one list for lookups and one for listings: the first word answers the first call, and
+    /// so on. The last word answers all later calls.
     Written(M, &'a str, &'a str),
 }
 
@@ -87,7 +87,7 @@ impl<'a, M: Memory> AskedTree<'a, M> {
         }
     }
 
-    /// A tree in memory of a content, which counts there.
+    /// A tree in memory with a content, which counts in `counts`.
     pub fn of(alloc: M, content: &str, counts: &'a Counts) -> io::Result<Self> {
         let tree = tree_of(alloc, alloc.inner(), ("", ""), content)?;
         Ok(AskedTree::new(Source::Known(tree), counts))
@@ -110,6 +110,7 @@ impl<M: Memory> Tree for AskedTree<'_, M> {
     ghost asks = { λ tree. tree.asks };
 
     fn look(&mut self, path: &str) -> Result<Look, AllocError> {
+        raise(&self.counts.looks, 1);
         self.count(1);
         self.source.look(path)
     }

@@ -3,24 +3,24 @@
 use crate::ration::Memory;
 use std::io;
 
-/// The calls that rows of some subject are about.
+/// The calls that the rows of a subject are about.
 pub trait Make {
-    /// Makes the calls of a row, and adds their answers. The error is that memory was refused, or that the row is not
-    /// one of this subject.
+    /// Makes the calls of a row, and adds their answers. It is an error if memory was refused, or if the row is not
+    /// about this subject.
     fn make<M: Memory>(&self, calls: &mut Calls<M>, row: &[&str]) -> io::Result<()>;
 }
 
-/// The calls of a row: the memory that they take, which is counted, and their answers.
+/// The calls of a row: their memory, which is counted, and their answers.
 #[derive(Drop)]
 pub struct Calls<M: Memory> {
     pub alloc: M,
-    /// Other memory, for what the calls are made over.
+    /// Other memory, for the trees and streams that the calls use.
     pub other: M,
     pub words: String,
 }
 
 impl<M: Memory> Calls<M> {
-    /// Calls that have answered nothing yet. Their answers are kept in memory that is not counted.
+    /// Calls without answers so far. The answers are kept in memory that is not counted.
     pub fn new(alloc: M, other: M) -> Self {
         Calls {
             alloc,

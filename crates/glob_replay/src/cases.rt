@@ -5,7 +5,7 @@ use crate::calls::{Calls, Make};
 use crate::ration::Memory;
 use std::io::{self, Write};
 
-/// Answers each line of standard input by calls with this memory, and writes each answer at once.
+/// Answers each line of standard input with calls that use this memory, and writes each answer at once.
 pub fn answer_lines<M: Memory, S: Make>(rt: HostRuntime, memory: M, subject: &S) -> io::Result<()> {
     let mut writer = io::writer(&rt);
     for line in rt.lines(rt.alloc()) {

@@ -1,5 +1,5 @@
-//! Trees in memory of the words of a content: files, and directories with `/` after them, or with `#` before them if
-//! they cannot be listed. `a/b/` is the directories `a` and `a/b`.
+//! Trees in memory from the words of a content: a file is its path, a directory has `/` after it, and a directory that
+//! cannot be listed has `#` before it. `a/b/` stands for the directories `a` and `a/b`.
 
 use crate::words::{out_of_memory, unusable};
 use ErrorKind::PermissionDenied;
@@ -7,7 +7,8 @@ use glob_tree::{MemTree, TreeRefusal};
 use std::alloc::{Allocator, Global};
 use std::io::{self, ErrorKind};
 
-/// The tree of a content, with paths in `inner`, from a folder on, its current directory. `shut` cannot be listed.
+/// The tree of a content below a folder, which is its current directory. Paths are in the memory `inner`, and `shut`
+/// cannot be listed.
 pub fn tree_of<A: Allocator + Copy>(
     alloc: A,
     inner: Global,
@@ -27,7 +28,7 @@ pub fn tree_of<A: Allocator + Copy>(
     Ok(tree)
 }
 
-/// Adds what is at a path: each directory of one with `/` at its end, or else a file.
+/// Adds what is at a path: each directory on it if it ends in `/`, otherwise a file.
 fn plant<A: Allocator + Copy>(tree: &mut MemTree<A>, path: &str, is_shut: bool) -> io::Result<()> {
     let name = name_of(path);
     if is_shut {
@@ -54,12 +55,12 @@ fn fault_of(refusal: TreeRefusal) -> io::Error {
     }
 }
 
-/// The path that a word of a content has: `#a` and `a/` have `a`.
+/// The path in a word of a content: `a` for `#a` and `a/`.
 pub fn name_of(word: &str) -> &str {
     word.trim_start_matches('#').trim_end_matches('/')
 }
 
-/// Whether a word of a content is that of a directory.
+/// Whether a word of a content stands for a directory.
 pub fn is_directory(word: &str) -> bool {
     word.starts_with('#') || word.ends_with('/')
 }

@@ -7,6 +7,8 @@ use std::cell::Cell;
 pub struct Counts {
     /// Lookups, listings, and entries of listings.
     pub asked: Cell<u64>,
+    /// How often something was looked up.
+    pub looks: Cell<u64>,
     /// How often entries or names were listed.
     pub listings: Cell<u64>,
     /// How often only names were listed.

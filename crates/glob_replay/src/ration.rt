@@ -1,12 +1,12 @@
-//! Counts of the requests for memory, of their bytes and of the blocks that are held, and which request is refused.
+//! Counts requests for memory, their bytes and the blocks that are held, and refuses a chosen request.
 ghost use Rattle.std.specs.Prelude.{◌≡◌, false, Option, None, ℕ};
 
 use std::alloc::{Allocator, Global};
 use std::cell::Cell;
 use std::marker::Model;
 
-/// The number of requests for memory so far and of their bytes, how many blocks were given back, and which request is
-/// refused, if any.
+/// How many requests for memory there were so far, how many bytes they were for, how many blocks were given back, and
+/// which request is refused, if any.
 #[derive(Debug, Drop)]
 pub struct Ration {
     asked: Cell<u64>,
@@ -23,7 +23,7 @@ impl Model for Ration {
 }
 
 impl Ration {
-    /// Nothing was asked yet. If there is a number, the request of this number, counted from 1, will be refused.
+    /// No requests yet. If there is a number, the request with this number, counted from 1, will be refused.
     pub fn new(refused: Option<u64>) -> Self
         ensures { result ≡ refused }
     {
@@ -75,7 +75,7 @@ impl Ration {
     }
 }
 
-/// Memory whose requests are counted, and one of which may be refused. That is all that callers know of it.
+/// Memory whose requests are counted, one of them perhaps refused. Callers know no more about it.
 pub trait Memory: Allocator + Copy {
     /// The requests so far.
     fn ration(&self) -> &Ration;

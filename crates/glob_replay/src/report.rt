@@ -1,7 +1,7 @@
 //! Replays tables.
 //!
-//! The head of each file says how its lines are read. A table begins with a line `= NAME`. For each table, the cases
-//! that disagree are printed, then its name, how many cases were compared, and how many disagree.
+//! The head of each file says how to read its lines. A table begins with a line `= NAME`. For each table this prints
+//! the cases that disagree, then the table's name, how many cases were compared, and how many disagree.
 
 use crate::counts::raise;
 use crate::ration::Memory;
@@ -14,7 +14,7 @@ use std::{fs, io};
 
 /// The rows of all files.
 pub trait Rows {
-    /// Replays a row of a file: what is asked, and the answer that is expected.
+    /// Replays a row of a file: a question, and the expected answer.
     fn replay<M: Memory>(
         &self,
         report: &mut Report<M>,
@@ -24,7 +24,7 @@ pub trait Rows {
     ) -> io::Result<()>;
 }
 
-/// What the lines before a row have set, and how many cases of its table were compared and disagree.
+/// What the lines before a row have set, how many cases of its table were compared, and how many disagree.
 #[derive(Drop)]
 pub struct Report<M: Memory> {
     pub rt: HostRuntime,
@@ -41,7 +41,7 @@ impl<M: Memory> Report<M> {
         self.memory.inner()
     }
 
-    /// Counts a case, and prints it if what was found is not what is expected.
+    /// Counts a case, and prints it if the answer is not the expected one.
     pub fn compare(&self, case: &str, wanted: &str, found: &str) -> io::Result<()> {
         raise(&self.cases, 1);
         if wanted == found {
@@ -52,8 +52,8 @@ impl<M: Memory> Report<M> {
     }
 }
 
-/// Replays these files, whose names are separated by spaces, with this memory, and prints each of their tables. Returns
-/// whether a case disagrees.
+/// Replays the files with these names, which are separated by spaces, with this memory, and prints the results of each
+/// table. Returns whether a case disagrees.
 pub fn replay_files<M: Memory, R: Rows>(
     rt: HostRuntime,
     memory: M,

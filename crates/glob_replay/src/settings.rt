@@ -9,7 +9,7 @@ use std::alloc::{AllocError, Global};
 use std::collections::BTreeMap;
 use std::io;
 
-/// What holds for the rows that follow, by name.
+/// The settings for the rows that follow, by name.
 #[derive(Drop)]
 pub struct Settings {
     alloc: Global,
@@ -30,7 +30,8 @@ impl Settings {
         self.values.get(name).map_or("", |value| value.as_str())
     }
 
-    /// Sets what a line `NAME: VALUE` says. A content, a tree or calls start everything anew.
+    /// Sets what a line `NAME: VALUE` says. A new content, tree or list of calls discards everything that was set
+    /// before.
     pub fn set(&mut self, line: &str) -> io::Result<()> {
         let (name, value) = cut(line, ":")?;
         match name {
@@ -65,7 +66,7 @@ impl Settings {
         Ok(AskedTree::new(source, counts))
     }
 
-    /// The words of a row, each with each setting of the options.
+    /// Each word of a row, with each setting of the options.
     pub fn cases<'a>(&'a self, words: &'a str) -> Result<Vec<(&'a str, &'a str)>, AllocError> {
         let settings = self.get("options");
         let settings = if settings.is_empty() { "-" } else { settings };

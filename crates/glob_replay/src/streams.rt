@@ -15,7 +15,7 @@ pub enum Trouble {
     Errs(u64, io::Error),
     /// It moves no byte, and returns 0.
     Idles(u64),
-    /// It is interrupted at three of four calls, from the first on.
+    /// It is interrupted at three out of four calls, from the first on.
     Interrupts,
     /// Each flush returns this error.
     Holds(io::Error),
@@ -27,7 +27,7 @@ pub enum Trouble {
 #[derive(Drop)]
 pub struct Stream<'a> {
     rest: &'a [u8],
-    /// The most bytes that it moves in a call.
+    /// How many bytes it moves in a call at most.
     pub most: usize,
     pub trouble: Trouble,
     /// What was written.
@@ -42,8 +42,8 @@ pub struct Stream<'a> {
 }
 
 impl<'a> Stream<'a> {
-    /// The stream that a row writes: the most bytes of a call, and a trouble, as `3 errs 2 Other`, or when it is
-    /// written, as `3 at 305 307-407`.
+    /// The stream that a row describes: the most bytes in a call, and what goes wrong, as in `3 errs 2 Other`, or when
+    /// it is written, as in `3 at 305 307-407`.
     pub fn new(alloc: Global, rest: &'a [u8], words: &str) -> io::Result<Self> {
         let (most, trouble) = words.split_once(' ').unwrap_or((words, ""));
         let mut due = Vec::new(alloc);
@@ -92,7 +92,7 @@ impl<'a> Stream<'a> {
     }
 }
 
-/// What the words of a row say that goes wrong.
+/// What goes wrong, by the words of a row.
 fn trouble_of(words: &str) -> io::Result<Trouble> {
     let (kind, rest) = words.split_once(' ').unwrap_or((words, ""));
     match kind {
@@ -109,8 +109,7 @@ fn trouble_of(words: &str) -> io::Result<Trouble> {
     }
 }
 
-/// The error that a word names: one of a number of the system, or of a kind, after which may follow `=` and words of
-/// its own.
+/// The error that a word names: by a number of the system, or by a kind, perhaps followed by `=` and a message.
 pub fn error_of(word: &str) -> io::Result<io::Error> {
     let (name, words) = word.split_once('=').unwrap_or((word, ""));
     let kind = match name {

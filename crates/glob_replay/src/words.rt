@@ -39,7 +39,7 @@ pub fn pattern_of<A: Allocator + Copy>(alloc: A, text: &str) -> io::Result<Patte
     Pattern::new(alloc, text).map_err(refused)
 }
 
-/// Adds, after the front, the place of a pattern's fault and, after a tab, its message.
+/// Adds the front, the place of a pattern's fault, a tab, and the fault's message.
 pub fn add_fault(refusal: PatternRefusal, front: &str, words: &mut String) -> io::Result<()> {
     match refusal {
         PatternRefusal::Syntax(error) => Ok(write!(words, "{front}{}\t{}", error.pos, error.msg)?),
@@ -89,7 +89,7 @@ fn copies_of(alloc: Global, text: &str, times: usize) -> Result<String, AllocErr
     Ok(copies)
 }
 
-/// Items, each after a tab and, if it is a path, `=`, with a blank in place of these.
+/// Items in which each tab, and the `=` after it before a path, is replaced by a blank.
 pub fn in_words(items: &String) -> Result<String, AllocError> {
     let alloc = *items.allocator();
     items.replace(alloc, "\t=", " ")?.replace(alloc, "\t", " ")

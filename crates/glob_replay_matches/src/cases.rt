@@ -1,12 +1,13 @@
 //! Cases about patterns and texts, one a line.
 //!
-//! - `match PATTERN TEXT ..` is answered by the escaped pattern and then `ok` and, for each text, eight letters `y` or
-//!   `n`, one for each setting of the options.
-//! - `captures OPTIONS PATTERN TEXT`, which `tests/captures.py` asks, is answered, with `|` between, by each token's
-//!   kind and where it ends; where each piece of the text ends, or `no`; and how far it is taken, and what waits.
-//! - `set OPTIONS NUMBER PATTERN .. TEXT ..`, with so many patterns, is answered by a field for each text: whether any
-//!   matches, the numbers of the first and the last that do, and those of all, as `Debug` writes them.
-//! - A pattern with a fault is answered by `fault`, its place and its message in place of `ok` and what follows.
+//! - `match PATTERN TEXT ..` gets the escaped pattern, `ok` and, for each text, eight letters `y` or `n`, one for each
+//!   setting of the options.
+//! - `captures OPTIONS PATTERN TEXT`, which `tests/captures.py` asks, gets three answers with `|` between them: each
+//!   token's kind and where it ends; where each piece of the text ends, or `no`; how far the text is taken, and which
+//!   tokens wait.
+//! - `set OPTIONS NUMBER PATTERN .. TEXT ..`, with NUMBER patterns, gets a field for each text: whether any pattern
+//!   matches, and the numbers of the first, the last, and all that do, as `Debug` writes them.
+//! - For a pattern with a fault, the answer has `fault`, its place and its message instead of `ok` and what follows.
 
 use glob_captures::{CapturesError, captures, reach, tokens};
 use glob_pattern::{MatchOptions, Pattern};
@@ -111,8 +112,8 @@ fn add_reached<M: Memory>(
     Ok(())
 }
 
-/// Adds the answer to `set` or to a row of a set. For a pattern with a fault that is its number or, if patterns have
-/// braces, the printed fault.
+/// Adds the answer to `set` or to a row of a set. If a pattern has a fault, the answer is the pattern's number or, if
+/// patterns have braces, the printed fault.
 pub fn add_set<M: Memory>(calls: &mut Calls<M>, row: &[&str]) -> io::Result<()> {
     let [call, letters, many, fields @ ..] = row else {
         return Err(unusable());
@@ -140,7 +141,7 @@ pub fn add_set<M: Memory>(calls: &mut Calls<M>, row: &[&str]) -> io::Result<()> 
     Ok(())
 }
 
-/// The set of the patterns, which may have braces; `None` after adding what a fault has to say.
+/// The set of the patterns, which may have braces. If one has a fault, adds the answer for it, and returns `None`.
 fn set_of<M: Memory>(
     calls: &mut Calls<M>,
     patterns: &[&str],
@@ -163,8 +164,8 @@ fn set_of<M: Memory>(
     Ok(None)
 }
 
-/// Adds whether any pattern of a set matches a text, the numbers of the first and the last that do, and the numbers of
-/// all. The answers for the text as a path are the same.
+/// Adds whether any pattern of a set matches a text, and the numbers of the first, the last, and all that do. Checks
+/// that the text as a path gives the same answers.
 fn add_found<M: Memory>(
     set: &PatternSet<M>,
     text: &str,

@@ -57,8 +57,8 @@ impl Judge for WrittenJudge<'_> {
     }
 }
 
-/// Adds whether the characters split into pieces of these shapes, in words, and what is wrong with the number of
-/// questions: more than shapes times characters or, for a split, fewer than characters.
+/// Adds whether the characters split into pieces of these shapes, in words. Adds a complaint if there are more
+/// questions than shapes times characters or, for a split, fewer than characters.
 pub fn split<M: Memory>(calls: &mut Calls<M>, fields: &[&str]) -> io::Result<()> {
     let [shapes, characters, opening, taken] = *fields else {
         return Err(unusable());

@@ -1,4 +1,4 @@
-//! Replays rows about patterns, matches, sets, ignore lists and captures, and answers cases of tests about these.
+//! Replays rows about patterns, matches, sets, ignore lists and captures, and answers test cases about these.
 #![tactic(auto)]
 
 pub mod cases;

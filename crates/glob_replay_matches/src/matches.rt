@@ -9,15 +9,15 @@ use std::alloc::{AllocError, Global};
 use std::io::{self, Write};
 use std::path::Path;
 
-/// The most tokens with which a match needs no memory.
+/// Up to how many tokens a match needs no memory.
 const SHORT: usize = 63;
 
 /// A pattern, a text and the options of a match.
 type Asked<'a> = (&'a str, &'a str, MatchOptions);
 
-/// Matches by a row: the options, a pattern, a text, and the most questions, which may be empty. Adds `yes` or `no`,
-/// and what is wrong: another call with another answer, another number of questions, or a request for memory although
-/// the pattern is short.
+/// Matches as a row says: the options, a pattern, a text, and the most questions, which may be empty. Adds `yes` or
+/// `no`, and any complaint: another call that answers differently, a wrong number of questions, or a request for memory
+/// although the pattern is short.
 pub fn add_match<M: Memory>(calls: &mut Calls<M>, fields: &[&str]) -> io::Result<()> {
     let [setting, source, text, most] = *fields else {
         return Err(unusable());
@@ -45,7 +45,7 @@ fn add_counted<M: Memory>(
     Ok((is_match, tokens))
 }
 
-/// Adds that memory was requested after this many requests, although the pattern is short.
+/// Adds a complaint if memory was requested after this many requests, although the pattern is short.
 fn add_memory<M: Memory>(calls: &mut Calls<M>, tokens: usize, requests: u64) -> io::Result<()> {
     if tokens <= SHORT && calls.alloc.ration().asked() != requests {
         calls.words.push_str(", with memory")?;
@@ -53,7 +53,7 @@ fn add_memory<M: Memory>(calls: &mut Calls<M>, tokens: usize, requests: u64) -> 
     Ok(())
 }
 
-/// Asks a pattern by all other calls, and adds what is wrong.
+/// Asks a pattern by all other calls, and adds any complaint.
 fn add_same<M: Memory>(
     calls: &mut Calls<M>,
     pattern: &Pattern<M>,
@@ -78,7 +78,7 @@ fn add_again<M: Memory>(
     add_same(calls, &other.clone()?, asked, found)
 }
 
-/// Adds another number of questions than there may be: of those that usually serve, or the most that the row names.
+/// Adds the number of questions if it is outside the usual bounds, or above the bound that the row gives.
 fn add_questions<M: Memory>(
     calls: &mut Calls<M>,
     asked: Asked<'_>,
@@ -125,10 +125,10 @@ fn bounds(alloc: Global, asked: Asked<'_>, found: (bool, usize)) -> io::Result<(
     Ok((least, tokens.saturating_mul(characters)))
 }
 
-/// How many questions decide whether a pattern of literals, `?` and `*` matches a text: each token is asked about each
-/// character before which the tokens before it, or for `*` also itself, may have taken all.
+/// How many questions decide whether a pattern of literals, `?` and `*` matches a text: each token is asked about a
+/// character if the tokens before it (for `*`, also together with it) can have taken all characters before that one.
 fn questions(alloc: Global, pattern: &str, text: &str) -> Result<usize, AllocError> {
-    // For each number of first characters whether the tokens so far may have taken them.
+    // For each number of leading characters: whether the tokens so far can have taken them.
     let mut reached = Vec::new(alloc);
     reached.push(true)?;
     for _ in text.chars() {

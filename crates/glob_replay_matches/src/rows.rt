@@ -10,8 +10,8 @@ use glob_rules::IgnoreList;
 use glob_set::braces::{BraceRefusal, expand};
 use std::io::{self, Write};
 
-/// Patterns, matches, sets, ignore lists and captures. The first word of a row is the name of its file or of its calls,
-/// and the others are its fields.
+/// Patterns, matches, sets, ignore lists and captures. The first word of a row names its file or its calls, and the
+/// others are its fields.
 #[derive(Clone, Copy)]
 pub struct Matches;
 
@@ -33,7 +33,8 @@ impl Make for Matches {
     }
 }
 
-/// Adds the result of parsing a text: `ok`, or the place of its fault and its message, which must be that of its kind.
+/// Adds the result of parsing a text: `ok`, or the place of its fault and its message, which must belong to the fault's
+/// kind.
 fn parse<M: Memory>(calls: &mut Calls<M>, text: &str) -> io::Result<()> {
     match Pattern::new(calls.alloc, text) {
         Ok(pattern) if pattern.as_str() == text => Ok(calls.words.push_str("ok")?),
@@ -74,8 +75,8 @@ fn add_alternatives<M: Memory>(calls: &mut Calls<M>, text: &str) -> io::Result<(
     }
 }
 
-/// Reads a text by each call, copies the pattern, and escapes the text, by one request: adds the text, or the place of
-/// its fault, twice, and the escaped one.
+/// Parses a text by each call, copies the pattern, and escapes the text with one request for memory. Adds the text, or
+/// the place of its fault, twice, and the escaped text.
 fn read<M: Memory>(calls: &mut Calls<M>, text: &str) -> io::Result<()> {
     let (alloc, words) = (calls.alloc, &mut calls.words);
     add_read(Pattern::new(alloc, text), words)?;
@@ -88,7 +89,7 @@ fn read<M: Memory>(calls: &mut Calls<M>, text: &str) -> io::Result<()> {
     Ok(())
 }
 
-/// Adds the text of a copy of a pattern that was read, or the place of its fault.
+/// Adds the text of a copy of a parsed pattern, or the place of its fault.
 fn add_read<M: Memory>(
     read: Result<Pattern<M>, PatternRefusal>,
     words: &mut String,
@@ -106,8 +107,8 @@ fn add_answer<M: Memory>(calls: &mut Calls<M>, pattern: &str, text: &str) -> io:
     Ok(calls.words.push_str(if is_match { "yes" } else { "no" })?)
 }
 
-/// Asks the list of these lines about paths, each of a directory if `/` is at its end: adds whether it is ignored, and
-/// the line that decides.
+/// Asks the ignore list of these lines about paths; a path that ends in `/` is a directory. Adds whether each is
+/// ignored, and the line that decides.
 fn ask_list<M: Memory>(calls: &mut Calls<M>, lines: &str, paths: &str) -> io::Result<()> {
     let list = IgnoreList::new(calls.alloc, lines).map_err(|_| out_of_memory())?;
     for path in paths.split(' ') {

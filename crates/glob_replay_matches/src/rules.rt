@@ -1,6 +1,6 @@
-//! Asks ignore lists about paths. Standard input has records that end in NUL: `L` and a list, whose questions follow;
-//! `f` and the path of a file; `d` and that of a directory. For each question a line is printed: the line of the rule
-//! that decides, or 0; for a list that is refused `R` and the line.
+//! Asks ignore lists about paths. Standard input has records that end in NUL: `L` and a list, and then questions about
+//! it: `f` and the path of a file, or `d` and the path of a directory. For each question this prints the line of the
+//! rule that decides, or 0; for a refused list it prints `R` and the refused line.
 
 use glob_rules::IgnoreList;
 use std::io;

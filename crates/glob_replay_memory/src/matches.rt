@@ -1,5 +1,5 @@
-//! Rows of matches. In fields: the options, a pattern, a text, and `y` or `n`. In words: `PATTERNS => ANSWER TEXTS`,
-//! and the most questions that this takes may follow.
+//! Rows about matches. In fields: the options, a pattern, a text, and `y` or `n`. In words: `PATTERNS => ANSWER TEXTS`,
+//! perhaps followed by the most questions that this takes.
 
 use crate::refusing::{FREELY, found_by, found_if_refused};
 use glob_replay::calls::Make;
@@ -8,7 +8,7 @@ use glob_replay::report::Report;
 use glob_replay::words::{cut, text_of};
 use std::io;
 
-/// Replays a row of fields, the first of which are the options.
+/// Replays a row of fields. The first field has the options.
 pub fn replay_fields<M: Memory, S: Make>(
     subject: &S,
     report: &Report<M>,

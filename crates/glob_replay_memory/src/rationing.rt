@@ -5,8 +5,8 @@ ghost use Rattle.std.specs.Prelude.{◌≡◌, Option, None};
 use glob_replay::ration::{Memory, Ration};
 use std::alloc::{AllocError, Allocator, Global};
 
-/// The allocator `inner`, with each request first counted by `ration`, which may refuse it. Growing or shrinking a
-/// block is one request, and freeing a block does not count. A reference to it is an allocator, too.
+/// The allocator `inner`, whose requests are first counted by `ration`, which may refuse them. Growing or shrinking a
+/// block is one request; freeing a block does not count. A reference to it is an allocator, too.
 #[derive(Debug, Drop)]
 pub struct Rationed<A> {
     pub ration: Ration,
@@ -31,7 +31,7 @@ impl<A> Rationed<A> {
         Rationed::refusing(None, inner)
     }
 
-    /// The allocator `inner`, with the request of this number, counted from 1, refused, if there is a number.
+    /// The allocator `inner`. If there is a number, the request with this number, counted from 1, is refused.
     pub fn refusing(refused: Option<u64>, inner: A) -> Self
         ensures { result.ration ≡ refused }
     {

@@ -1,19 +1,19 @@
 //! Makes the calls of a row with counted memory, and then again with each request refused in turn. The first word of a
-//! row is the name of its file or of its calls, and the others are its fields.
+//! row names its file or its calls, and the others are its fields.
 
 use crate::rationing::Rationed;
 use glob_replay::calls::{Calls, Make};
 use std::alloc::Global;
 use std::io::{self, ErrorKind, Write};
 
-/// The most requests for memory, and the most bytes in all.
+/// The most requests for memory, and the most bytes in total.
 pub type Most = (u64, u64);
 
 /// The same if a row gives none.
 pub const FREELY: Most = (u64::MAX, u64::MAX);
 
-/// The answers of calls with ample memory, and what is wrong with their requests: more requests or bytes than allowed,
-/// or a block that is still held at the end. And the number of requests.
+/// The answers of calls with ample memory, any complaint about their requests (more requests or bytes than allowed, or
+/// a block that is still held at the end), and the number of requests.
 pub fn found_by<S: Make>(
     subject: &S,
     alloc: Global,
@@ -34,7 +34,7 @@ pub fn found_by<S: Make>(
     Ok((found, asked))
 }
 
-/// The answers of calls with ample memory, and what is wrong if one of their requests is refused.
+/// The answers of calls with ample memory, and any complaint if one of their requests is refused.
 pub fn found_if_refused<S: Make>(
     subject: &S,
     alloc: Global,
@@ -45,9 +45,9 @@ pub fn found_if_refused<S: Make>(
     found_at_each(subject, alloc, row, answer, asked)
 }
 
-/// The answer of calls, or what is wrong where one of their first requests is refused. They may then answer the same,
-/// as where `collect` asks again or a call is made again, or a first part and that memory ran out. No block is held in
-/// the end.
+/// The answer of calls, or a complaint about what they do when one of their first requests is refused. They may answer
+/// the same, if `collect` asks again or a call is made again, or only a first part and that memory ran out. No block
+/// may be held at the end.
 pub fn found_at_each<S: Make>(
     subject: &S,
     alloc: Global,

@@ -1,5 +1,5 @@
 //! Rows that need no other row: `FIELDS => ANSWER`, replayed with each request for memory refused in turn. In files of
-//! words ` | ` separates fields, and ` ; `, the most requests and the most bytes may follow the answer.
+//! words ` | ` separates fields; ` ; `, the most requests and the most bytes may follow the answer.
 
 use crate::refusing::{FREELY, Most, found_at_each, found_by, found_if_refused};
 use glob_replay::calls::Make;
@@ -43,7 +43,7 @@ pub fn replay_row<M: Memory, S: Make>(
     report.compare(asked, answer.trim(), found.trim())
 }
 
-/// An answer, and the most requests for memory and the most bytes in all, if the row gives them.
+/// An answer, and the most requests for memory and bytes in total, if the row gives them.
 fn with_most(answer: &str) -> io::Result<(&str, Most)> {
     let Some((answer, most)) = answer.split_once(" ; ") else {
         return Ok((answer, FREELY));

@@ -1,5 +1,5 @@
-//! Rows of copied records: `SELECTION | END | READER | WRITER | INPUT`, with what is copied, and how many calls of the
-//! reader and of the writer there are.
+//! Rows about copied records: `SELECTION | END | READER | WRITER | INPUT`, with what is copied, and how often the
+//! reader and the writer are called.
 ghost use Rattle.std.specs.Prelude.{◌==◌, slice_index_or};
 
 use glob_lines::{LineFault, Selection, Watch, copy_selected, filter_lines, filter_records};
@@ -37,8 +37,8 @@ struct Copied<'a> {
     writer: Stream<'a>,
 }
 
-/// Copies records from the reader to the writer of a row: those that are `marked`, or those that the pattern matches.
-/// If a line feed ends them, they are copied as lines.
+/// Copies records from the reader to the writer of a row: the `marked` ones, or the ones that the pattern matches. If
+/// they end in a line feed, they are copied as lines.
 fn copy<'a, M: Memory>(alloc: M, row: &[&'a str]) -> io::Result<Copied<'a>> {
     let [selection, end, reading, writing, input] = *row else {
         return Err(unusable());
@@ -64,7 +64,7 @@ fn copy<'a, M: Memory>(alloc: M, row: &[&'a str]) -> io::Result<Copied<'a>> {
     })
 }
 
-/// Copies by a row. Adds the output and the number of records or what failed and, if few bytes move in a call, also the
+/// Copies as a row says. Adds the output, the number of records or what failed, and, if few bytes move in a call, the
 /// number of reads and writes.
 pub fn add_copy<M: Memory>(calls: &mut Calls<M>, row: &[&str]) -> io::Result<()> {
     let (alloc, words) = (calls.alloc, &mut calls.words);
@@ -81,7 +81,7 @@ pub fn add_copy<M: Memory>(calls: &mut Calls<M>, row: &[&str]) -> io::Result<()>
     add_calls(&copied, words)
 }
 
-/// Whether only the stream that the answer names failed, with the error that it was to have.
+/// Whether only the stream that the answer names failed, with the error that the row gives it.
 fn is_its_fault(alloc: Global, copied: &Copied<'_>) -> Result<bool, AllocError> {
     let (trouble, error, failed) = match &copied.answer {
         Err(LineFault::Read(error)) => (copied.reader.trouble, error, (true, false)),
@@ -95,7 +95,7 @@ fn is_its_fault(alloc: Global, copied: &Copied<'_>) -> Result<bool, AllocError> 
     Ok(copied.failed == failed && are_same(alloc, error, &known)?)
 }
 
-/// Adds the number of reads and writes if few bytes move in a call, and otherwise only if it is more than needed.
+/// Adds the number of reads and writes if few bytes move in a call; otherwise only if it is higher than needed.
 fn add_calls(copied: &Copied<'_>, words: &mut String) -> io::Result<()> {
     let (reader, writer) = (&copied.reader, &copied.writer);
     let are_few = reader.calls <= most_calls(copied.len, reader.most)
@@ -106,8 +106,8 @@ fn add_calls(copied: &Copied<'_>, words: &mut String) -> io::Result<()> {
     Ok(write!(words, " {} {}", reader.calls, writer.calls)?)
 }
 
-/// The most calls for `len` bytes, in pieces of 64 KiB, if a call moves at most `most`: the full ones, one that is not
-/// full for each piece and for the rest, and a read of nothing or a write of the last record.
+/// The most calls for `len` bytes, in pieces of 64 KiB, if a call moves at most `most` bytes: the full calls, one call
+/// that is not full for each piece and for the rest, and a read of nothing or a write of the last record.
 fn most_calls(len: usize, most: usize) -> u64 {
     let full = len / most.max(1);
     (full as u64).saturating_add(len as u64 / 65_536 + 2)

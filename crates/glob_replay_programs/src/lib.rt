@@ -9,8 +9,7 @@ use glob_replay::ration::Memory;
 use glob_replay::words::unusable;
 use std::io;
 
-/// Copies of records, and what programs write. The first word of a row is the name of its calls, and the others are its
-/// fields.
+/// Copies of records, and what programs write. The first word of a row names its calls, and the others are its fields.
 #[derive(Clone, Copy)]
 pub struct Programs;
 

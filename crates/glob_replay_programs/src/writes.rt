@@ -1,4 +1,4 @@
-//! Rows of what programs write, and when: `JOB | CONTENT | OUTPUT | ERRORS`, where the last two are writers.
+//! Rows about what programs write, and when: `JOB | CONTENT | OUTPUT | ERRORS`, where the last two are writers.
 
 use glob_console::{ErrorLines, Every, WalkSettings, find_in, write_text};
 use glob_lines::write_whole;
@@ -20,9 +20,9 @@ struct Ran<'a> {
     errors: Stream<'a>,
 }
 
-/// Does a row's job as the program `name`, over a tree of its content. The job is `text`, `fault` or `arguments` with
-/// what is written or reported, or `find` with a pattern. The clock of the writers counts questions. The error is
-/// refused memory.
+/// Does a row's job as the program `name`, over a tree with the row's content. The job is `text`, `fault` or
+/// `arguments` with what to write or report, or `find` with a pattern. The clock of the writers counts questions. It is
+/// an error if memory was refused.
 fn run<'a, M: Memory>(alloc: M, row: &[&str], counts: &'a Counts) -> io::Result<Ran<'a>> {
     let [job, content, output, errors] = *row else {
         return Err(unusable());
@@ -72,8 +72,8 @@ fn find<T: Tree, W: Write, E: Write>(
     }
 }
 
-/// Does a row's job: adds the status, and of each writer what was written, or how many bytes if its writes are due at
-/// some time, and before it how many writes of many bytes there were. None that fails is flushed twice.
+/// Does a row's job. Adds the status and, for each writer, how many writes of many bytes there were, and what was
+/// written, or only how many bytes if its writes are due at given times. A writer that fails must not be flushed twice.
 pub fn add_run<M: Memory>(calls: &mut Calls<M>, row: &[&str]) -> io::Result<()> {
     let counts = Counts::default();
     let ran = run(calls.alloc, row, &counts)?;
@@ -82,7 +82,7 @@ pub fn add_run<M: Memory>(calls: &mut Calls<M>, row: &[&str]) -> io::Result<()> 
     add_written(&ran.errors, &mut calls.words)
 }
 
-/// Writes a text by `write_whole`. Adds its error, if there is one, how many writes there were, and what was written.
+/// Writes a text with `write_whole`. Adds its error, if there is one, how many writes there were, and what was written.
 pub fn add_whole<M: Memory>(calls: &mut Calls<M>, writer: &str, text: &str) -> io::Result<()> {
     let (alloc, words) = (calls.alloc.inner(), &mut calls.words);
     let mut output = Stream::new(alloc, b"", writer)?;

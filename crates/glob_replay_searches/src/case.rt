@@ -13,8 +13,8 @@ static COMPONENTS: [&str; 25] = [
     ".*", "é", "B", "a.c", "??", "[[]a]", "x", "*[b-c]", "[.a]*", "rules",
 ];
 
-/// The names of the files with rules that are heard, the one that is asked first in the end.
-static HEARD: [&str; 4] = ["", "rules", "rules .more", ".more rules"];
+/// The names of the files with rules that a search reads. The last one is asked first.
+static RULE_NAMES: [&str; 4] = ["", "rules", "rules .more", ".more rules"];
 
 /// A search, and the tree that it is made in.
 #[derive(Drop)]
@@ -24,11 +24,11 @@ pub struct Case {
     pub wanted: Wanted,
     pub kinds: bool,
     pub depth: usize,
-    /// Lists of rules that come before those of files, and after them.
+    /// Lists of rules that override the rules of files, and lists that the files override.
     pub first: Vec<String>,
     pub last: Vec<String>,
-    /// The names of the files with rules that are heard, with blanks between.
-    pub heard: String,
+    /// The names of the files with rules that a search reads, with blanks between.
+    pub rule_names: String,
     pub forest: Forest,
 }
 
@@ -43,7 +43,7 @@ impl Case {
             depth: random_depth(chance),
             first: random_lists(alloc, chance)?,
             last: random_lists(alloc, chance)?,
-            heard: String::from_str(alloc, chance.pick(&HEARD))?,
+            rule_names: String::from_str(alloc, chance.pick(&RULE_NAMES))?,
             forest: Forest::random(alloc, chance)?,
         })
     }
@@ -74,7 +74,7 @@ fn random_wanted(chance: &mut Chance) -> Wanted {
     }
 }
 
-/// A depth of less than six names, or no limit.
+/// A depth below six names, or no limit.
 fn random_depth(chance: &mut Chance) -> usize {
     if chance.is_one_in(2) {
         usize::MAX
@@ -83,7 +83,7 @@ fn random_depth(chance: &mut Chance) -> usize {
     }
 }
 
-/// Two lists of rules, or one, or in half of all cases none.
+/// Two lists of rules, one, or, in half of all cases, none.
 fn random_lists(alloc: Global, chance: &mut Chance) -> Result<Vec<String>, AllocError> {
     let mut lists = Vec::new(alloc);
     for _ in 0..chance.below(4).saturating_sub(1) {

@@ -2,7 +2,7 @@
 
 use std::alloc::{AllocError, Global};
 
-/// Random numbers: those of a linear congruential generator, from a seed on.
+/// Random numbers from a linear congruential generator with a seed.
 #[derive(Drop)]
 pub struct Chance {
     state: u64,
@@ -24,7 +24,7 @@ impl Chance {
         ((self.state >> 33) as usize).checked_rem(end).unwrap_or(0)
     }
 
-    /// Yes, once in so many times.
+    /// True once in this many times.
     pub fn is_one_in(&mut self, times: usize) -> bool {
         self.below(times) == 0
     }
@@ -35,7 +35,7 @@ impl Chance {
         texts.get(number).copied().unwrap_or("")
     }
 
-    /// One of the texts, or more, up to so many, joined by a separator.
+    /// One or more of the texts, up to this many, joined by a separator.
     pub fn joined(
         &mut self,
         texts: &[&str],

@@ -1,9 +1,9 @@
-//! What a search has to find, by a filter of all paths.
+//! What a search has to find, computed by filtering all paths.
 //!
-//! In a search the rules of a file are about what is below its directory. The filter has one list of rules, about what
-//! is below the start. As the last rule that names a path decides, it begins with the rules that come after those of
-//! files. Then come those of each file, a directory's before those of the directories in it, and at the end the rules
-//! that come before those of files. `b/` of a file in `a` becomes `/a/**/b/`, and `!/b` becomes `!/a/b`.
+//! A search has many lists of rules, each for the paths below one directory. The filter has a single list, for the
+//! paths below the start: the rule `b/` of a file in `a` becomes `/a/**/b/` there, and `!/b` becomes `!/a/b`. Since the
+//! last rule that names a path decides, the rules that a search asks last come first: `last`, then the rules of files
+//! (a directory's before those of the directories in it), then `first`.
 
 use crate::case::Case;
 use crate::forest::path_in;
@@ -17,15 +17,14 @@ use std::io::{self, Write};
 /// What is to be found.
 #[derive(Drop)]
 pub struct Filtered {
-    /// Each path in a line, with `/` after a directory if kinds are asked for.
+    /// Each path on a line, with `/` after a directory if kinds are asked for.
     pub lines: String,
     /// How many paths rules leave out.
     pub ignored: usize,
 }
 
 impl Case {
-    /// The paths that some pattern matches whole, under the separator rule, that are wanted, not too deep, and not
-    /// ignored.
+    /// The paths that some pattern matches under the separator rule and that are wanted, not too deep, and not ignored.
     pub fn filtered(&self, alloc: Global) -> io::Result<Filtered> {
         let (list, patterns) = (self.list(alloc)?, self.compiled(alloc)?);
         let mut filtered = Filtered {
@@ -101,10 +100,10 @@ impl Case {
         IgnoreList::new(alloc, rules.as_str()).map_err(|_| unusable())
     }
 
-    /// Adds the rules of the files of a directory that are heard.
+    /// Adds the rules of the rule files in a directory that a search reads.
     fn add_rules_in(&self, rules: &mut String, directory: &str) -> Result<(), AllocError> {
         let alloc = *rules.allocator();
-        for name in self.heard.split_whitespace() {
+        for name in self.rule_names.split_whitespace() {
             let path = path_in(alloc, directory, name)?;
             if let Some(text) = self.forest.texts.get(path.as_str()) {
                 add_rules_from(rules, directory, text.as_str())?;
@@ -114,7 +113,7 @@ impl Case {
     }
 }
 
-/// Adds lists of rules, each rule in a line.
+/// Adds lists of rules, each rule on a line.
 fn add_texts(rules: &mut String, texts: &[String]) -> Result<(), AllocError> {
     for text in texts {
         write!(rules, "{text}\n")?;
@@ -132,8 +131,8 @@ fn add_rules_from(rules: &mut String, directory: &str, text: &str) -> Result<(),
     Ok(())
 }
 
-/// Adds a rule of a file in a directory. One with a `/` before its end is about paths from the directory on, and any
-/// other about the names of all that is below the directory.
+/// Adds a rule of a file in a directory. A rule with a `/` before its end is about paths from the directory on; any
+/// other rule is about the names of everything below the directory.
 fn add_rule_from(rules: &mut String, directory: &str, rule: &str) -> Result<(), AllocError> {
     let (sign, rule) = match rule.strip_prefix('!') {
         Some(rule) => ("!", rule),

@@ -22,13 +22,13 @@ static RULES: [&str; 21] = [
 /// The directories in which searches start.
 static STARTS: [&str; 2] = ["", "/start"];
 
-/// What is in a tree, from the directory on in which searches start.
+/// What is in a tree, below the directory in which searches start.
 #[derive(Drop)]
 pub struct Forest {
-    /// Each path, with a NUL in place of each `/` so that they are in the order of their names, and whether it is a
-    /// directory.
+    /// Each path, and whether it is a directory. Paths have a NUL in place of each `/`, so that they sort by their
+    /// names.
     pub places: BTreeMap<String, bool>,
-    /// The paths of directories, each after that of the directory that it is in. The first is empty: the start.
+    /// The paths of directories, each after its parent's. The first is empty: the start.
     pub directories: Vec<String>,
     /// The texts of files with rules, by their paths.
     pub texts: BTreeMap<String, String>,
@@ -104,7 +104,7 @@ impl Forest {
         Ok(())
     }
 
-    /// Adds something at a path, and says whether its place was free.
+    /// Adds something at a path, and returns whether the path was free.
     fn add(&mut self, path: &str, is_dir: bool) -> io::Result<bool> {
         let place = path.replace(self.alloc, "/", "\0")?;
         if self.places.contains_key(place.as_str()) {

@@ -4,12 +4,12 @@ use crate::case::Case;
 use crate::rule_texts::Texts;
 use glob_replay::words::unusable;
 use glob_rules::IgnoreList;
-use glob_search::{Search, Settings};
+use glob_search::{OuterRules, Search, Settings};
 use std::alloc::Global;
 use std::io;
 
 impl Case {
-    /// What the search finds, each path in a line as in `Filtered`.
+    /// What the search finds, each path on a line as in `Filtered`.
     pub fn found(&self, alloc: Global) -> io::Result<String> {
         let (mut search, mut tree) = (self.search(alloc)?, self.forest.tree()?);
         let mut texts = Texts {
@@ -17,7 +17,7 @@ impl Case {
             alloc,
         };
         let mut lines = String::new(alloc);
-        // In so small a tree no search gives more.
+        // No search in such a small tree gives more.
         for _ in 0..1_000 {
             match search.next(&mut tree, &mut texts) {
                 Some(Ok(found)) => self.add_line(&mut lines, found.path.as_str(), found.is_dir)?,
@@ -44,8 +44,10 @@ impl Case {
         settings.wanted = self.wanted;
         settings.kinds = self.kinds;
         settings.first = lists_of(alloc, self.first.as_slice())?;
-        settings.last = lists_of(alloc, self.last.as_slice())?;
-        for name in self.heard.split_whitespace() {
+        for list in lists_of(alloc, self.last.as_slice())? {
+            settings.last.push(OuterRules::at_start(alloc, list))?;
+        }
+        for name in self.rule_names.split_whitespace() {
             settings.rule_files.push(String::from_str(alloc, name)?)?;
         }
         Ok(settings)

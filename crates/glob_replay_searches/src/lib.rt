@@ -1,5 +1,5 @@
-//! Random searches over trees in memory. What each finds is compared with a filter of all paths: those that one of the
-//! patterns matches whole and that one list of all rules does not ignore.
+//! Random searches over trees in memory. What each finds is compared with a filter of all paths, which keeps the paths
+//! that one of the patterns matches and that a single list of all rules does not ignore.
 #![tactic(auto)]
 
 mod case;

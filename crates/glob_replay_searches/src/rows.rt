@@ -1,4 +1,4 @@
-//! Rows of random searches.
+//! Rows about random searches.
 
 use crate::case::Case;
 use crate::chance::Chance;
@@ -8,7 +8,7 @@ use glob_replay::words::{number_of, unusable};
 use std::alloc::Global;
 use std::io::{self, Write};
 
-/// Random searches. The first word of a row is the name of its calls, and the others are its fields.
+/// Random searches. The first word of a row names its calls, and the others are its fields.
 #[derive(Clone, Copy)]
 pub struct Searches;
 
@@ -28,8 +28,8 @@ impl Make for Searches {
     }
 }
 
-/// How many searches there are, how many agree with the filter, how many of these find something, and in how many of
-/// them rules leave something out.
+/// How many searches there are, how many agree with the filter, how many of these find something, and how many leave
+/// something out by rules.
 #[derive(Default, Drop)]
 struct Tally {
     all: usize,
@@ -39,14 +39,14 @@ struct Tally {
 }
 
 impl Tally {
-    /// Adds how many agree, whether a quarter of all find something, and whether in a tenth rules leave something out.
+    /// Adds how many agree, whether a quarter of all find something, and whether a tenth leave something out by rules.
     fn add_to(&self, words: &mut String) -> io::Result<()> {
         let find = amount(self.find, self.all / 4);
         let ignore = amount(self.ignore, self.all / 10);
         Ok(write!(words, "{} agree, {find} find, {ignore} ignore", self.agree)?)
     }
 
-    /// Makes a search, and counts it if it finds what the filter does. Otherwise adds what it finds.
+    /// Makes a search, and counts it if it finds the same as the filter. Otherwise adds what it finds.
     fn compare(&mut self, words: &mut String, case: &Case) -> io::Result<()> {
         let alloc = *words.allocator();
         let (filtered, found) = (case.filtered(alloc)?, case.found(alloc)?);
@@ -65,12 +65,12 @@ impl Tally {
     }
 }
 
-/// Whether there are as many as that, in words.
+/// Whether there are at least that many, in words.
 fn amount<'a>(number: usize, least: usize) -> &'a str {
     if number >= least { "many" } else { "few" }
 }
 
-/// Makes so many random searches, from a seed on, and adds those that do not agree with the filter.
+/// Makes this many random searches, from a seed on, and adds those that do not agree with the filter.
 fn search_at_random(words: &mut String, count: usize, seed: usize) -> io::Result<Tally> {
     let alloc = *words.allocator();
     let mut chance = Chance::new(alloc, seed as u64);
@@ -82,7 +82,7 @@ fn search_at_random(words: &mut String, count: usize, seed: usize) -> io::Result
     Ok(tally)
 }
 
-/// Adds the patterns of a search that does not agree with the filter, what it finds, and what the filter does.
+/// Adds the patterns of a search that does not agree with the filter, what it finds, and what the filter finds.
 fn add_difference(words: &mut String, case: &Case, found: &str, filtered: &str) -> io::Result<()> {
     for text in case.patterns.as_slice() {
         write!(words, "{text} ")?;

@@ -1,4 +1,4 @@
-//! The texts of files with rules of a tree in memory.
+//! The texts of the rule files of a tree in memory.
 ghost use Rattle.std.specs.Prelude.{None};
 
 use glob_search::RuleTexts;

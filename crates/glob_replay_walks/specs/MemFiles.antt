@@ -1,5 +1,6 @@
 -- Files in memory, as lists of pairs: a key and what is there.
-use Rattle.std.specs.Prelude.{◌==◌, ◌&&◌, not, if◌then◌else◌, Bool, List, [], map, filter_map, find, Option, Some, None, option_map, option_and_then}
+use Rattle.std.specs.Prelude.{◌==◌, ◌&&◌, not, if◌then◌else◌, Bool, List, [], map, filter_map, find, Option, Some, None}
+use Rattle.std.specs.Prelude.{option_map, option_and_then}
 use Rattle.std.specs.Borrow.{Bor}
 use Rattle.std.specs.List.{filter, list_any, list_all}
 use Rattle.std.specs.Str.{is_utf8}
@@ -46,7 +47,7 @@ is_stray name = not (is_utf8 name) && not (list_any (λ b. b == nul) name)
 unfoldable pub files_of : {A : Type 0} → List (Keyed Kind A) → List (Keyed LinkTo A) → List (Keyed (Bor Text) A) → Option FileSystem
 files_of kinds links strays =
     if list_all (λ s. is_stray s.what.now) strays
-    then Some (record { content = content_of kinds; links = links_of links; strays = strays_of strays })
+    then Some (record { content = content_of kinds; links = links_of links; strays = strays_of strays; numbers = []; hidden = [] })
     else None
 
 -- the name that a key has in this directory, if it is directly in it
@@ -67,7 +68,7 @@ found_at kinds links k = option_map (λ kind. (kind, value_at k links)) (value_a
 abbrev pub found_of : {A : Type 0} → List (Keyed Kind A) → List (Keyed LinkTo A) → Text → Option (Kind × Option LinkTo)
 found_of kinds links path = option_and_then (found_at kinds links) (resolve (content_of kinds) path)
 
--- what `lstat` and `stat` report of it
+-- what `lstat` and `stat` report about it
 abbrev pub lstat_of : Option (Kind × Option LinkTo) → Option Found
 lstat_of found = option_map (λ p. lstat_reports p.0 (option_map target_of p.1)) found
 

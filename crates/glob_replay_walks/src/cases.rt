@@ -1,5 +1,5 @@
-//! Cases about walks over the disk: `walk OPTIONS LIMIT PATTERN` is answered by `ok`, the units charged, and the items
-//! as `Found` has them; a pattern with a fault is answered by `fault`, its place and its message.
+//! Cases about walks over the disk. `walk OPTIONS LIMIT PATTERN` gets `ok`, the units charged, and the items as in
+//! `Found`; for a pattern with a fault, it gets `fault`, its place and its message.
 
 use crate::walking::taken;
 use glob::{Disk, glob_in};
@@ -8,7 +8,7 @@ use glob_replay::ration::Memory;
 use glob_replay::words::{add_fault, number_of, options_of, unusable};
 use std::io::{self, Write};
 
-/// Adds the answer to `walk`; these are its other fields.
+/// Adds the answer to `walk` with these other fields.
 pub fn add_walk<M: Memory>(
     calls: &mut Calls<M>,
     rt: HostRuntime,

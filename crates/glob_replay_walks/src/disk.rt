@@ -1,5 +1,5 @@
-//! Walks on the disk. The content is made in a folder below the current directory: the pattern has the folder's escaped
-//! path and `/` before it, and each path the folder's path and `/`.
+//! Walks on the disk. The content is made in a folder below the current directory. So the folder's escaped path and `/`
+//! go before the pattern, and the folder's path and `/` before each path.
 
 use crate::walking::{Job, taken};
 use crate::walks::{Expected, compare_walk};
@@ -38,7 +38,7 @@ fn make(rt: &HostRuntime, settings: &Settings) -> io::Result<()> {
     Ok(())
 }
 
-/// Replays a walk below the folder. Each name in the folder's path costs one more look, unless it is escaped.
+/// Replays a walk below the folder. Each name in the folder's path costs one more lookup, unless it is escaped.
 pub fn replay<M: Memory>(
     report: &Report<M>,
     job: Job<'_>,
@@ -60,7 +60,7 @@ pub fn replay<M: Memory>(
     replay_whole(report, job, (folder.as_str(), items, units))
 }
 
-/// Replays a walk over the disk by `glob_with` and, under the usual options, also by `glob`.
+/// Replays a walk over the disk with `glob_with` and, under the usual options, also with `glob`.
 fn replay_whole<M: Memory>(
     report: &Report<M>,
     job: Job<'_>,

@@ -1,5 +1,5 @@
-//! Rows of disks: over files in memory, also with a call that fails, and over a scripted system, which does what no
-//! constant file system does, and counts system calls.
+//! Rows about disks: over files in memory, also with a call that fails, and over a scripted system, which counts system
+//! calls and can answer as no file system would that stays the same.
 
 pub mod contents;
 pub mod failing;
@@ -27,7 +27,7 @@ use std::io::{self, ErrorKind, Write};
 
 /// The disks that rows name.
 pub trait Disks: Copy {
-    /// Asks the disk of this name over a system, and notes what it reports.
+    /// Asks the disk with this name over a system, and notes what the disk reports.
     fn ask<M: Memory, R: System>(
         &self,
         calls: &mut Calls<M>,
@@ -37,7 +37,7 @@ pub trait Disks: Copy {
     ) -> io::Result<()>;
 }
 
-/// A `disk`, which follows links, and a `PhysicalDisk` with links `kept` or `followed`.
+/// `disk` is a `Disk`, which follows links; `kept` and `followed` are a `PhysicalDisk` that keeps or follows them.
 #[derive(Clone, Copy)]
 pub struct PlainDisks;
 
@@ -63,8 +63,8 @@ impl Disks for PlainDisks {
     }
 }
 
-/// What a disk of these paths answers, or `$` if an allocation fails that was not refused, and with which system calls.
-/// The error is memory that was refused.
+/// What a disk with these paths answers, or `$` if an allocation fails that was not refused, and by which system calls.
+/// It is an error if memory was refused.
 fn answer_of<M: Memory, D: Disks>(
     alloc: M,
     paths: &[Planted<'_>],
@@ -84,9 +84,9 @@ fn answer_of<M: Memory, D: Disks>(
 /// A call, and the path that it is made for.
 pub type Asked<'a> = (&'a str, &'a str);
 
-/// Adds what a tree answers to a call about a path, or to looks at the paths between `,`. What these find is `Dir`,
-/// `Other` or `Missing`. Of entries there are the names, a directory's with `/` at its end, and a blank after each,
-/// and so of a walk the paths. After `!` there is an error, or the path that a walk could not read.
+/// Adds what a tree answers to a call about a path, or to looks at several paths with `,` between them. A look gives
+/// `Dir`, `Other` or `Missing`. A listing gives the names, with `/` after a directory's and a blank after each; a walk
+/// gives paths in the same way. After `!` comes an error, or the path that a walk could not read.
 pub fn ask<M: Memory, T: Tree<Alloc = M>>(
     calls: &mut Calls<M>,
     tree: T,
@@ -126,8 +126,8 @@ fn add_first_error<M: Memory, T: Tree<Alloc = M>>(
     }
 }
 
-/// Adds the path and the cause of a walk's error, and what is wrong with it. The calls on it take no memory. If memory
-/// ran out, nothing is said about its path.
+/// Adds the path and the cause of a walk's error, and any complaint about the error. Calls on the error take no memory.
+/// If memory ran out, its path is not checked.
 fn add_error<M: Memory>(
     calls: &mut Calls<M>,
     error: GlobError<M>,
@@ -158,7 +158,7 @@ fn is_known<M: Memory>(
     Ok(is_printed && is_same && are_same(inner, &error.into_error(), &known)?)
 }
 
-/// Makes the call of the second field of each disk of the first about each path of the third. The words are the answer
+/// Calls each disk of the first field with the call of the second, for each path of the third. The words are the answer
 /// and the system calls, which are the same for all.
 pub fn ask_each<M: Memory, D: Disks>(
     disks: D,
@@ -180,7 +180,7 @@ pub fn ask_each<M: Memory, D: Disks>(
     Ok(())
 }
 
-/// Adds the answer of a disk; if it differs from the one before, also the disk.
+/// Adds the answer of a disk; if it differs from the answer before, also the disk.
 fn add_same(words: &mut String, answer: &str, disk: (&str, &str)) -> Result<(), AllocError> {
     if words.is_empty() {
         words.push_str(answer)?;
@@ -190,8 +190,8 @@ fn add_same(words: &mut String, answer: &str, disk: (&str, &str)) -> Result<(), 
     Ok(())
 }
 
-/// Makes a call of each disk over files in memory, with directories read in pieces of each size, and over a tree in
-/// memory, if the content is one. The words are the answer, the same for all, and how much was reported.
+/// Makes a call on each disk over files in memory, with directories read in pieces of each size, and on a tree in
+/// memory, if the content allows one. The words are the answer, the same for all, and how much was reported.
 pub fn ask_in_memory<M: Memory>(calls: &mut Calls<M>, fields: &[&str]) -> io::Result<()> {
     let [names, pieces, content, call, path] = *fields else {
         return Err(unusable());
@@ -233,7 +233,7 @@ fn answer_over<M: Memory, R: System>(
     Ok(made.words)
 }
 
-/// Walks a disk over files in memory, once for each system call that it makes, which then fails. The words are
+/// Walks a disk over files in memory, once for each system call of the walk, and lets that call fail. The words are
 /// each answer, how much was reported, and `-`.
 pub fn ask_failing_in_memory<M: Memory>(calls: &mut Calls<M>, fields: &[&str]) -> io::Result<()> {
     let [disk, piece, content, call, path] = *fields else {
@@ -257,8 +257,8 @@ pub fn ask_failing_in_memory<M: Memory>(calls: &mut Calls<M>, fields: &[&str]) -
     Err(unusable())
 }
 
-/// Adds of a look how often a path was looked up, of a walk how often a directory was opened, and of a listing both;
-/// then whether something was reported. Nothing is opened for a look.
+/// Adds for a look how often a path was looked up, for a walk how often a directory was opened, and for a listing both;
+/// then whether something was reported. A look must open nothing.
 fn add_calls(words: &mut String, system: &SystemCalls, call: &str) -> Result<(), AllocError> {
     let (lookups, opens) = (system.lookups.get(), system.opens.get());
     match call {
@@ -273,9 +273,10 @@ fn add_calls(words: &mut String, system: &SystemCalls, call: &str) -> Result<(),
     }
 }
 
-/// Asks disks where the system fails by each of its errors, and by one with words of its own: `a`, the target of the
-/// link `l` and the entry of `e` cannot be looked up, `o` not opened, and `r` not read. Adds each disk and number of an
-/// error at which the answer is not that of the last field, where `!` is the error.
+/// Asks disks over a system that fails with each of the system's errors, and with one that has a message of its own:
+/// `a`, the target of the link `l` and the entry of `e` cannot be looked up, `o` cannot be opened, and `r` cannot be
+/// read. Adds each disk and number of an error for which the answer differs from the last field, in which `!` is the
+/// error.
 pub fn ask_failing<M: Memory, D: Disks>(
     disks: D,
     calls: &mut Calls<M>,
@@ -308,8 +309,8 @@ pub fn ask_failing<M: Memory, D: Disks>(
     Ok(())
 }
 
-/// Asks a disk about a directory, of which a read gives the first names, and each of so many further ones the others.
-/// Adds the answer, the system calls, and how many bytes the reads had room for.
+/// Asks a disk about a directory. The first read gives the first names, and each of this many further reads gives the
+/// other names. Adds the answer, the system calls, and how many bytes the reads had room for.
 pub fn ask_large<M: Memory>(calls: &mut Calls<M>, fields: &[&str]) -> io::Result<()> {
     let [disk, call, names, reads] = *fields else {
         return Err(unusable());
@@ -327,8 +328,8 @@ pub fn ask_large<M: Memory>(calls: &mut Calls<M>, fields: &[&str]) -> io::Result
     Ok(write!(calls.words, "{answer} {}", system.room.get())?)
 }
 
-/// Walks where the path of the first field cannot be looked up, and `a` not opened, by the error of the second, and
-/// adds the first item.
+/// Walks a disk on which the path of the first field cannot be looked up, and `a` cannot be opened, with the error of
+/// the second field. Adds the first item.
 pub fn walk_to_error<M: Memory>(calls: &mut Calls<M>, fields: &[&str]) -> io::Result<()> {
     let [lost, word, pattern, limit] = *fields else {
         return Err(unusable());

@@ -1,5 +1,5 @@
 //! Compares the walk of a plain pattern with the paths of the content that the whole pattern matches, under both
-//! settings of each rule: as sets and, if the pattern promises it, in order.
+//! settings of each rule: as sets and, for patterns that promise it, in order.
 
 use crate::walking::{Found, Job, gathered};
 use glob::{MatchOptions, is_plain};
@@ -12,7 +12,7 @@ use glob_replay::words::{options_of, pattern_of};
 use std::alloc::{AllocError, Global};
 use std::io;
 
-/// Compares a walk under each setting, if its pattern is plain, and case and limit are as usual.
+/// Compares a walk under each setting, if its pattern is plain and case and limit are as usual.
 pub fn replay<M: Memory>(report: &Report<M>, job: Job<'_>) -> io::Result<()> {
     let (alloc, settings) = (report.alloc(), &report.settings);
     let is_content = settings.get("tree").is_empty();
@@ -26,7 +26,7 @@ pub fn replay<M: Memory>(report: &Report<M>, job: Job<'_>) -> io::Result<()> {
         let goals = goals_of(alloc, settings, job)?;
         let counts = Counts::default();
         let tree = settings.tree(report.memory, &counts)?;
-        let walk = gathered(report.memory, tree, &counts.asked, job)?;
+        let walk = gathered(report.memory, tree, &counts, job)?;
         let is_right = are_goals(&walk, &goals) && is_orderly(alloc, job.pattern, &walk)?;
         if is_right {
             report.compare(job.pattern, "goals", "goals")?;
@@ -57,7 +57,7 @@ fn goals_of(alloc: Global, settings: &Settings, job: Job<'_>) -> io::Result<Vec<
     Ok(goals)
 }
 
-/// Whether each path of a walk is a goal, and each goal is one of the paths or below a directory that could not be
+/// Whether each path of a walk is a goal, and each goal is among the paths or below a directory that could not be
 /// listed.
 fn are_goals(walk: &Found, goals: &[String]) -> bool {
     walk.paths.iter().all(|path| goals.contains(path))
@@ -72,8 +72,8 @@ fn is_lost(path: &str, lost: &[String]) -> bool {
     })
 }
 
-/// Whether the paths of a walk come once, if the pattern has `**` in at most one place, and ascend as lists of names,
-/// if also at most one component follows it. Errors are left out.
+/// Whether each path of a walk comes once if the pattern has `**` in at most one place, and the paths ascend as lists
+/// of names if also at most one component follows it. Errors are left out.
 fn is_orderly(alloc: Global, pattern: &str, walk: &Found) -> Result<bool, AllocError> {
     let (_, rest) = pattern.split_once("**").unwrap_or(("", ""));
     let rest = rest.trim_start_matches("/**").trim_end_matches('/');

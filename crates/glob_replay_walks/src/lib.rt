@@ -1,4 +1,4 @@
-//! Replays rows about trees, walks and disks, and answers cases of tests about walks.
+//! Replays rows about trees, walks and disks, and answers test cases about walks.
 #![tactic(auto)]
 
 pub mod cases;

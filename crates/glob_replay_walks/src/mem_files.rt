@@ -1,13 +1,13 @@
 //! A system in memory whose file system has symbolic links and names that are not UTF-8.
-ghost use Rattle.std.specs.Prelude.{◌≡◌, ◌++◌, ◌∷◌, [], option_map, Some, IfOk, OnOk};
+ghost use Rattle.std.specs.Prelude.{◌≡◌, ◌++◌, ◌∷◌, [], false, option_map, Some, IfErr, IfOk, OnOk};
 ghost use Rattle.glob_tree.specs.Content.{same_key, is_dir_at, step, resolve};
 ghost use Rattle.glob_tree.specs.Paths.{nul};
 ghost use Rattle.glob_tree.specs.Private.Listing.{name_bytes};
 ghost use Rattle.glob_replay_walks.specs.MemFiles.{key_of, key_at, value_at, content_of, name_in, names_at, strays_at, found_of, target_of, lstat_of, stat_of};
-ghost use Rattle.glob_tree.specs.FileSystems.{IsStatAnswer, stat_reports};
+ghost use Rattle.glob_tree.specs.FileSystems.{IsLookupError, IsNumberAnswer, IsStatAnswer, no_number, stat_reports};
 ghost use Rattle.glob_tree.specs.declared.kind.Kind.TheVariants.{Other};
 
-use glob_tree::{Directory, Kind, System, stays};
+use glob_tree::{Directory, DirectoryId, Kind, System, stays};
 use std::alloc::{AllocError, Allocator, Global};
 use std::collections::VecDeque;
 use std::fs::Metadata;
@@ -58,8 +58,8 @@ fn value_at<T: Copy, A: Allocator>(list: &[Keyed<'_, T, A>], key: &[&str]) -> Op
 /// A system that holds a file system in memory: what is at each key (links are [`Kind::Other`]), what links point to,
 /// and the names that are not UTF-8, with the keys of their directories. The root is the current directory.
 ///
-/// A directory is read in pieces of at most `piece` bytes, or of one if that is 0. Names that are not UTF-8 come first,
-/// then `.` and `..`. A directory that cannot be listed is opened, and fails when it is read.
+/// A directory is read in pieces of at most `piece` bytes, or of one byte if `piece` is 0. Names that are not UTF-8
+/// come first, then `.` and `..`. A directory that cannot be listed is opened, and fails when it is read.
 #[derive(Drop)]
 pub struct MemFiles<'a, A: Allocator = Global> {
     pub kinds: Vec<Keyed<'a, Kind, A>, A>,
@@ -199,7 +199,8 @@ fn add_name<A: Allocator>(bytes: &mut Vec<u8, A>, name: &[u8]) -> Result<(), All
 
 /// The answer of `lstat` for what was found.
 fn lstat_answer(found: Option<(Kind, Option<LinkTo>)>) -> io::Result<Metadata>
-    ensures { IsStatAnswer (lstat_of found) result }
+    ensures found { IsStatAnswer (lstat_of found) result }
+    ensures fails { IfErr result (IsLookupError false) }
 {
     match found {
         Some((Kind::Other, None)) => Ok(Metadata::of_file(0)),
@@ -211,7 +212,8 @@ fn lstat_answer(found: Option<(Kind, Option<LinkTo>)>) -> io::Result<Metadata>
 
 /// The answer of `stat`.
 fn stat_answer(found: Option<(Kind, Option<LinkTo>)>) -> io::Result<Metadata>
-    ensures { IsStatAnswer (stat_of found) result }
+    ensures found { IsStatAnswer (stat_of found) result }
+    ensures fails { IfErr result (IsLookupError false) }
 {
     match found {
         Some((Kind::Other, Some(to))) => target_answer(to),
@@ -223,12 +225,27 @@ fn stat_answer(found: Option<(Kind, Option<LinkTo>)>) -> io::Result<Metadata>
 
 /// The answer of `stat` for a link.
 fn target_answer(to: LinkTo) -> io::Result<Metadata>
-    ensures { IsStatAnswer (stat_reports Other (Some (target_of to))) result }
+    ensures found { IsStatAnswer (stat_reports Other (Some (target_of to))) result }
+    ensures fails { IfErr result (IsLookupError false) }
 {
     match to {
         LinkTo::Nowhere => Err(ErrorKind::NotFound.into()),
         LinkTo::AFile => Ok(Metadata::of_file(0)),
         LinkTo::ADirectory => Ok(Metadata::of_dir()),
+    }
+}
+
+/// The answer of `directory_id`: no directory has a number.
+fn number_answer(found: Option<(Kind, Option<LinkTo>)>) -> io::Result<Option<DirectoryId>>
+    ensures found { IsNumberAnswer (stat_of found) no_number result }
+    ensures fails { IfErr result (IsLookupError false) }
+{
+    match found {
+        Some((Kind::Other, Some(LinkTo::Nowhere))) | None => Err(ErrorKind::NotFound.into()),
+        Some((Kind::Other, Some(LinkTo::AFile) | None)) => Ok(None),
+        Some((Kind::Other, Some(LinkTo::ADirectory))) | Some((Kind::Dir | Kind::Shut(_), _)) => {
+            Ok(Some(DirectoryId { dev: 0, ino: 0 }))
+        }
     }
 }
 
@@ -245,6 +262,10 @@ impl<'a, A: Allocator + Copy> System for MemFiles<'a, A> {
 
     fn stat(&self, path: &str) -> io::Result<Metadata> {
         stat_answer(self.found(path)?)
+    }
+
+    fn directory_id(&self, path: &str) -> io::Result<Option<DirectoryId>> {
+        number_answer(self.found(path)?)
     }
 
     fn open(&self, path: &str) -> io::Result<MemNames<A>> {

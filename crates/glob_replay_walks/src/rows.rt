@@ -12,8 +12,8 @@ use glob_replay::ration::Memory;
 use glob_replay::words::{add_fault, number_of, refused, unusable};
 use std::io::{self, Write};
 
-/// Plain patterns, trees, walks and disks. The first word of a row is the name of its file or of its calls, and the
-/// others are its fields.
+/// Plain patterns, trees, walks and disks. The first word of a row names its file or its calls, and the others are its
+/// fields.
 #[derive(Clone, Copy)]
 pub struct Walks;
 
@@ -47,15 +47,15 @@ fn add_plainness<M: Memory>(calls: &mut Calls<M>, text: &str) -> io::Result<()> 
     }
 }
 
-/// Walks over a content: adds the items by `walk_in`, and then those by `next`.
+/// Walks over a content: adds the items of `walk_in`, and then the items of `next`.
 fn walk<M: Memory>(calls: &mut Calls<M>, content: &str, pattern: &str) -> io::Result<()> {
     let (alloc, words, job) = (calls.alloc, &mut calls.words, Job::of(pattern));
     let (first, second) = (Counts::default(), Counts::default());
     let tree = AskedTree::of(alloc, content, &first)?;
-    gathered(alloc, tree, &first.asked, job)?.add_to(words)?;
+    gathered(alloc, tree, &first, job)?.add_to(words)?;
     words.push_str("\t-")?;
     let tree = AskedTree::of(alloc, content, &second)?;
-    stepped(alloc, tree, &second.asked, job)?.add_to(words)?;
+    stepped(alloc, tree, &second, job)?.add_to(words)?;
     Ok(words.push_str("\t-")?)
 }
 
@@ -83,7 +83,7 @@ fn walk_far<M: Memory>(
 fn add_listings<M: Memory>(calls: &mut Calls<M>, content: &str, pattern: &str) -> io::Result<()> {
     let (alloc, counts) = (calls.alloc, Counts::default());
     let tree = AskedTree::of(alloc, content, &counts)?;
-    let found = gathered(alloc, tree, &counts.asked, Job::of(pattern))?;
+    let found = gathered(alloc, tree, &counts, Job::of(pattern))?;
     found.add_to(&mut String::new(alloc.inner()))?;
     let (listings, namings) = (counts.listings.get(), counts.namings.get());
     Ok(write!(calls.words, "{listings} {namings}")?)

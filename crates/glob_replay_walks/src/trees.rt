@@ -1,4 +1,4 @@
-//! Rows of calls of a tree in memory: `CALL PATHS => ANSWER`, each for the tree that the rows before it left.
+//! Rows of calls on a tree in memory: `CALL PATHS => ANSWER`. Each row uses the tree as the rows before it left it.
 
 use glob::{ListError, MemTree, Tree, TreeRefusal};
 use glob_replay::asked_tree::Listed;
@@ -29,7 +29,7 @@ fn are_same_words(found: &str, answer: &str) -> bool {
         && answer.split_whitespace().all(|word| has_word(found, word))
 }
 
-/// Makes the calls of a new tree, and adds what they answer. A call that is out of memory has changed nothing, and is
+/// Makes the calls on a new tree, and adds their answers. A call that runs out of memory has changed nothing, and is
 /// made again.
 pub fn change<M: Memory>(calls: &mut Calls<M>, changes: &[&str]) -> io::Result<()> {
     let mut tree = MemTree::new(calls.alloc)?;
@@ -60,7 +60,7 @@ fn add_answer<M: Memory>(tree: &mut MemTree<M>, asked: &str, words: &mut String)
     }
 }
 
-/// Adds the answer of a listing: the names of entries, with `/` after those of directories, or the error after `!`.
+/// Adds the answer of a listing: the names of the entries, with `/` after a directory's name, or `!` and the error.
 pub fn add_entries<A: Allocator>(words: &mut String, listed: Listed<A>) -> io::Result<()> {
     match listed {
         Ok(entries) => {

@@ -4,10 +4,10 @@ use glob::{
     End, GlobCause, GlobError, GlobResult, MatchOptions, Paths, PatternRefusal, Tree, Walk,
     glob_in, walk_in,
 };
+use glob_replay::Counts;
 use glob_replay::ration::Memory;
 use glob_replay::words::out_of_memory;
 use std::alloc::{AllocError, Allocator, Global};
-use std::cell::Cell;
 use std::io::{self, Write};
 
 /// A walk over a tree.
@@ -130,16 +130,17 @@ impl Found {
         Ok(self.lost.push(path)?)
     }
 
-    /// Adds what is wrong with the questions to a tree: each unit is a question, and if the limit refused one, the walk
-    /// spent the limit.
-    fn check(&mut self, asked: u64, limit: u64) -> Result<(), AllocError> {
-        let spent = self.spent;
+    /// Adds what is wrong with the questions to a tree: each unit is a question, each look and each listing takes a
+    /// unit and, if the limit refused one, the walk spent the limit.
+    fn check(&mut self, counts: &Counts, limit: u64) -> Result<(), AllocError> {
+        let (spent, asked) = (self.spent, counts.asked.get());
+        let calls = counts.looks.get().saturating_add(counts.listings.get());
         let is_right = match self.end {
             End::Limit => asked >= spent && spent == limit,
             _ => asked == spent,
         };
-        if !is_right {
-            write!(self.items, "\tspent {spent} asked {asked}")?;
+        if !is_right || calls > spent {
+            write!(self.items, "\tspent {spent} asked {asked} by {calls} calls")?;
         }
         Ok(())
     }
@@ -160,14 +161,14 @@ fn fault(alloc: Global, refusal: PatternRefusal, asked: u64) -> io::Result<Found
 pub fn gathered<M: Memory, T: Tree<Alloc = M>>(
     alloc: M,
     tree: T,
-    asked: &Cell<u64>,
+    counts: &Counts,
     job: Job<'_>,
 ) -> io::Result<Found> {
     let mut found = match walk_in(alloc, tree, job.pattern, job.options, job.limit) {
         Ok(walk) => Found::of(alloc.inner(), walk)?,
-        Err(refusal) => fault(alloc.inner(), refusal, asked.get())?,
+        Err(refusal) => fault(alloc.inner(), refusal, counts.asked.get())?,
     };
-    found.check(asked.get(), job.limit)?;
+    found.check(counts, job.limit)?;
     Ok(found)
 }
 
@@ -175,11 +176,11 @@ pub fn gathered<M: Memory, T: Tree<Alloc = M>>(
 pub fn stepped<M: Memory, T: Tree<Alloc = M>>(
     alloc: M,
     tree: T,
-    asked: &Cell<u64>,
+    counts: &Counts,
     job: Job<'_>,
 ) -> io::Result<Found> {
     let paths = glob_in(alloc, tree, job.pattern, job.options, job.limit);
-    let early = asked.get();
+    let early = counts.asked.get();
     let mut found = match paths {
         Ok(paths) => taken(alloc, paths)?,
         Err(refusal) => fault(alloc.inner(), refusal, early)?,
@@ -187,7 +188,7 @@ pub fn stepped<M: Memory, T: Tree<Alloc = M>>(
     if early != 0 {
         found.items.push_str("\tasked early")?;
     }
-    found.check(asked.get(), job.limit)?;
+    found.check(counts, job.limit)?;
     Ok(found)
 }
 

@@ -1,5 +1,5 @@
-//! Rows of walks: `PATTERNS => ITEMS`, after which units of work may follow, as in `PATTERNS => ITEMS ; 13`. Other
-//! lines say what holds for the rows after them.
+//! Rows about walks: `PATTERNS => ITEMS`, perhaps followed by units of work, as in `PATTERNS => ITEMS ; 13`. Other
+//! lines set something for the rows after them.
 
 use crate::walking::{Found, Job, gathered, stepped};
 use crate::{disk, goals};
@@ -9,7 +9,7 @@ use glob_replay::report::Report;
 use glob_replay::words::{in_words, number_of, options_of, text_of};
 use std::io::{self, Write};
 
-/// What a row expects: what comes before each path, the items, and the units, if it has some.
+/// What a row expects: the text before each path, the items, and the units, if it gives them.
 pub type Expected<'a> = (&'a str, &'a str, Option<usize>);
 
 /// Replays a row.
@@ -39,8 +39,8 @@ pub fn replay<'a, M: Memory>(
     Ok(())
 }
 
-/// Replays a walk wherever the settings say: on the disk, and in memory, also as a walk that finds what the whole
-/// pattern matches.
+/// Replays a walk where the settings say: on the disk, in memory, or both. In memory it also compares the walk with
+/// what the whole pattern matches.
 fn replay_walk<M: Memory>(
     report: &Report<M>,
     job: Job<'_>,
@@ -57,7 +57,7 @@ fn replay_walk<M: Memory>(
     goals::replay(report, job)
 }
 
-/// Replays a walk by `next` and by `walk_in`, which give the same, over a tree that counts what it is asked.
+/// Replays a walk with `next` and with `walk_in`, which give the same, over a tree that counts its questions.
 fn replay_in_memory<M: Memory>(
     report: &Report<M>,
     job: Job<'_>,
@@ -66,9 +66,9 @@ fn replay_in_memory<M: Memory>(
     let (memory, settings) = (report.memory, &report.settings);
     let (counts, others) = (Counts::default(), Counts::default());
     let tree = settings.tree(memory, &counts)?;
-    let mut found = stepped(memory, tree, &counts.asked, job)?;
+    let mut found = stepped(memory, tree, &counts, job)?;
     let tree = settings.tree(memory, &others)?;
-    let other = gathered(memory, tree, &others.asked, job)?;
+    let other = gathered(memory, tree, &others, job)?;
     let (items, spent) = (&other.items, other.spent);
     if *items != found.items || spent != found.spent || other.end != found.end {
         write!(found.items, "\tby walk_in {items}\t; {spent}")?;

@@ -76,7 +76,7 @@ paths_request-no_limit o limit none other (word ∷ next ∷ words) long more is
     let gives' : limit_of next.now ≡ None = subst (λ l. limit_of (get_or l 0 other).now ≡ None) (take_rest (word ∷ next ∷ words) 1) gives in
     rw is (rw gives' refl)
 
--- where no word is left
+-- if no word is left
 pub paths_request-none : (o : MatchOptions) (limit : ℕ) (words : List (Bor (List ℕ))) → length words < 1
     → None ≡ paths_request o limit (map (λ w. w.now) words)
 paths_request-none o limit [] short = refl

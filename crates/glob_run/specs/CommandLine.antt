@@ -6,7 +6,7 @@ use Rattle.glob.specs.Types.{MatchOptions}
 use Rattle.glob_console.specs.Words.{is_match_option, is_option, limit_of, with_option}
 use Rattle.glob_run.specs.Requests.{Request, Lines, Escaped, Paths}
 
--- the one word after the options
+-- the only word after the options
 abbrev pub operand_of : List Text → Option Text
 operand_of [] = None
 operand_of (word ∷ []) = if is_option word then None else Some word

@@ -7,15 +7,15 @@ use Rattle.glob.specs.Content.{Content}
 use Rattle.glob.specs.Escaping.{escaped_text}
 use Rattle.glob.specs.Grammar.Units.{IsAccepted}
 use Rattle.glob.specs.Lines.{FiltersLines, FiltersSomeBytes, ended_record, line_feed}
-use Rattle.glob.specs.Listing.{listing}
+use Rattle.glob.specs.Walks.{listing}
 use Rattle.glob.specs.Text.{Text}
 use Rattle.glob.specs.Types.{MatchOptions}
 use Rattle.glob_console.specs.FoundPaths.{IsFindStatus, WritesFound, every}
 use Rattle.glob_console.specs.Outcomes.{IsRefused, WritesText}
 use Rattle.glob_run.specs.Requests.{Request, Lines, Escaped, Paths}
 
--- Status 0: some lines match, and exactly those were written, in order. Status 1: none match, and none were written.
--- Status 2: the first n bytes of the matching lines were written, for some n.
+-- Status 0: some lines match, and exactly these were written, in order. Status 1: no line matches, and none was
+-- written. Status 2: the first n bytes of the matching lines were written, for some n.
 unfoldable pub CopiesLines : MatchOptions → (pattern : Text) → (input old new : Option (List ℕ)) → (status : ℕ) → Type 0
 CopiesLines options pattern input old new status =
     (status ≡ 0 → (n : ℕ) × (0 < n) × FiltersLines options pattern input old new n)
@@ -27,14 +27,14 @@ abbrev pub IsEscapedLine : (text line : Text) → Type 0
 IsEscapedLine text line =
     (escaped : Text) × (chars escaped ≡ escaped_text (chars text)) × (line ≡ ended_record line_feed escaped)
 
--- The line was written, and the status is 0; or the status is 2, and none or only the first of its bytes were written.
+-- The line was written, and the status is 0; or the status is 2, and only its first bytes were written, perhaps none.
 unfoldable pub WritesEscaped : Text → (old new : Option (List ℕ)) → (status : ℕ) → Type 0
 WritesEscaped text old new status =
     ((status ≡ 2) × Keeps old new)
     ⊎ ((line : Text) × IsEscapedLine text line × WritesText line old new status)
 
--- What a run does for each request, with the tree's content and the input if they are known. `contents` are the
--- output's; `old` is the output before the run, and `new` after it. `None` is a usage fault.
+-- What a run does for each request, given the tree's content and the input if they are known. `contents` gives the
+-- contents of an output; `old` is the output before the run, and `new` is the output after it. `None` is a usage fault.
 unfoldable pub Fulfils : {W : Type 0} → (contents : W → Option (List ℕ)) → (tells : Option Content) → (input : Option (List ℕ))
     → Option Request → (old new : W) → (status : ℕ) → Type 0
 Fulfils contents tells input None old new status = IsRefused old new status

@@ -21,7 +21,7 @@ pub enum Command<'a> {
     /// Write the paths that a walk of the disk finds.
     Find {
         options: MatchOptions,
-        /// The most units that the walk may spend.
+        /// How many units the walk may spend.
         limit: u64,
         pattern: &'a str,
     },
@@ -92,7 +92,7 @@ impl<'a> Command<'a> {
     }
 }
 
-/// The one word after the options. A word that begins with `-` needs `--` before it.
+/// The only word after the options. If it begins with `-`, it needs `--` before it.
 fn only_operand<'a>(words: &[&'a str]) -> Option<&'a str>
     ensures { option_map (λ w. w.now) result ≡ operand_of (map (λ w. w.now) words.now) }
 {

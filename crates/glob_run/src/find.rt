@@ -4,7 +4,7 @@ ghost use Rattle.glob.specs.Answers.{IsTold};
 ghost use Rattle.glob.specs.Components.{walk_fault};
 ghost use Rattle.glob.specs.Content.{Content};
 ghost use Rattle.glob.specs.Lines.{line_feed};
-ghost use Rattle.glob.specs.Listing.{listing};
+ghost use Rattle.glob.specs.Walks.{listing};
 ghost use Rattle.glob_console.specs.FoundPaths.{IsFindStatus, WritesFound, every};
 ghost use Rattle.glob_console.specs.Outcomes.{IsRefused};
 

@@ -18,7 +18,7 @@ mod tests;
 use command::Command;
 use find::run_find;
 use glob::{Disk, LineFault, MatchOptions, Pattern, Tree, Watch, filter_lines};
-use glob_console::{Borrowed, ErrorLines, FOUND, UNFOUND, arguments, words_of, write_text};
+use glob_console::{Borrowed, ErrorLines, FOUND, UNFOUND, arguments, as_strs, write_text};
 use std::alloc::{AllocError, Allocator};
 use std::io::{Read, Write};
 use std::process::ExitCode;
@@ -105,7 +105,8 @@ fn copy_lines<A: Allocator + Copy, R: Read + Drop, W: Write, E: Write>(
     }
 }
 
-/// Copies the matching lines, and returns how many there are. After an error, the first of their bytes were written.
+/// Copies the matching lines, and returns how many there are. After an error, the first bytes of these lines were
+/// written.
 fn filter_input<A: Allocator + Copy, R: Read + Drop, W: Write>(
     alloc: A,
     pattern: &Pattern<A>,
@@ -122,7 +123,7 @@ fn filter_input<A: Allocator + Copy, R: Read + Drop, W: Write>(
     let mut writer = Watch::new(Borrowed { writer: output });
     let answer = filter_lines(alloc, pattern, options, &mut reader, &mut writer);
     let Borrowed { writer: output } = writer.into_inner();
-    // No effect at run time: the proof needs the contents of the output here.
+    // This has no effect at run time: the proof needs the contents of the output here.
     let _ = &*output;
     answer
 }
@@ -140,7 +141,7 @@ fn run_escape<A: Allocator + Copy, W: Write, E: Write>(
 {
     match escaped_line(alloc, text) {
         Ok(line) => write_text(&line, output, errors),
-        Err(_) => errors.fault("out of memory"),
+        Err(_) => errors.memory_fault(),
     }
 }
 
@@ -161,8 +162,8 @@ fn main(rt: HostRuntime) -> ExitCode {
         Ok(arguments) => arguments,
         Err(error) => return ExitCode::from(errors.arguments_fault(&error, USAGE)),
     };
-    let Ok(words) = words_of(alloc, arguments.as_slice()) else {
-        return ExitCode::from(errors.fault("out of memory"));
+    let Ok(words) = as_strs(alloc, arguments.as_slice()) else {
+        return ExitCode::from(errors.memory_fault());
     };
     let tree = Disk::new(rt, alloc);
     ExitCode::from(run_words(

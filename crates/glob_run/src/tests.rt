@@ -60,8 +60,8 @@ impl Tree for Watched<'_> {
     }
 }
 
-/// The bytes that a field stands for, and a zero unless the stream fails: the end of a reader, and room for more in a
-/// writer.
+/// The bytes that a field stands for, and a zero unless the stream fails. The zero is the end of a reader, and room for
+/// more in a writer.
 fn bytes_of(alloc: Global, field: &str) -> Result<Vec<u8>, AllocError> {
     let mut bytes = Vec::new(alloc);
     for c in field.chars() {
@@ -91,8 +91,8 @@ fn tree_of(alloc: Global, keys: &str) -> Result<MemTree, TreeRefusal> {
     Ok(tree)
 }
 
-/// Whether only `match` read its input and only `find` its tree, and neither did after a usage fault or for an invalid
-/// pattern.
+/// Whether only `match` read its input and only `find` its tree, and nothing was read after a usage fault or for an
+/// invalid pattern.
 fn is_asked_by(words: &str, errors: &str, input: bool, tree: bool) -> bool {
     let is_fault = errors.starts_with("usage") || errors.starts_with("Pattern");
     let may_read = words.starts_with("match") && !is_fault;

@@ -1,6 +1,6 @@
 //! Replays tables of answers from outside, and answers the cases of tests.
 //!
-//! - Without a word: replays the tables of `data`, which lie in the folder that it runs in.
+//! - Without a word: replays the tables of `data` that lie in the current folder.
 //! - `answer` answers the cases of `tests/random_input.py` and `tests/captures.py`, line by line.
 //! - `rules` asks ignore lists about paths, for `tests/ignore.py`.
 #![tactic(auto)]

@@ -1,4 +1,4 @@
-//! Which crate replays a row, and which answers a case.
+//! Which crate replays a row, and which crate answers a case.
 
 use glob_replay::calls::{Calls, Make};
 use glob_replay::cases::answer_lines;
@@ -29,7 +29,7 @@ struct Cases {
     rt: HostRuntime,
 }
 
-/// Replays all files, and prints each of their tables. The error is that a case disagrees.
+/// Replays all files, and prints the results of each table. It is an error if a case disagrees.
 pub fn replay(rt: HostRuntime) -> io::Result<()> {
     let memory = Rationed::ample(rt.alloc());
     let has_failed = replay_files(rt, &memory, &All, FILES)?;

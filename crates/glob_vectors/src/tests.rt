@@ -1,4 +1,4 @@
-//! Tests of what no table covers: folders that are removed, what is printed, and the callers that the pages quote.
+//! Tests for what no table covers: folders that are removed, printed texts, and the callers that the pages quote.
 mod disk_walks;
 mod examples;
 mod printing;

@@ -1,23 +1,22 @@
--- What holds of a walk over a tree between two items, and of a whole one.
+-- What holds for a walk over a tree between two items, and for a whole walk.
 use Rattle.std.specs.Prelude.{◌≡◌, ℕ, ◌+◌, ◌≤◌, false, List, [], length, Option, None, Result}
 use Rattle.std.specs.declared.path.buf.PathBuf.{PathBuf}
 use Rattle.glob_tree.specs.Content.{Content}
 use Rattle.glob_tree.specs.Answers.{IsTold}
-use Rattle.glob_walk.specs.Marks.{Mark, Item}
+use Rattle.glob_walk.specs.Walks.{Mark, Item, HasNoRefusal, IsWalk, IsWalkAsked}
 use Rattle.glob_walk.specs.Iterating.{Walking}
-use Rattle.glob_walk.specs.Walks.{HasNoRefusal, IsWalk, IsWalkAsked}
 use Rattle.glob_walk.specs.declared.error.GlobError.{GlobError}
 use Rattle.glob_walk.specs.declared.ending.End.{End}
 use Rattle.glob_walk.specs.Machines.{MachineState, Progress, HasGiven, listing_of}
 
--- What holds of a walk over a tree between two items: no question is open, and over the tree's content some items of
--- the written listing were given.
+-- What holds for a walk over a tree between two items: no question is open, and some items of the written listing for
+-- the tree's content were given.
 pub record IsDriven {X : Type 0} {P : Progress} (tells : X → Option Content) (tree : X) (machine : MachineState P) : Type 0 where
   pub free : machine.asked ≡ None
   pub gave : (c : Content) → IsTold (tells tree) c → machine.over ≡ false
       → (given : List Item) × HasGiven (listing_of c machine.aim) c given machine
 
--- A whole walk, from one that has done nothing yet: its items, its units and questions, and the tree.
+-- A whole walk, from its start: its items, its units and questions, and the tree.
 pub record EndsAs {X A : Type 0} {P : Progress} (asks : X → ℕ) (tells : X → Option Content) (first : Walking X P) (e : End) (spent : ℕ)
     (answers : List (Result (PathBuf A) (GlobError A))) (tree : X) : Type 0 where
   pub within : spent ≤ first.machine.limit

@@ -20,7 +20,7 @@ use Rattle.glob_captures.specs.Private.Ends.{IsShortestEnd, AreShortestEnds, pla
 use Rattle.glob_captures.specs.Private.Ends.{may_end, IsFirstEnd}
 use Rattle.glob_captures.proofs.RestLemmas.Rows.{shapes-at}
 
--- where a piece reaches, by a test
+-- up to where a piece reaches, as a test
 reach-test : (table : Table) (shape : Shape) (others : List Shape) (i j : ℕ) → IsTrue (grows shape) → MayReach table
     shape others i j → IsTrue (j == i || (not (closes shape others) || table.opens j))
 reach-test table One others i j more reach = absurd (false≢true more)
@@ -46,7 +46,7 @@ shortest-growing : (table : Table) (n : ℕ) (shape : Shape) (others : List Shap
 shortest-growing table n shape others text next ends i end more same opening many rests first (m, reach, took, rest) =
     record { reach = reached; took = λ k from below. took k from (omega (arith, short)); rest = whole; least = low }
   where
-    -- no place before it serves
+    -- no earlier place will do
     fits : (j : ℕ) → MayReach table shape others i j → SplitsFrom table (n + 1) others j → IsTrue (may_end ends text next i j)
     fits j may split =
         let within : j ≤ length text = omega (arith, SplitsFrom-within table (n + 1) others j split) in
@@ -103,7 +103,7 @@ room-one table n One others i fixed (m, reach, took, rest) = omega (arith, Split
 room-one table n Run others i fixed split = absurd (false≢true (sym fixed))
 room-one table n Deep others i fixed split = absurd (false≢true (sym fixed))
 
--- where the tokens from number n on take the rest
+-- Below, the tokens from number n on take the rest from place i on.
 module _ (o : MatchOptions) (tokens : List Token) (text : Text) (n i : ℕ) (form : Form) (below : n < length tokens)
     (is : IsFormAt tokens n form) where
   abbrev table : Table
@@ -133,9 +133,9 @@ module _ (o : MatchOptions) (tokens : List Token) (text : Text) (n i : ℕ) (for
       (sym is.many ∙ more) is.ends (λ j. refl) refl
       (λ j within. rests.rest j (omega arith) within) first (split-at rest)
 
--- where the piece of the token of number n ends
+-- the end of the piece of token n
 module _ (o : MatchOptions) (tokens : List Token) (text : Text) (n i : ℕ) (below : n < length tokens) where
-  -- one piece more
+  -- one more piece
   pub LacksOnly-more : (found : List Piece) (end : ℕ) → IsShortestEnd (table_of o tokens text) n (shape_at tokens n)
       (shapes_from tokens (n + 1)) i end → LacksOnly o tokens text n i found → LacksOnly o tokens text (n + 1) end
       (found ++ record { start = byte_place text i; end = byte_place text end } ∷ [])
@@ -151,12 +151,12 @@ module _ (o : MatchOptions) (tokens : List Token) (text : Text) (n i : ℕ) (bel
   unfolding TakesRest
   TakesRest-after end shortest = shortest.rest
 
--- at first all is lacking
+-- at first no piece is found
 pub LacksOnly-start : (o : MatchOptions) (tokens : List Token) (text : Text) → LacksOnly o tokens text 0 0 []
 unfolding LacksOnly HasShortestEnds
 LacksOnly-start o tokens text = λ ends are. (ends, are, refl)
 
--- at last nothing is
+-- at last all pieces are found
 pub HasShortestEnds-all : (o : MatchOptions) (tokens : List Token) (text : Text) (i : ℕ) (found : List Piece)
     → TakesRest o tokens text (length tokens) i → LacksOnly o tokens text (length tokens) i found → HasShortestEnds o
     tokens text found

@@ -1,4 +1,4 @@
--- What a token and those after it take from a place on, by what they take from the next place on.
+-- What a token and the tokens after it take from a place on, given what they take from the next place on.
 use Rattle.std.proofs.Common.{◌≢◌, ℕ, ◌+◌, ◌<◌, ◌≤◌, ◌⊎◌, inl, inr, ⊎_elim, ◌||◌, not, List, [], ◌∷◌, IsTrue, refl, subst, arith}
 use Rattle.std.proofs.lemmas.Bool.{cases_eq, false≢true}
 use Rattle.glob_pattern.specs.Matching.Splits.{Table, MayReach, TakesAll, SplitsFrom}

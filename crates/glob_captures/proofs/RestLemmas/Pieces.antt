@@ -1,4 +1,4 @@
--- Shortest ends are those of shortest pieces, and every match has them.
+-- The ends of the shortest pieces are the shortest ends, and every match has them.
 use Rattle.std.proofs.Common.{◌≡◌, ℕ, ◌+◌, ◌-◌, ◌≤◌, inl, inr, ⊎_elim, List, [], ◌∷◌, ◌++◌, length, take, drop, map}
 use Rattle.std.proofs.Common.{refl, sym, ap, ap₂, subst, ◌∙◌, arith}
 use Rattle.std.specs.Prelude.{encode_utf8_all}
@@ -73,7 +73,7 @@ no_more o all text piece pieces n i j t ts e within at shortest rest (q ∷ qs) 
     (λ other. inl (omega arith))
     (cases_eq (length piece) (length q))
 
--- shortest ends are those of shortest pieces
+-- the shortest ends are the ends of the shortest pieces
 pieces_of_ends : (o : MatchOptions) (all : List Token) (text : Text) (ts : List Token) (n i : ℕ) (ends : List ℕ)
     → drop n all ≡ ts → i ≤ length text
     → AreShortestEnds (table_of o all text) n (map shape_of ts) i ends → (pieces : List Text) × Shortest o text i ts ends pieces
@@ -117,7 +117,7 @@ pieces_of_ends o all text (t ∷ ts) n i (j ∷ js) e within (shortest, are) =
       },
     )
 
--- what has the shortest ends are the captures
+-- the pieces with the shortest ends are the captures
 pub AreCaptures-from_ends : (o : MatchOptions) (tokens : List Token) (text : Text) (found : List Piece)
     → HasShortestEnds o tokens text found → AreCaptures o tokens text found
 unfolding AreCaptures HasShortestEnds

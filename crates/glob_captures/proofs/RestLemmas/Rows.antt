@@ -86,7 +86,7 @@ AreRests-start o tokens text n form next below is rests =
           (rw (get_or-set_same next e b false room) here);
     }
 
--- one place more of the row
+-- one more place of the row
 pub AreRests-more : (o : MatchOptions) (tokens : List Token) (text : Text) (n k : ℕ) (places : List Bool) (b : Bool)
     → k < length text → AreRests o tokens text n (k + 1) places → (IsTrue b ↔ TakesRest o tokens text n k)
     → AreRests o tokens text n k (set places k b)

@@ -11,7 +11,7 @@ use Rattle.glob_pattern.specs.Private.TextTable.{table_of}
 use Rattle.glob_pattern.specs.declared.matcher.Shape.{Shape}
 use Rattle.glob_pattern.specs.declared.matcher.Shape.TheVariants.{One, Run, Deep}
 use Rattle.glob_pattern.specs.declared.options.MatchOptions.{MatchOptions}
-use Rattle.glob_captures.specs.declared.span.Span.{Span}
+use Rattle.glob_captures.specs.declared.span.WildcardSpan.{WildcardSpan}
 use Rattle.glob_captures.specs.Private.Rests.{grows, shape_at, shapes_from, TakesRest, AreRests, AreInnerRests, IsSpan}
 use Rattle.glob_captures.specs.Private.Ends.{IsShortestEnd}
 use Rattle.glob_captures.proofs.RestLemmas.Rows.{shapes-at}
@@ -29,7 +29,7 @@ ones-from (One ∷ ss) h = ones-from ss (λ i below. h (suc i) (omega arith))
 ones-from (Run ∷ ss) h = absurd (false≢true (sym (h 0 (omega arith))))
 ones-from (Deep ∷ ss) h = absurd (false≢true (sym (h 0 (omega arith))))
 
--- where they take the rest from
+-- the place from which they take the rest
 ones-place : (table : Table) (n : ℕ) (shapes : List Shape) (k : ℕ) → AreOnes shapes → SplitsFrom table n shapes k
     → k + length shapes ≡ table.characters
 ones-place table n [] k ones at = omega (arith, at)
@@ -54,8 +54,8 @@ last-end table n shape others i end ones is (j, reach, took, rest) =
           ones split in omega arith;
     })
 
--- the tokens after a wildcard, where it is the last one
-module _ (o : MatchOptions) (tokens : List Token) (text : Text) (span : Span) (is : IsSpan tokens span) (n : ℕ)
+-- the tokens after the last wildcard
+module _ (o : MatchOptions) (tokens : List Token) (text : Text) (span : WildcardSpan) (is : IsSpan tokens span) (n : ℕ)
     (from : span.last ≤ n) (below : n < length tokens) where
   pub ones-after : AreOnes (shapes_from tokens (n + 1))
   ones-after =
@@ -72,7 +72,7 @@ module _ (o : MatchOptions) (tokens : List Token) (text : Text) (span : Span) (i
       (n + 1) (map shape_of tokens) in
       omega arith
 
-  -- where the tokens after it take the rest from
+  -- the place from which the tokens after it take the rest
   pub rest-place : (k : ℕ) → TakesRest o tokens text (n + 1) k → k + (length tokens - 1 - n) ≡ length text
   unfolding TakesRest table_of
   rest-place k rest =
@@ -111,7 +111,7 @@ next-rest o tokens text n k below rest =
     (λ ss. SplitsFrom (table_of o tokens text) n ss k) (shapes-at tokens n below) rest in
     (split.0, subst (λ m. SplitsFrom (table_of o tokens text) m (shapes_from tokens m) split.0) next split.3)
 
--- so where all take the text, those from any number on do
+-- so if all tokens take the text, the tokens from any number on take a rest of it
 pub later-rest : (o : MatchOptions) (tokens : List Token) (text : Text) (n : ℕ) → n ≤ length tokens
     → TakesRest o tokens text 0 0 → (j : ℕ) × TakesRest o tokens text n j
 later-rest o tokens text zero within rest = (0, rest)
@@ -120,7 +120,7 @@ later-rest o tokens text (suc n) within rest =
     next-rest o tokens text n before.0 (omega arith) before.1
 
 -- the row of the tokens after the last wildcard
-pub AreRests-after_span : (o : MatchOptions) (tokens : List Token) (text : Text) (span : Span) (places : List Bool)
+pub AreRests-after_span : (o : MatchOptions) (tokens : List Token) (text : Text) (span : WildcardSpan) (places : List Bool)
     → IsSpan tokens span → span.last < length tokens → TakesRest o tokens text 0 0
     → places ≡ set (replicate (length text + 1) false) (length text - (length tokens - 1 - span.last)) true
     → AreRests o tokens text (span.last + 1) 0 places
@@ -153,7 +153,7 @@ AreRests-after_span o tokens text span places is below all e =
     })
 
 -- a wildcard that is not the last one
-module _ (tokens : List Token) (span : Span) (n : ℕ) (is : IsSpan tokens span) (below : n < length tokens)
+module _ (tokens : List Token) (span : WildcardSpan) (n : ℕ) (is : IsSpan tokens span) (below : n < length tokens)
     (more : grows (shape_at tokens n) ≡ true) (other : n ≢ span.last) where
   not-before : span.first ≤ n
   not-before = ⊎_elim (λ (early : n < span.first). absurd (false≢true (sym (is.before n early below) ∙ more))) (λ h. h)
@@ -165,11 +165,11 @@ module _ (tokens : List Token) (span : Span) (n : ℕ) (is : IsSpan tokens span)
       (λ (h : n ≤ span.last). let least : n < span.last = omega arith in least)
       (cases_lt span.last n)
 
-  -- has a row
+  -- such a wildcard has a row
   pub inner-index : span.last - 1 - n < span.last - span.first
   inner-index = omega (arith, not-before, not-after)
 
-  -- which is that of the tokens after it
+  -- the row is for the tokens after it
   pub inner-row : (o : MatchOptions) (text : Text) (rows : List (List Bool)) → AreInnerRests o tokens text span rows
       → AreRests o tokens text (n + 1) 0 (get_or rows (span.last - 1 - n) [])
   inner-row o text rows rests =

@@ -39,8 +39,8 @@ HasShortestEnds o tokens text found =
     (ends : List ℕ) × AreShortestEnds (table_of o tokens text) 0 (shapes_from tokens 0) 0 ends
     × (found ≡ places_between text 0 ends)
 
--- The pieces found lack only those of the tokens from n on: with the shortest pieces from place i on, whatever these
--- are, they are the shortest pieces of the whole text.
+-- The pieces of the first n tokens are found: followed by the shortest pieces from place i on, they are the shortest
+-- pieces of the whole text.
 unfoldable pub LacksOnly : MatchOptions → List Token → Text → (n i : ℕ) → List Piece → Type 0
 LacksOnly o tokens text n i found =
     (ends : List ℕ) → AreShortestEnds (table_of o tokens text) n (shapes_from tokens n) i ends

@@ -8,7 +8,7 @@ use Rattle.glob_pattern.specs.Private.TextTable.{table_of}
 use Rattle.glob_pattern.specs.declared.options.MatchOptions.{MatchOptions}
 use Rattle.glob_pattern.specs.declared.matcher.Shape.{Shape}
 use Rattle.glob_pattern.specs.declared.matcher.Shape.TheVariants.{One, Run, Deep}
-use Rattle.glob_captures.specs.declared.span.Span.{Span}
+use Rattle.glob_captures.specs.declared.span.WildcardSpan.{WildcardSpan}
 use Rattle.glob_captures.specs.declared.steps.Form.{Form}
 
 -- pieces of this shape may have any number of characters
@@ -54,15 +54,17 @@ pub record AreRests (o : MatchOptions) (tokens : List Token) (text : Text) (n fr
       → IsTrue (slice_index_or places k false) ↔ TakesRest o tokens text n k
 
 -- the span from `first` to `last` has all tokens whose pieces may have any number of characters
-pub record IsSpan (tokens : List Token) (span : Span) : Type 0 where
+pub record IsSpan (tokens : List Token) (span : WildcardSpan) : Type 0 where
   pub order : span.first ≤ span.last
   pub within : span.last ≤ length tokens
   pub inside : span.first ≢ length tokens → span.last < length tokens
   pub before : (n : ℕ) → n < span.first → n < length tokens → grows (shape_at tokens n) ≡ false
   pub after : (n : ℕ) → span.last < n → n < length tokens → grows (shape_at tokens n) ≡ false
 
--- row i is for the tokens from `last - i` on, and counts if the token before them may take any number of characters
-pub record AreInnerRests (o : MatchOptions) (tokens : List Token) (text : Text) (span : Span) (rows : List (List Bool)) : Type 0 where
+-- row i is for the tokens from `last - i` on; it is used only if the token before them may take any number of
+-- characters
+pub record AreInnerRests (o : MatchOptions) (tokens : List Token) (text : Text) (span : WildcardSpan)
+    (rows : List (List Bool)) : Type 0 where
   pub many : length rows ≡ span.last - span.first
   pub row : (i : ℕ) → i < span.last - span.first → IsTrue (grows (shape_at tokens (span.last - i - 1)))
       → AreRests o tokens text (span.last - i) 0 (slice_index_or rows i [])

@@ -5,15 +5,14 @@ use Rattle.std.specs.Path.{path_buf_bytes}
 use Rattle.std.specs.declared.path.buf.PathBuf.{PathBuf}
 use Rattle.glob_lines.specs.Lines.{ended_record}
 use Rattle.glob_text.specs.Text.{Text}
-use Rattle.glob_walk.specs.Marks.{Found, Unread}
-use Rattle.glob_walk.specs.Walks.{Outcome, Gives, LimitAt, NoMemory, outcome}
+use Rattle.glob_walk.specs.Walks.{Found, Unread, Outcome, Gives, LimitAt, NoMemory, outcome}
 use Rattle.glob_walk.specs.declared.error.GlobError.{GlobError}
 use Rattle.glob_walk.specs.declared.machine.Step.{Step}
 use Rattle.glob_walk.specs.declared.machine.Step.TheVariants as step
 use Rattle.glob_walk.specs.declared.ending.End.TheVariants as end
 use Rattle.glob_console.specs.declared.find.findings.Findings.{Findings}
 
--- The bytes were added to those that waited; the first of all these were written, and the rest wait.
+-- The bytes joined those that waited; the first of all these bytes were written, and the rest wait.
 abbrev pub Queues : (old : Option (List ℕ)) → (waiting : List ℕ) → (new : Option (List ℕ)) → (waiting' : List ℕ)
     → (bytes : List ℕ) → Type 0
 Queues old waiting new waiting' bytes =
@@ -24,7 +23,7 @@ abbrev pub item_record : {A : Type 0} → (end : ℕ) → Result (PathBuf A) (Gl
 item_record end (Ok path) = ended_record end (path_buf_bytes path)
 item_record end (Err error) = []
 
--- an item of a walk is wanted; an error always is
+-- an item of a walk is wanted; errors always are
 abbrev pub is_item_wanted : {A : Type 0} → (wanted : Text → Bool) → Result (PathBuf A) (GlobError A) → Bool
 is_item_wanted wanted (Ok path) = wanted (path_buf_bytes path)
 is_item_wanted wanted (Err error) = true

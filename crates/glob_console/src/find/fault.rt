@@ -1,4 +1,4 @@
-//! Why a search failed.
+//! Why `find_in` failed.
 ghost use Rattle.std.specs.Prelude.{◌≡◌};
 ghost use Rattle.glob_console.specs.FoundPaths.{find_fault_words};
 ghost use Rattle.glob_console.specs.Lines.{WritesLine};
@@ -8,7 +8,7 @@ use glob_pattern::PatternRefusal;
 use std::alloc::{AllocError, Allocator};
 use std::io;
 
-/// Why a search failed.
+/// Why `find_in` failed.
 #[derive(Drop)]
 pub enum FindFault {
     /// The pattern of the walk was refused, before anything was looked up or written.
@@ -66,7 +66,7 @@ impl FindFault {
     {
         match self {
             FindFault::Pattern(refusal) => errors.fault(refusal),
-            FindFault::Memory => errors.fault("out of memory"),
+            FindFault::Memory => errors.memory_fault(),
             FindFault::Write(error) => errors.write_fault(&error),
         }
     }

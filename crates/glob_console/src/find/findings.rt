@@ -1,4 +1,4 @@
-//! The result of a search.
+//! The outcome of a walk: how it ended, and whether it found paths and met errors.
 ghost use Rattle.std.specs.Prelude.{◌≡◌, false};
 ghost use Rattle.glob_walk.specs.declared.ending.End.TheVariants as end;
 ghost use Rattle.glob_walk.specs.Walks.{outcome};
@@ -9,7 +9,7 @@ use crate::status::{FAULT, FOUND, UNFOUND};
 use glob_walk::{End, GlobResult, end_of};
 use std::alloc::Allocator;
 
-/// The result of a search: how its walk ended, and whether there were paths and errors.
+/// What came of a walk.
 #[derive(Clone, Copy)]
 pub struct Findings {
     /// How the walk ended.
@@ -21,7 +21,7 @@ pub struct Findings {
 }
 
 impl Findings {
-    /// The result of a walk that found nothing and is done.
+    /// A walk that has found nothing yet.
     pub(crate) fn new() -> Self
         ensures end { result.end ≡ end.Done }
         ensures path { result.has_path ≡ false }
@@ -34,7 +34,7 @@ impl Findings {
         }
     }
 
-    /// Takes one more item of the walk into account.
+    /// Notes one more item of the walk.
     #[tactic(auto, using(crate::proofs::NotingLemmas::noting_end, crate::proofs::NotingLemmas::noting_path, crate::proofs::NotingLemmas::noting_error))]
     pub(crate) fn note<A: Allocator>(&mut self, item: &GlobResult<A>)
         ensures { self.new ≡ noting self.old (outcome item.now) }

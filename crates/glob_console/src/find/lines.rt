@@ -20,7 +20,7 @@ const CAPACITY: usize = 8192;
 #[derive(Drop)]
 pub struct Lines<A: Allocator> {
     waiting: Vec<u8, A>,
-    /// How many units the walk had spent at the last question before which waiting lines were due.
+    /// How many units the walk had spent when waiting lines were last due before a question.
     spent: u64,
     has_line: bool,
 }

@@ -37,9 +37,9 @@ impl<A: Allocator + Copy> PathPattern<A> {
     /// Parses a path pattern. The error has the fault of the first invalid component, at a place counted from the start
     /// of that component, or reports a failed allocation.
     pub fn new(alloc: A, text: &str) -> Result<Self, PatternRefusal>
-        ensures components { IfOk result (λ pattern. pattern ≡ names.names_of text.now) }
+        ensures components { IfOk result (λ pattern. pattern ≡ names.split_names text.now) }
         ensures accepted { IfOk result (All names.IsComponent) }
-        ensures refused { IfErr result (names.RefusesComponent (names.names_of text.now)) }
+        ensures refused { IfErr result (names.RefusesComponent (names.split_names text.now)) }
     {
         let mut components = Vec::new(alloc);
         let mut shapes = Vec::new(alloc);
@@ -60,7 +60,7 @@ impl<A: Allocator + Copy> PathPattern<A> {
     /// So `a/**/b` matches `a/b` and `a/x/y/b`, and `a/**` matches `a`, with no names for `**`.
     pub fn matches(&self, path: &str) -> Result<bool, AllocError>
         ensures { IfOk result
-            (λ yes. IsTrue yes ↔ names.NamesSplit self.now (names.names_of path.now)) }
+            (λ yes. IsTrue yes ↔ names.NamesSplit self.now (names.split_names path.now)) }
     {
         let rows = self.rows(path)?;
         let mut judge = NameJudge::new(&rows, self.components.len());
@@ -72,7 +72,7 @@ impl<A: Allocator + Copy> PathPattern<A> {
         ensures { IfOk result
             (λ rows. table.AreAligned
             (λ name row. table.IsRow self.now name row.items)
-            (names.names_of path.now) rows.items) }
+            (names.split_names path.now) rows.items) }
     {
         let mut rows = Vec::new(self.alloc);
         for name in path.split('/') {

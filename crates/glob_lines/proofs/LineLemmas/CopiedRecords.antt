@@ -1,24 +1,25 @@
--- The records of an input copied as they come: what was read, and what was written of it.
+-- The records of an input copied as they come: what was read, and what was written.
 use Rattle.std.proofs.Common.{◌≡◌, ℕ, ◌+◌, ◌-◌, ◌^◌, inl, min, List, [], ◌++◌, Option, None, Some, length, take, drop}
 use Rattle.std.proofs.Common.{refl, sym, ap, ◌∙◌, subst, append-nil, append_assoc, take-append-drop, length-append}
 use Rattle.std.proofs.Common.{arith}
+use Rattle.std.specs.List.{flat_map}
 use Rattle.std.specs.Prelude.{IfSome, ◌⊎◌, ◌≢◌}
 use lib.Seq.{take-add, take-append_seam}
 use Rattle.std.specs.Io.KnownBytes.{Appends, Consumes, IsAtEnd, Keeps}
 use Rattle.std.proofs.KnownBytes.{Appends-nil, Appends-trans, Consumes-nil, Consumes-trans, Consumes-kept}
 use Rattle.std.proofs.lemmas.List.Concat.{flat_map-append}
 use Rattle.std.proofs.lemmas.List.Elements.{All-nil}
-use Rattle.glob_lines.specs.Lines.{records_of, ended_record, with_ends, AreKept, AreWhole, HasNoEnd, WritesKept}
-use Rattle.glob_lines.specs.Lines.{WritesSomeKept, WritesKeptBytes}
+use Rattle.glob_lines.specs.Lines.{records_of, AreKept, AreWhole, HasNoEnd, WritesEach}
+use Rattle.glob_lines.specs.Lines.{WritesSomeOf, WritesBytesOf}
 use Rattle.glob_lines.specs.Private.Fronts.{WritesFrontRecords, WritesFrontBytes}
 use Rattle.glob_lines.proofs.LineLemmas.FilteredLines.{cut_after}
 use Rattle.glob_lines.proofs.LineLemmas.KeptLines.{AreKept-append, AreKept-exists}
 use Rattle.glob_lines.proofs.LineLemmas.KnownMoves.{IfSome-all_read}
 use Rattle.glob_lines.proofs.LineLemmas.LineSplits.{records_of-whole, AreWhole-append}
 
-module _ (end : ℕ) (P : List ℕ → Type 0) where
-  -- Whole records and then `partial`, without an end, were read of `left`, which has `now` left. Those of the whole ones that P
-  -- keeps were written.
+module _ (end : ℕ) (write : List ℕ → List ℕ) (P : List ℕ → Type 0) where
+  -- Whole records and then `partial`, a record without its end, were read from the input `left`, and `now` is still to
+  -- come. The whole records that P keeps were written.
   pub record AreCopied (left now : Option (List ℕ)) (partial : List ℕ) (old new : Option (List ℕ)) (count : ℕ) : Type 0 where
     pub whole : List ℕ
     pub kept : List (List ℕ)
@@ -26,11 +27,11 @@ module _ (end : ℕ) (P : List ℕ → Type 0) where
     pub ended : AreWhole end whole
     pub none : HasNoEnd end partial
     pub are : AreKept P (records_of end whole) kept
-    pub wrote : Appends old new (with_ends end kept)
+    pub wrote : Appends old new (flat_map write kept)
     pub counted : count ≡ min (length kept) (2 ^ 64 - 1)
 
-  -- One more read. What it gave, after `partial`, is `front` and `rest`. The records of `front` are apart from those of what is
-  -- after, where that is known.
+  -- One more read. `partial` and what it gave are `front` and `rest`. If the rest of the input is known, no record
+  -- begins in `front` and ends after it.
   pub record IsBlock (now now' : Option (List ℕ)) (partial front rest : List ℕ) : Type 0 where
     pub piece : List ℕ
     pub read : Consumes now now' piece
@@ -42,7 +43,8 @@ module _ (end : ℕ) (P : List ℕ → Type 0) where
   apart_whole None front rest whole = tt
   apart_whole (Some more) front rest whole = records_of-whole end front (rest ++ more) whole
 
-  -- A read put `len` bytes after those that came before. Of all these `bytes` the first `w` are whole records, which are apart.
+  -- A read put `len` bytes after the earlier ones. The first `w` of all these `bytes` are whole records, and so a
+  -- block.
   pub IsBlock-whole : (now now' : Option (List ℕ)) (held items bytes : List ℕ) (filled len w : ℕ) → take filled items ≡ take filled held
       → Consumes now now' (take len (drop filled items)) → bytes ≡ take (filled + len) items → AreWhole end (take w bytes)
       → IsBlock now now' (take filled held) (take w bytes) (drop w bytes)
@@ -61,7 +63,7 @@ module _ (end : ℕ) (P : List ℕ → Type 0) where
       subst (λ l. records_of end (front ++ l) ≡ records_of end front ++ records_of end l) (sym at_end)
       (ap (records_of end) (append-nil front) ∙ sym (append-nil (records_of end front)))
 
-  -- A read gave nothing, so what came before is last.
+  -- A read gave nothing, so the bytes before it are the last block.
   pub IsBlock-last : (now now' : Option (List ℕ)) (held items : List ℕ) (filled len : ℕ) → Consumes now now'
       (take len (drop filled items)) → len ≡ 0 → IsAtEnd now'
       → IsBlock now now' (take filled held) (take filled held) []
@@ -72,8 +74,8 @@ module _ (end : ℕ) (P : List ℕ → Type 0) where
     apart = apart_last now' (take filled held) at_end;
   }
 
-  with_ends-append : (kept others : List (List ℕ)) → with_ends end (kept ++ others) ≡ with_ends end kept ++ with_ends end others
-  with_ends-append kept others = flat_map-append (ended_record end) kept others
+  written-append : (kept others : List (List ℕ)) → flat_map write (kept ++ others) ≡ flat_map write kept ++ flat_map write others
+  written-append kept others = flat_map-append write kept others
 
   counted_both : (a b : List (List ℕ)) (m n : ℕ) → m ≡ min (length a) (2 ^ 64 - 1) → n ≡ min (length b) (2 ^ 64 - 1)
       → min (m + n) (2 ^ 64 - 1) ≡ min (length (a ++ b)) (2 ^ 64 - 1)
@@ -97,7 +99,7 @@ module _ (end : ℕ) (P : List ℕ → Type 0) where
 
   with_block : (left now now' : Option (List ℕ)) (partial front rest : List ℕ) (old new new' : Option (List ℕ)) (m n : ℕ)
       → AreCopied left now partial old new m → IsBlock now now' partial front rest → AreWhole end front → HasNoEnd end
-      rest → WritesKept end P front new new' n
+      rest → WritesEach end write P front new new' n
       → AreCopied left now' rest old new' (min (m + n) (2 ^ 64 - 1))
   with_block left now now' partial front rest old new new' m n before block whole none (others, later, wrote, counted) = record {
     whole = before.whole ++ front;
@@ -106,7 +108,7 @@ module _ (end : ℕ) (P : List ℕ → Type 0) where
     ended = AreWhole-append end before.whole front before.ended whole;
     none = none;
     are = kept_both before.whole front before.kept others before.ended before.are later;
-    wrote = subst (Appends old new') (sym (with_ends-append before.kept others)) (Appends-trans old new new' _ _ before.wrote wrote);
+    wrote = subst (Appends old new') (sym (written-append before.kept others)) (Appends-trans old new new' _ _ before.wrote wrote);
     counted = counted_both before.kept others m n before.counted counted;
   }
 
@@ -114,34 +116,35 @@ module _ (end : ℕ) (P : List ℕ → Type 0) where
   pub AreCopied-more : (left now now' : Option (List ℕ)) (partial front rest : List ℕ) (old new new' : Option (List ℕ)) (m n : ℕ)
       → AreCopied left now partial old new m → IsBlock now now' partial front rest → AreWhole end front → HasNoEnd end
       rest → (sent : List ℕ) → sent ≡ front
-      → WritesKept end P sent new new' n → (moved : List ℕ) → moved ≡ rest → AreCopied left now' moved old new' (min (m + n) (2 ^ 64 - 1))
+      → WritesEach end write P sent new new' n → (moved : List ℕ) → moved ≡ rest →
+      AreCopied left now' moved old new' (min (m + n) (2 ^ 64 - 1))
   AreCopied-more left now now' partial front rest old new new' m n before block whole none sent same wrote_sent moved is =
       subst (λ l. AreCopied left now' l old new' (min (m + n) (2 ^ 64 - 1))) (sym is)
       (with_block left now now' partial front rest old new new' m n before block whole none
-      (subst (λ l. WritesKept end P l new new' n) same wrote_sent))
+      (subst (λ l. WritesEach end write P l new new' n) same wrote_sent))
 
   -- the last block
   pub AreCopied-last : (left now now' : Option (List ℕ)) (partial front : List ℕ) (old new new' : Option (List ℕ)) (m n : ℕ)
       → AreCopied left now partial old new m → IsBlock now now' partial front [] → IsAtEnd now' → (sent : List ℕ)
-      → sent ≡ front → WritesKept end P sent new new' n
-      → IfSome left (λ bytes. WritesKept end P bytes old new' (min (m + n) (2 ^ 64 - 1)))
+      → sent ≡ front → WritesEach end write P sent new new' n
+      → IfSome left (λ bytes. WritesEach end write P bytes old new' (min (m + n) (2 ^ 64 - 1)))
   AreCopied-last left now now' partial front old new new' m n before block at_end sent same wrote_sent =
-      let (others, later, wrote, counted) = subst (λ l. WritesKept end P l new new' n) same wrote_sent in
+      let (others, later, wrote, counted) = subst (λ l. WritesEach end write P l new new' n) same wrote_sent in
       IfSome-all_read left now' ((before.whole ++ front) ++ []) (read_all left now now' before.whole partial front []
       before.read block) at_end
-      (λ bytes. WritesKept end P bytes old new' (min (m + n) (2 ^ 64 - 1)))
-      (subst (λ bytes. WritesKept end P bytes old new' (min (m + n) (2 ^ 64 - 1))) (sym (append-nil (before.whole ++ front))) (
+      (λ bytes. WritesEach end write P bytes old new' (min (m + n) (2 ^ 64 - 1)))
+      (subst (λ bytes. WritesEach end write P bytes old new' (min (m + n) (2 ^ 64 - 1))) (sym (append-nil (before.whole ++ front))) (
         before.kept ++ others,
         kept_both before.whole front before.kept others before.ended before.are later,
-        subst (Appends old new') (sym (with_ends-append before.kept others)) (Appends-trans old new new' _ _ before.wrote wrote),
+        subst (Appends old new') (sym (written-append before.kept others)) (Appends-trans old new new' _ _ before.wrote wrote),
         counted_both before.kept others m n before.counted counted,
       ))
 
-  -- all that was written are the records that P keeps of the whole ones
+  -- what was written is the whole records that P keeps
   pub AreCopied-whole : (left now now' : Option (List ℕ)) (partial : List ℕ) (old new : Option (List ℕ)) (count : ℕ)
       → AreCopied left now partial old new count → Keeps now now'
       → (whole : List ℕ) × ((rest : List ℕ) × Consumes left now' (whole ++ rest) × AreWhole end whole × HasNoEnd end rest
-      × ((kept : List (List ℕ)) × AreKept P (records_of end whole) kept × Appends old new (with_ends end kept)))
+      × ((kept : List (List ℕ)) × AreKept P (records_of end whole) kept × Appends old new (flat_map write kept)))
   AreCopied-whole left now now' partial old new count before same = (
     before.whole,
     (
@@ -157,8 +160,8 @@ module _ (end : ℕ) (P : List ℕ → Type 0) where
     -- they are the first ones
     pub some_by_whole : (left now : Option (List ℕ)) (whole partial : List ℕ) (kept : List (List ℕ)) (old new : Option
         (List ℕ)) → Consumes left now (whole ++ partial)
-        → AreWhole end whole → AreKept P (records_of end whole) kept → Appends old new (with_ends end kept)
-        → IfSome left (λ bytes. WritesSomeKept end P bytes old new)
+        → AreWhole end whole → AreKept P (records_of end whole) kept → Appends old new (flat_map write kept)
+        → IfSome left (λ bytes. WritesSomeOf end write P bytes old new)
     some_by_whole None now whole partial kept old new read ended are wrote = tt
     some_by_whole (Some bytes) None whole partial kept old new read ended are wrote = absurd read
     some_by_whole (Some bytes) (Some more) whole partial kept old new read ended are wrote =
@@ -166,12 +169,12 @@ module _ (end : ℕ) (P : List ℕ → Type 0) where
           kept ++ others,
           subst (λ l. AreKept P (records_of end l) (kept ++ others)) (sym (read ∙ append_assoc whole partial more))
               (kept_both whole (partial ++ more) kept others ended are later),
-          (length kept, subst (λ l. Appends old new (with_ends end l)) (sym (take-append_seam kept others)) wrote),
+          (length kept, subst (λ l. Appends old new (flat_map write l)) (sym (take-append_seam kept others)) wrote),
         )
 
     pub AreCopied-some : (left now : Option (List ℕ)) (partial : List ℕ) (old new : Option (List ℕ)) (count : ℕ)
         → AreCopied left now partial old new count
-        → IfSome left (λ bytes. WritesSomeKept end P bytes old new)
+        → IfSome left (λ bytes. WritesSomeOf end write P bytes old new)
     AreCopied-some left now partial old new count before =
         some_by_whole left now before.whole partial before.kept old new before.read before.ended before.are before.wrote
 
@@ -202,7 +205,7 @@ module _ (end : ℕ) (P : List ℕ → Type 0) where
     -- the first of the block's records were written, too
     first_records : (bytes whole front after : List ℕ) (old new new' : Option (List ℕ)) (kept : List (List ℕ))
         → AllKept bytes whole front after kept
-        → Appends old new (with_ends end kept) → WritesFrontRecords end P front new new' → WritesSomeKept end P bytes old new'
+        → Appends old new (flat_map write kept) → WritesFrontRecords end write P front new new' → WritesSomeOf end write P bytes old new'
     first_records bytes whole front after old new new' kept all wrote fronts =
         let (n, appended) = fronts all.of_front all.in_front in
         let some = take n all.of_front in
@@ -216,7 +219,7 @@ module _ (end : ℕ) (P : List ℕ → Type 0) where
           all.in_all,
           (
             length (kept ++ some),
-            subst (Appends old new') (sym (ap (with_ends end) first ∙ with_ends-append kept
+            subst (Appends old new') (sym (ap (flat_map write) first ∙ written-append kept
                 some)) (Appends-trans old new new' _ _ wrote appended),
           ),
         )
@@ -224,17 +227,17 @@ module _ (end : ℕ) (P : List ℕ → Type 0) where
     -- the first of the block's bytes were written, too
     first_bytes : (bytes whole front after : List ℕ) (old new new' : Option (List ℕ)) (kept : List (List ℕ))
         → AllKept bytes whole front after kept
-        → Appends old new (with_ends end kept) → WritesFrontBytes end P front new new' → WritesKeptBytes end P bytes old new'
+        → Appends old new (flat_map write kept) → WritesFrontBytes end write P front new new' → WritesBytesOf end write P bytes old new'
     first_bytes bytes whole front after old new new' kept all wrote fronts =
         let (n, appended) = fronts all.of_front all.in_front in
-        let split : with_ends end (kept ++ (all.of_front ++ all.of_after)) ≡ with_ends end kept ++
-        (with_ends end all.of_front ++ with_ends end all.of_after) =
-        with_ends-append kept (all.of_front ++ all.of_after) ∙ ap (λ l. with_ends end kept ++ l)
-        (with_ends-append all.of_front all.of_after) in (
+        let split : flat_map write (kept ++ (all.of_front ++ all.of_after)) ≡ flat_map write kept ++
+        (flat_map write all.of_front ++ flat_map write all.of_after) =
+        written-append kept (all.of_front ++ all.of_after) ∙ ap (λ l. flat_map write kept ++ l)
+        (written-append all.of_front all.of_after) in (
           kept ++ (all.of_front ++ all.of_after),
           all.in_all,
-          cut_after end old new new' (with_ends end (kept ++ (all.of_front ++ all.of_after))) (with_ends end kept)
-              (with_ends end all.of_front) (with_ends end all.of_after) n split wrote appended,
+          cut_after end write old new new' (flat_map write (kept ++ (all.of_front ++ all.of_after))) (flat_map write kept)
+              (flat_map write all.of_front) (flat_map write all.of_after) n split wrote appended,
         )
 
     in_input : (left now' : Option (List ℕ)) (whole front rest : List ℕ) (kept : List (List ℕ)) → Consumes left now'
@@ -251,22 +254,22 @@ module _ (end : ℕ) (P : List ℕ → Type 0) where
     module _ (left now now' : Option (List ℕ)) (partial front rest : List ℕ) (old new new' : Option (List ℕ)) (count : ℕ) where
       -- some of the block's records were written, too
       pub AreCopied-some_more : AreCopied left now partial old new count → IsBlock now now' partial front rest →
-          (sent : List ℕ) → sent ≡ front → WritesFrontRecords end P sent new new'
-          → IfSome left (λ bytes. WritesSomeKept end P bytes old new')
+          (sent : List ℕ) → sent ≡ front → WritesFrontRecords end write P sent new new'
+          → IfSome left (λ bytes. WritesSomeOf end write P bytes old new')
       AreCopied-some_more before block sent same fronts =
           in_input left now' before.whole front rest before.kept (read_all left now now' before.whole partial front
           rest before.read block) before.ended before.are block.apart
-          (λ bytes. WritesSomeKept end P bytes old new')
+          (λ bytes. WritesSomeOf end write P bytes old new')
           (λ bytes after all. first_records bytes before.whole front after old new new' before.kept all before.wrote
-          (subst (λ l. WritesFrontRecords end P l new new') same fronts))
+          (subst (λ l. WritesFrontRecords end write P l new new') same fronts))
 
       -- some of the block's bytes were written, too
       pub AreCopied-bytes_more : AreCopied left now partial old new count → IsBlock now now' partial front rest →
-          (sent : List ℕ) → sent ≡ front → WritesFrontBytes end P sent new new'
-          → IfSome left (λ bytes. WritesKeptBytes end P bytes old new')
+          (sent : List ℕ) → sent ≡ front → WritesFrontBytes end write P sent new new'
+          → IfSome left (λ bytes. WritesBytesOf end write P bytes old new')
       AreCopied-bytes_more before block sent same fronts =
           in_input left now' before.whole front rest before.kept (read_all left now now' before.whole partial front
           rest before.read block) before.ended before.are block.apart
-          (λ bytes. WritesKeptBytes end P bytes old new')
+          (λ bytes. WritesBytesOf end write P bytes old new')
           (λ bytes after all. first_bytes bytes before.whole front after old new new' before.kept all before.wrote
-          (subst (λ l. WritesFrontBytes end P l new new') same fronts))
+          (subst (λ l. WritesFrontBytes end write P l new new') same fronts))

@@ -6,7 +6,7 @@ use Rattle.std.proofs.lemmas.List.{take-append-drop, length-take-le}
 use Rattle.std.proofs.lemmas.List.Folds.{prefix_len-append}
 use Rattle.std.proofs.lemmas.List.Sums.{prefix_len-le-length}
 
--- where it is not in the front, it is that of what follows
+-- if no place of the front passes, the first place is in what follows
 pub first-past : (p : ℕ → Bool) (n : ℕ) (xs : List ℕ) → n ≤ length xs → n ≤ position_or_len p (take n xs)
     → position_or_len p xs ≡ n + position_or_len p (drop n xs)
 first-past p n xs within none =

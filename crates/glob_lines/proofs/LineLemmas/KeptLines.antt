@@ -33,7 +33,7 @@ AreKept-front P (x ∷ xs) more kept_front kept (inl (here, (first, is, are))) (
 AreKept-front P (x ∷ xs) more kept_front kept (inr (not_here, are)) (inl (here, (rest, all_is, all))) = absurd (not_here here)
 AreKept-front P (x ∷ xs) more kept_front kept (inr (_, are)) (inr (_, all)) = AreKept-front P xs more kept_front kept are all
 
--- there is one, where each record is decided
+-- there is such a list if each record is decided
 pub AreKept-exists : (P : List ℕ → Type 0) → ((one : List ℕ) → P one ⊎ (¬ (P one))) → (records : List (List ℕ)) →
     (kept : List (List ℕ)) × AreKept P records kept
 AreKept-exists P decided [] = ([], refl)

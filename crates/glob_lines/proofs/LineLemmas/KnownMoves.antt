@@ -36,7 +36,7 @@ Appends-more a b c all done rest n split before appended = (
   Appends-trans a b c done (take n rest) before appended,
 )
 
--- what holds of the bytes that were read to the end holds of those that were left, where they are known
+-- what holds for the bytes read to the end holds for the bytes that were left, if they are known
 pub IfSome-all_read : (left rest : Option (List ℕ)) (bytes : List ℕ) → Consumes left rest bytes → IsAtEnd rest →
     (P : List ℕ → Type 0) → P bytes → IfSome left P
 IfSome-all_read None rest bytes read end P holds = tt

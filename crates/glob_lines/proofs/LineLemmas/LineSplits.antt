@@ -11,7 +11,7 @@ use Rattle.std.proofs.lemmas.List.Quantifiers.{position-Some}
 use Rattle.std.proofs.lemmas.List.Elements.{All-nil, All-head, All-tail, All-from_get_or}
 use Rattle.glob_lines.specs.Lines.{records_of, onto_first, HasNoEnd, AreWhole}
 
--- where no place passes, no item does
+-- if no place passes, no item does
 position_or_len-none : (p : ℕ → Bool) (xs : List ℕ) → position p xs ≡ None → (k d : ℕ) → k < length xs → p (get_or xs k d) ≡ false
 position_or_len-none p xs none k d within =
     elim (cases_Bool (ltb (position_or_len p xs) (length xs))) [
@@ -39,7 +39,7 @@ module _ (end : ℕ) where
       records_of-cons x (y ∷ ys) (All-head (λ b. b ≢ end) x (y ∷ ys) none)
       ∙ ap (onto_first x) (records_of-last (y ∷ ys) (All-tail (λ b. b ≢ end) x (y ∷ ys) none) (omega arith))
 
-  -- the end is at a place before which there is none
+  -- the first end is at this place
   pub records_of-place : (bytes : List ℕ) (i : ℕ) → position (λ b. b == end) bytes ≡ Some i → records_of end bytes ≡
       take i bytes ∷ records_of end (drop (i + 1) bytes)
   records_of-place bytes i found =
@@ -52,7 +52,7 @@ module _ (end : ℕ) where
       ∙ ap (λ b. b ∷ drop (i + 1) bytes) (eqb-true (get_or bytes i 0) end is)) in
       ap (records_of end) whole ∙ records_of-ended (take i bytes) (drop (i + 1) bytes) none
 
-  -- no place is found
+  -- if no place is found, there is no end
   pub None-has_no_end : (bytes : List ℕ) → position (λ b. b == end) bytes ≡ None → HasNoEnd end bytes
   None-has_no_end bytes none k d within =
       eqb-false (get_or bytes k d) end (position_or_len-none (λ b. b == end) bytes none k d within)
@@ -72,7 +72,7 @@ module _ (end : ℕ) where
         | inr other ↦ (x ∷ first, (others, λ more. cond-false (eqb x end) _ _ other ∙ ap (onto_first x) (each more)))
       ]
 
-  -- the records of bytes that are whole records are apart from those of what is after
+  -- the records of whole records and more bytes are the whole records and then those of the other bytes
   pub records_of-whole : (whole more : List ℕ) → AreWhole end whole → records_of end (whole ++ more) ≡ records_of end
       whole ++ records_of end more
   records_of-whole whole more (inl none) = subst (λ l. records_of end (l ++ more) ≡ records_of end l ++ records_of end more) (sym none) refl

@@ -20,7 +20,7 @@ both_are : (a b : Bool) → a ≡ true → b ≡ true → (a && b) ≡ true
 both_are true b first second = second
 both_are false b first second = absurd (false≢true first)
 
--- a record is text that the pattern matches exactly where that is computed
+-- a record is UTF-8 and matches exactly if the computation says so
 pub matches_by_record : (o : MatchOptions) (pattern one : List ℕ) → Selected (record_matches o pattern) one → RecordMatches o pattern one
 matches_by_record o pattern one e =
     let (utf8, holds) = both_true (is_utf8 one) (is_match o (chars pattern) (chars one)) e in
@@ -36,7 +36,7 @@ same_answer true false to from = absurd (false≢true (to refl))
 same_answer false true to from = absurd (false≢true (from refl))
 same_answer false false to from = refl
 
--- an answer that is yes exactly where a record matches is the computed one
+-- an answer that is yes exactly if a record matches is the computed one
 pub IfOk-computed : {E : Type 0} (r : Result Bool E) (o : MatchOptions) (pattern one : List ℕ) → IfOk r
     (λ b. IsTrue b ↔ RecordMatches o pattern one) → IfOk r (λ b. b ≡ record_matches o pattern one)
 IfOk-computed (Ok b) o pattern one (to, from) =
@@ -75,7 +75,7 @@ module _ (end : ℕ) (P : List ℕ → Type 0) (decided : (one : List ℕ) → P
   pub kept_records : (input : List ℕ) → (kept : List (List ℕ)) × AreKept P (records_of end input) kept
   kept_records input = AreKept-exists P decided (records_of end input)
 
-  -- where nothing was written, no record was
+  -- if nothing was written, the first zero records were
   pub some_records-none : (input : List ℕ) (known : Option (List ℕ)) → WritesSomeKept end P input known known
   some_records-none input known =
       let (kept, are) = kept_records input in (kept, are, (0, appends_none known))

@@ -1,6 +1,6 @@
-//! Files in memory from the words of a content: `a/` is a directory, `#a` one that cannot be listed, `a@` a symbolic
-//! link that points nowhere, `a@b` one to a file, `a@b/` one to a directory, and `a/?` a name in `a` that is not UTF-8.
-//! Any other word is a file. A directory comes before what is in it.
+//! Files in memory from the words of a content: `a/` is a directory, `#a` a directory that cannot be listed, `a@` a
+//! symbolic link that points nowhere, `a@b` a link to a file, `a@b/` a link to a directory, and `a/?` a name in `a`
+//! that is not UTF-8. Any other word is a file. A directory comes before what is in it.
 
 use crate::mem_files::{Keyed, LinkTo, MemFiles};
 use glob_replay::contents::{is_directory, name_of};
@@ -11,7 +11,7 @@ use std::io::ErrorKind;
 /// The name that is not UTF-8.
 const STRAY: &[u8] = b"y\xffz";
 
-/// The files of a content, whose directories are read in pieces of at most so many bytes.
+/// The files of a content. Directories are read in pieces of at most this many bytes.
 pub fn files_of<'a, A: Allocator + Copy>(
     alloc: A,
     content: &'a str,
@@ -46,7 +46,7 @@ fn add<'a, A: Allocator + Copy>(
     add_kind(files, name_of(word), kind_of(word))
 }
 
-/// What a word stands for that is not a link.
+/// What a word stands for, if it is not a link.
 fn kind_of(word: &str) -> Kind {
     if word.starts_with('#') {
         return Kind::Shut(ErrorKind::PermissionDenied);

@@ -1,12 +1,12 @@
 //! A system in which one call fails.
 
 use glob_replay::raise;
-use glob_tree::{Directory, System};
+use glob_tree::{Directory, DirectoryId, System};
 use std::cell::Cell;
 use std::fs::Metadata;
 use std::io::{self, ErrorKind};
 
-/// Which call fails, counted from 0, and how many were made.
+/// The number of the call that fails, counted from 0, and how many calls were made.
 #[derive(Drop)]
 pub struct Fault {
     pub at: u64,
@@ -14,7 +14,7 @@ pub struct Fault {
 }
 
 impl Fault {
-    /// Makes a call. The error is that it is the one that fails.
+    /// Makes a call, and returns an error if this is the call that fails.
     fn call(&self) -> io::Result<()> {
         let number = self.calls.get();
         raise(&self.calls, 1);
@@ -25,14 +25,14 @@ impl Fault {
     }
 }
 
-/// A system in which one call fails with an error, so no file system that it holds is known.
+/// A system in which one call fails with an error. Contracts know no file system that it holds.
 #[derive(Drop)]
 pub struct Failing<'a, R: System> {
     pub system: R,
     pub fault: &'a Fault,
 }
 
-/// A directory of it.
+/// A directory of such a system.
 #[derive(Drop)]
 pub struct FailingNames<'a, D: Directory> {
     names: D,
@@ -54,6 +54,11 @@ impl<'a, R: System> System for Failing<'a, R> {
     fn stat(&self, path: &str) -> io::Result<Metadata> {
         self.fault.call()?;
         self.system.stat(path)
+    }
+
+    fn directory_id(&self, path: &str) -> io::Result<Option<DirectoryId>> {
+        self.fault.call()?;
+        self.system.directory_id(path)
     }
 
     fn open(&self, path: &str) -> io::Result<FailingNames<'a, R::Dir>> {

@@ -1,7 +1,7 @@
 //! A scripted file system, which counts its calls.
 use glob_replay::raise;
 use glob_replay::words::has_word;
-use glob_tree::{Directory, Strays, System};
+use glob_tree::{Directory, DirectoryId, Strays, System};
 use std::cell::Cell;
 use std::fs::Metadata;
 use std::io::{self, ErrorKind};
@@ -12,24 +12,24 @@ pub enum Kind<'a> {
     File,
     /// A directory. These blocks are its names, with a NUL after each; a read returns one block.
     Dir(&'a [&'a [u8]]),
-    /// A directory with these blocks, after which a read fails, and why.
+    /// A directory with these blocks, and the error of the read after them.
     Torn(&'a [&'a [u8]], ErrorKind),
-    /// A directory that cannot be opened, and one that cannot be read, and why.
+    /// A directory that cannot be opened, or cannot be read, and the error.
     Unopened(io::Error),
     Unread(io::Error),
-    /// A link to a file, and one to a directory.
+    /// A link to a file, or to a directory.
     LinkToFile,
     LinkToDir,
-    /// A link that cannot be followed, and why.
+    /// A link that cannot be followed, and the error.
     Link(ErrorKind),
-    /// Something that cannot be looked up or opened, and why.
+    /// Something that cannot be looked up or opened, and the error.
     Lost(ErrorKind),
 }
 
 /// Paths, separated by spaces, and what is there.
 pub type Planted<'a> = (&'a str, Kind<'a>);
 
-/// How many system calls were made, and for how much.
+/// Counts of system calls, of bytes and of reports.
 #[derive(Default, Drop)]
 pub struct SystemCalls {
     /// How often metadata was asked for.
@@ -42,7 +42,7 @@ pub struct SystemCalls {
     pub reports: Cell<u64>,
 }
 
-/// Counts the names and paths that are reported: 1 for an expected one, with its error, and 9 for any other.
+/// Counts the names and paths that are reported: 1 for an expected report with the right error, and 9 for any other.
 #[derive(Drop)]
 pub struct Noted<'a> {
     pub system: &'a SystemCalls,
@@ -71,7 +71,7 @@ pub struct Written<'a> {
     pub system: &'a SystemCalls,
 }
 
-/// The names of a directory that are not read yet, and why no more can be read after them, if that is so.
+/// The names of a directory that are not read yet, and the error after them, if there is one.
 #[derive(Drop)]
 pub struct Names<'a> {
     blocks: &'a [&'a [u8]],
@@ -133,6 +133,13 @@ impl<'a> System for Written<'a> {
             Kind::Link(kind) | Kind::Lost(kind) => Err(io::Error::from(kind)),
             _ => Ok(Metadata::of_dir()),
         }
+    }
+
+    fn directory_id(&self, path: &str) -> io::Result<Option<DirectoryId>> {
+        if !self.stat(path)?.is_dir() {
+            return Ok(None);
+        }
+        Ok(Some(DirectoryId { dev: 0, ino: 0 }))
     }
 
     fn open(&self, path: &str) -> io::Result<Names<'a>> {

@@ -9,4 +9,4 @@ returns-in-Ok-clause-escaped g c = inr (_, c.in-Ok.ensures, rw c.deref.ensures a
 
 pub returns-in-Err-clause-escaped : goal.returns-in-Err-clause-escaped
 unfolding WritesEscaped
-returns-in-Err-clause-escaped g c = inl (c.fault.ensures.status, Keeps-refl _)
+returns-in-Err-clause-escaped g c = inl (c.memory_fault.ensures.status, Keeps-refl _)

@@ -2,9 +2,9 @@
 //!
 //! A row is WORDS|INPUT|STATUS|OUTPUT|ERRORS, with one blank between words, and `∅` for no words. A row with only WORDS
 //! is a usage fault. `⏎` is a line feed, `␦` the byte 255, and at `✗` a stream fails. A line `+ KEYS` has the tree for
-//! the rows after it, with paths below the root, which is the current directory: directories end in `/`, and those that
-//! cannot be listed in `#`. Rows before the first such line have an empty tree. `tests/programs.py` replays the rows on
-//! the built program, except for those with `∅`, `✗`, `#` or an absolute path.
+//! the rows after it, as paths below the root, which is the current directory: directories end in `/`, and directories
+//! that cannot be listed end in `#`. Rows before the first such line have an empty tree. `tests/programs.py` replays
+//! the rows on the built program, except for those with `∅`, `✗`, `#` or an absolute path.
 
 /// The rows.
 pub static ROWS: &str = "

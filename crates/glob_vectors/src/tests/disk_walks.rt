@@ -4,7 +4,7 @@ use std::io::ErrorKind;
 use std::test::Fail;
 use std::{env, fs, io};
 
-/// The path of a new folder among the temporary files: the first of these names that does not exist yet.
+/// The path of a new folder among the temporary files: the first of a list of names that does not exist yet.
 fn new_folder(rt: HostRuntime) -> io::Result<String> {
     let top = env::temp_dir(&rt)?;
     for number in 0..1_000 {
@@ -59,7 +59,7 @@ fn a_folder_that_is_removed_is_an_error(rt: HostRuntime) -> Result<(), Fail> {
     Ok(())
 }
 
-/// A walk of any `Files` gives what is in a folder, and then ends.
+/// A walk over any `Files` gives what is in a folder, and then ends.
 #[test]
 fn any_files_are_walked(rt: HostRuntime) -> Result<(), Fail> {
     let files = FilesSystem { files: rt };

@@ -6,7 +6,8 @@ use glob_set::{BraceSetRefusal, SetRefusal};
 use std::io::{self, ErrorKind};
 use std::test::Fail;
 
-/// A fault has the digits of its place, in a set after the number of the text. A listing's error is its I/O error.
+/// A fault prints its place in digits; in a set, the number of the text comes before it. A listing's error prints as
+/// its I/O error.
 #[test]
 fn errors_and_patterns_are_printed(rt: HostRuntime) -> Result<(), Fail> {
     let (pos, msg) = (usize::MAX, "\u{e9}\u{20ac}\u{10fffe}");

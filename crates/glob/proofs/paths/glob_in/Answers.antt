@@ -1,5 +1,5 @@
 use Rattle.std.proofs.Common.{[], ap, sym, subst, ◌∙◌}
-use Rattle.glob_walk.specs.Listing.{listing}
+use Rattle.glob_walk.specs.Walks.{listing}
 use Rattle.glob_walk.specs.Machines.{HasGiven, IsFresh, listing_of}
 use Rattle.glob_walk.proofs.WalkLemmas.Giving.{given_fresh}
 use Rattle.glob.proofs.paths.glob_in.Goals as goal

@@ -1,4 +1,4 @@
-use Rattle.glob_walk.specs.Listing.{listing}
+use Rattle.glob_walk.specs.Walks.{listing}
 use Rattle.glob_walk.specs.Goal.{FindsGoal, FindsExactly, FindsTaken}
 use Rattle.glob_walk.proofs.GoalLemmas.Clauses.{plain_walk}
 use Rattle.glob.proofs.WalkClauses.{walk_reaches_goal, walk_gives_goal, walk_finds_taken}
@@ -42,8 +42,8 @@ returns-clause-walk g c = λ t told. if_ok _ _ c.walked.result (λ w b. begun_wa
 
 pub returns-clause-goal : goal.returns-clause-goal
 unfolding FindsGoal
-returns-clause-goal g c = if_ok _ _ c.walked.result (λ w b t told plain case. walk_reaches_goal t c.args.options
-    c.args.pattern.now c.args.limit _ _ (plain_walk _ t c.args.options c.args.pattern.now told c.utf8.pattern
+returns-clause-goal g c = if_ok _ _ c.walked.result (λ w b t is told are plain case. walk_reaches_goal t c.args.options
+    c.args.pattern.now c.args.limit _ _ is are (plain_walk _ t c.args.options c.args.pattern.now told c.utf8.pattern
     plain case) _ (begun_walk g.T.Tree.asks g.T.Tree.tells b.0 w.end w.spent w.items.items w.tree b.2 c.args.tree
     c.args.limit (of_ok _ c.glob_in.result b.0 b.1 c.glob_in.ensures.tree) (of_ok _ c.glob_in.result b.0 b.1
     c.glob_in.ensures.fresh) t told (listing t c.args.options c.args.pattern.now) (of_ok _ c.glob_in.result b.0 b.1
@@ -51,8 +51,8 @@ returns-clause-goal g c = if_ok _ _ c.walked.result (λ w b t told plain case. w
 
 pub returns-clause-exact : goal.returns-clause-exact
 unfolding FindsExactly
-returns-clause-exact g c = if_ok _ _ c.walked.result (λ w b t told plain case readable done. walk_gives_goal t c.args.options
-    c.args.pattern.now c.args.limit _ _ (plain_walk _ t c.args.options c.args.pattern.now told c.utf8.pattern
+returns-clause-exact g c = if_ok _ _ c.walked.result (λ w b t is told are plain case readable done. walk_gives_goal t c.args.options
+    c.args.pattern.now c.args.limit _ _ is are (plain_walk _ t c.args.options c.args.pattern.now told c.utf8.pattern
     plain case) _ (begun_walk g.T.Tree.asks g.T.Tree.tells b.0 w.end w.spent w.items.items w.tree b.2 c.args.tree
     c.args.limit (of_ok _ c.glob_in.result b.0 b.1 c.glob_in.ensures.tree) (of_ok _ c.glob_in.result b.0 b.1
     c.glob_in.ensures.fresh) t told (listing t c.args.options c.args.pattern.now) (of_ok _ c.glob_in.result b.0 b.1
@@ -60,8 +60,8 @@ returns-clause-exact g c = if_ok _ _ c.walked.result (λ w b t told plain case r
 
 pub returns-clause-taken : goal.returns-clause-taken
 unfolding FindsTaken
-returns-clause-taken g c = if_ok _ _ c.walked.result (λ w b t told plain.
-    walk_finds_taken t c.args.options c.args.pattern.now c.args.limit _ _
+returns-clause-taken g c = if_ok _ _ c.walked.result (λ w b t is told are plain.
+    walk_finds_taken t c.args.options c.args.pattern.now c.args.limit _ _ is are
     (record { content = told.1; text = c.utf8.pattern; plain = plain }) _
     (begun_walk g.T.Tree.asks g.T.Tree.tells b.0 w.end w.spent w.items.items w.tree b.2 c.args.tree c.args.limit
     (of_ok _ c.glob_in.result b.0 b.1 c.glob_in.ensures.tree) (of_ok _ c.glob_in.result b.0 b.1

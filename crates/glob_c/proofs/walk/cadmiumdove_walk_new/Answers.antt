@@ -1,6 +1,6 @@
 use Rattle.std.proofs.Common.{◌≡◌, [], subst, sym, ap₂, ◌∙◌}
 use Rattle.glob_walk.specs.Machines.{Ends, HasGiven}
-use Rattle.glob_walk.specs.Listing.{listing}
+use Rattle.glob_walk.specs.Walks.{listing}
 use Rattle.glob_walk.proofs.WalkLemmas.Giving.{given_fresh}
 use Rattle.glob_pattern.specs.Matching.Options.{options_of_bits}
 use Rattle.glob_c.specs.WalkSlots.{IsBegun}

@@ -1,20 +1,20 @@
 use Rattle.std.proofs.Common.{Result, Ok, Err, IfErr, IfOk, IsErrAnd, subst}
 use Rattle.glob_text.specs.Text.{Text}
-use Rattle.glob_walk.specs.Listing.{listing}
+use Rattle.glob_walk.specs.Walks.{listing}
 use Rattle.glob_walk.proofs.WalkLemmas.Giving.{given_fresh}
 use Rattle.glob_console.specs.declared.find.fault.FindFault.{FindFault}
 use Rattle.glob_console.specs.declared.find.fault.FindFault.TheVariants.{Pattern, Memory, Write}
 use Rattle.glob_console.specs.FoundPaths.{FindsPaths, IsFindFault, IsRefusal, IsWriting}
 use Rattle.glob_console.proofs.find.find_in.Goals as goal
 
--- a fault of writing is one of any pattern
+-- a fault of writing is a possible fault for any pattern
 find_fault_of_writing : {T : Type 0} (r : Result T FindFault) (pattern : Text) → IfErr r IsWriting → IfErr r (IsFindFault pattern)
 find_fault_of_writing (Ok x) pattern is = tt
 find_fault_of_writing (Err (Pattern refusal)) pattern is = absurd is
 find_fault_of_writing (Err Memory) pattern is = tt
 find_fault_of_writing (Err (Write error)) pattern is = tt
 
--- and it is no refusal
+-- and it is not a refusal
 no_refusal_of_writing : {T : Type 0} (r : Result T FindFault) → IfErr r IsWriting → IsErrAnd r IsRefusal → ⊥
 no_refusal_of_writing (Ok x) is refuses = refuses
 no_refusal_of_writing (Err (Pattern refusal)) is refuses = is

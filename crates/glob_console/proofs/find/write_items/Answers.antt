@@ -6,11 +6,13 @@ use Rattle.glob_console.proofs.find.write_items.Goals as goal
 pub loop-step-init : goal.loop-step-init
 loop-step-init g c =
     let old = g.W.Write.contents c.args.output.now in
-    let made = c.new-findings.ensures in
-    subst (Written c.args.end (g.C.Choice.wanted c.args.choice.now) g.T.Tree.tells c.args.tree.now c.args.walk.now old
-    c.args.tree.now c.args.walk.now c.new-findings.result old) (sym c.in_ok-lines.ensures)
-    (Written-first c.args.end (g.C.Choice.wanted c.args.choice.now) g.T.Tree.tells c.args.tree.now c.args.walk.now old
-    c.new-findings.result made.end made.path made.error)
+    let made = c.new.ensures in
+    subst (Written c.args.records.now.end (g.C.Choice.wanted c.args.records.now.choice.now)
+    g.T.Tree.tells c.args.tree.now c.args.walk.now old
+    c.args.tree.now c.args.walk.now c.new.result old) (sym c.in_ok-new.ensures)
+    (Written-first c.args.records.now.end (g.C.Choice.wanted c.args.records.now.choice.now)
+    g.T.Tree.tells c.args.tree.now c.args.walk.now old
+    c.new.result made.end made.path made.error)
 
 pub returns-in_err-write_step-clause-some : goal.returns-in_err-write_step-clause-some
 returns-in_err-write_step-clause-some g c c' told ms begun =
@@ -18,9 +20,10 @@ returns-in_err-write_step-clause-some g c c' told ms begun =
     let l = c.loop-step in
     let (n, asks, steps) = c.advance-step.ensures.steps in
     OnErr-from _
-    (Written-fault c.args.end (g.C.Choice.wanted c.args.choice.now) g.T.Tree.tells c.args.tree.now c.args.walk.now
-    (held c.args.output.now) l.tree c.advance-step.new.tree l.walk c.advance-step.new.self n l.findings
-    (held l.output) l.lines.waiting.items
+    (Written-fault c.args.records.now.end (g.C.Choice.wanted c.args.records.now.choice.now)
+    g.T.Tree.tells c.args.tree.now c.args.walk.now (held c.args.output.now) l.tree c.advance-step.new.tree l.walk
+    c.advance-step.new.self n l.progress.findings
+    (held l.output) l.progress.lines.waiting.items
     l.invariant c.advance-step.ensures.content c.advance-step.result steps (held c.write_step.new.output)
     c.in_err-write_step.ensures.some c' told ms begun)
 
@@ -30,11 +33,13 @@ returns-in-Done-clause-paths g c c' told ms begun =
     let l = c.loop-step in
     let (n, asks, steps) = c.advance-step.ensures.steps in
     let wrote = c.write_step.new in
-    Written-done c.args.end (g.C.Choice.wanted c.args.choice.now) g.T.Tree.tells c.args.tree.now c.args.walk.now
-    (held c.args.output.now) l.tree c.advance-step.new.tree l.walk c.advance-step.new.self n l.findings
-    (held l.output) l.lines.waiting.items
-    l.invariant c.advance-step.ensures.content wrote.tree c.in_ok-write_step.ensures.content (held wrote.output) wrote.lines.waiting.items
-    c.advance-step.result c.in-Done.is steps wrote.findings c.in_ok-write_step.ensures.written c' told ms begun
+    Written-done c.args.records.now.end (g.C.Choice.wanted c.args.records.now.choice.now)
+    g.T.Tree.tells c.args.tree.now c.args.walk.now (held c.args.output.now) l.tree c.advance-step.new.tree l.walk
+    c.advance-step.new.self n l.progress.findings
+    (held l.output) l.progress.lines.waiting.items
+    l.invariant c.advance-step.ensures.content wrote.tree c.in_ok-write_step.ensures.content
+    (held wrote.output) wrote.progress.lines.waiting.items
+    c.advance-step.result c.in-Done.is steps wrote.progress.findings c.in_ok-write_step.ensures.written c' told ms begun
 
 pub loop-step-preserved-in_default : goal.loop-step-preserved-in_default
 loop-step-preserved-in_default g c =
@@ -42,11 +47,13 @@ loop-step-preserved-in_default g c =
     let l = c.loop-step in
     let (n, asks, steps) = c.advance-step.ensures.steps in
     let wrote = c.write_step.new in
-    Written-next c.args.end (g.C.Choice.wanted c.args.choice.now) g.T.Tree.tells c.args.tree.now c.args.walk.now
-    (held c.args.output.now) l.tree c.advance-step.new.tree l.walk c.advance-step.new.self n l.findings
-    (held l.output) l.lines.waiting.items
-    l.invariant c.advance-step.ensures.content wrote.tree c.in_ok-write_step.ensures.content (held wrote.output) wrote.lines.waiting.items
-    c.advance-step.result c.in_default.not-Done steps wrote.findings c.in_ok-write_step.ensures.written
+    Written-next c.args.records.now.end (g.C.Choice.wanted c.args.records.now.choice.now)
+    g.T.Tree.tells c.args.tree.now c.args.walk.now (held c.args.output.now) l.tree c.advance-step.new.tree l.walk
+    c.advance-step.new.self n l.progress.findings
+    (held l.output) l.progress.lines.waiting.items
+    l.invariant c.advance-step.ensures.content wrote.tree c.in_ok-write_step.ensures.content
+    (held wrote.output) wrote.progress.lines.waiting.items
+    c.advance-step.result c.in_default.not-Done steps wrote.progress.findings c.in_ok-write_step.ensures.written
 
 pub loop-step-preserved-in_default-2 : goal.loop-step-preserved-in_default-2
 loop-step-preserved-in_default-2 g c =
@@ -54,11 +61,13 @@ loop-step-preserved-in_default-2 g c =
     let l = c.loop-step in
     let (n, asks, steps) = c.advance-step.ensures.steps in
     let wrote = c.write_step.new in
-    Written-next c.args.end (g.C.Choice.wanted c.args.choice.now) g.T.Tree.tells c.args.tree.now c.args.walk.now
-    (held c.args.output.now) l.tree c.advance-step.new.tree l.walk c.advance-step.new.self n l.findings
-    (held l.output) l.lines.waiting.items
-    l.invariant c.advance-step.ensures.content wrote.tree c.in_ok-write_step.ensures.content (held wrote.output) wrote.lines.waiting.items
-    c.advance-step.result c.in_default.not-Done steps wrote.findings c.in_ok-write_step.ensures.written
+    Written-next c.args.records.now.end (g.C.Choice.wanted c.args.records.now.choice.now)
+    g.T.Tree.tells c.args.tree.now c.args.walk.now (held c.args.output.now) l.tree c.advance-step.new.tree l.walk
+    c.advance-step.new.self n l.progress.findings
+    (held l.output) l.progress.lines.waiting.items
+    l.invariant c.advance-step.ensures.content wrote.tree c.in_ok-write_step.ensures.content
+    (held wrote.output) wrote.progress.lines.waiting.items
+    c.advance-step.result c.in_default.not-Done steps wrote.progress.findings c.in_ok-write_step.ensures.written
 
 pub loop-step-preserved : goal.loop-step-preserved
 loop-step-preserved g c =
@@ -66,8 +75,10 @@ loop-step-preserved g c =
     let l = c.loop-step in
     let (n, asks, steps) = c.advance-step.ensures.steps in
     let wrote = c.write_step.new in
-    Written-next c.args.end (g.C.Choice.wanted c.args.choice.now) g.T.Tree.tells c.args.tree.now c.args.walk.now
-    (held c.args.output.now) l.tree c.advance-step.new.tree l.walk c.advance-step.new.self n l.findings
-    (held l.output) l.lines.waiting.items
-    l.invariant c.advance-step.ensures.content wrote.tree c.in_ok-write_step.ensures.content (held wrote.output) wrote.lines.waiting.items
-    c.advance-step.result c.in_default.not-Done steps wrote.findings c.in_ok-write_step.ensures.written
+    Written-next c.args.records.now.end (g.C.Choice.wanted c.args.records.now.choice.now)
+    g.T.Tree.tells c.args.tree.now c.args.walk.now (held c.args.output.now) l.tree c.advance-step.new.tree l.walk
+    c.advance-step.new.self n l.progress.findings
+    (held l.output) l.progress.lines.waiting.items
+    l.invariant c.advance-step.ensures.content wrote.tree c.in_ok-write_step.ensures.content
+    (held wrote.output) wrote.progress.lines.waiting.items
+    c.advance-step.result c.in_default.not-Done steps wrote.progress.findings c.in_ok-write_step.ensures.written

@@ -1,5 +1,5 @@
 use Rattle.std.proofs.Common.{◌≡◌, List, [], ◌∷◌, refl, ap}
-use Rattle.glob_walk.specs.Marks.{Item, Found, Unread, paths}
+use Rattle.glob_walk.specs.Walks.{Item, Found, Unread, paths}
 use Rattle.glob_console.specs.FoundPaths.{every, wanted_paths}
 use Rattle.glob_console.proofs.laws.every_path_is_wanted.Goals as goal
 

@@ -16,11 +16,12 @@ loop-path-preserved-in-Continue-branch-2 g c =
     rw (map-append path_buf_bytes c.loop-path.yielded (path ∷ []), c.in_ok-push.ensures.items, map-append path_buf_bytes files (path ∷ []))
     (AreKept-push _ (map path_buf_bytes c.loop-path.yielded) (map path_buf_bytes files) (path_buf_bytes path) c.loop-path.invariant copied)
 
--- or left out
+-- one more path, which is left out
 pub loop-path-preserved : goal.loop-path-preserved
 loop-path-preserved g c =
     let path = c.in-Some.path in
     let tells : IsTrue c.in_ok-copies.field-0 ↔ Copies c.args.rules.now (path_buf_bytes path) =
     subst (λ text. IsTrue c.in_ok-copies.field-0 ↔ Copies c.args.rules.now text) c.as_path.ensures c.in_ok-copies.ensures in
     rw (map-append path_buf_bytes c.loop-path.yielded (path ∷ []))
-    (AreKept-pass _ (map path_buf_bytes c.loop-path.yielded) _ (path_buf_bytes path) c.loop-path.invariant (λ copied. false≢true (sym c.if-branch.false ∙ tells.1 copied)))
+    (AreKept-pass _ (map path_buf_bytes c.loop-path.yielded) _ (path_buf_bytes path) c.loop-path.invariant
+    (λ copied. false≢true (sym c.if-branch.false ∙ tells.1 copied)))

@@ -4,13 +4,14 @@ use Rattle.std.specs.Path.{path_buf_bytes}
 use Rattle.glob.specs.Answers.{IsTold}
 use Rattle.glob.specs.Content.{Content}
 use Rattle.glob.specs.WalkLaws.{IsSensitiveWalk}
-use Rattle.glob.specs.Listing.{listing}
+use Rattle.glob.specs.Walks.{listing}
 use Rattle.glob.specs.Matching.Options.{new_options}
 use Rattle.glob.specs.Text.{Text}
 use Rattle.glob.specs.Types.{MatchOptions}
 use Rattle.glob.specs.Iterating.{Walking}
 use Rattle.glob.specs.Machines.{Progress, HasGiven, IsFresh}
-use Rattle.glob.proofs.FoundPaths.{FindsSoFar, FindsSoFar-start, FindsSoFar-next, FindsSoFar-whole, goal-listed, orderly-listed, paths-listed}
+use Rattle.glob.proofs.FoundPaths.{FindsSoFar, FindsSoFar-start, FindsSoFar-next, FindsSoFar-whole, goal-listed}
+use Rattle.glob.proofs.FoundPaths.{orderly-listed, paths-listed}
 use Rattle.glob_examples.specs.WalkFaults.{EndsAt, IsPatternFault}
 use Rattle.glob_walk.proofs.WalkLemmas.Reading.{IfErr-from_known}
 use Rattle.glob_examples.proofs.WalkFaults.{IsMet-end, IsMet-pattern, IsWalkFault-end, IsWalkFault-pattern}
@@ -20,7 +21,8 @@ use Rattle.glob_examples.proofs.copy.found_paths.Goals as goal
 begun : {X : Type 0} {P : Progress} (first walk : Walking X P) (c : Content) (pattern : Text) (o : MatchOptions) → first ≡ walk
     → HasGiven (listing c o pattern) c [] walk.machine → o ≡ new_options → HasGiven (listing c new_options pattern) c [] first.machine
 begun first walk c pattern o same has is =
-    subst (λ w. HasGiven (listing c new_options pattern) c [] w.machine) (sym same) (subst (λ o. HasGiven (listing c o pattern) c [] walk.machine) is has)
+    subst (λ w. HasGiven (listing c new_options pattern) c [] w.machine) (sym same)
+    (subst (λ o. HasGiven (listing c o pattern) c [] walk.machine) is has)
 
 -- the pattern is refused
 pub returns-in_err-check_plain-clause-fault : goal.returns-in_err-check_plain-clause-fault
@@ -56,7 +58,8 @@ returns-in_err-push_found-clause-met g c = λ content told.
 
 pub loop-item-init : goal.loop-item-init
 loop-item-init g c =
-    subst (λ files. FindsSoFar g.T.Tree.tells c.into_iter-item-iterator.result c.into_iter-item-iterator.result (map path_buf_bytes files)) (sym c.new-files.ensures.items)
+    subst (λ files. FindsSoFar g.T.Tree.tells c.into_iter-item-iterator.result c.into_iter-item-iterator.result
+    (map path_buf_bytes files)) (sym c.new-files.ensures.items)
     (FindsSoFar-start g.T.Tree.tells _)
 
 -- one more path
@@ -64,7 +67,8 @@ pub loop-item-preserved : goal.loop-item-preserved
 loop-item-preserved g c =
     let added = c.in_ok-push_found.ensures.added in
     rw (added.2, map-append path_buf_bytes c.loop-item.files.items (added.0 ∷ []))
-    (FindsSoFar-next g.T.Tree.asks g.T.Tree.tells _ _ c.next.new.self _ c.loop-item.invariant _ _ added.0 c.in-Some.is added.1 c.next.ensures.steps)
+    (FindsSoFar-next g.T.Tree.asks g.T.Tree.tells _ _ c.next.new.self _ c.loop-item.invariant _ _ added.0 c.in-Some.is
+    added.1 c.next.ensures.steps)
 
 -- the walk has come to its end
 pub returns-clause-files : goal.returns-clause-files
@@ -79,7 +83,8 @@ returns-clause-files g c = λ content told.
     let begins = begun _ _ content _ _ same (c.in_ok-paths.ensures.listing content) c.new.ensures in
     let files = map path_buf_bytes c.loop-item.files.items in
     let whole =
-    FindsSoFar-whole g.T.Tree.asks g.T.Tree.tells _ _ c.next.new.self files c.loop-item.invariant _ c.in-None.is c.next.ensures.steps content at_first _ begins in
+    FindsSoFar-whole g.T.Tree.asks g.T.Tree.tells _ _ c.next.new.self files c.loop-item.invariant _ c.in-None.is
+    c.next.ensures.steps content at_first _ begins in
     record {
       exact = goal-listed content new_options c.args.pattern.now plain files whole;
       orderly = orderly-listed content new_options c.args.pattern.now plain files whole;

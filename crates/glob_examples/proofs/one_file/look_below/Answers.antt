@@ -25,7 +25,7 @@ loop-piece-preserved c = λ rest.
     ∙ c.loop-piece.invariant (piece.now ∷ rest)
     ∙ ap (λ k. steps tree k rest) (sym c.look_from-at.ensures)
 
--- the pieces have come to their end
+-- no piece is left
 pub returns : goal.returns
 returns c =
     let tree = one_file c.args.name.now in

@@ -1,15 +1,12 @@
 use Rattle.std.proofs.Common.{◌≡◌, ◌≢◌, ℕ, [], ◌∷◌, List, None, Some, codes, refl, sym, subst, ◌∙◌, arith}
 use Rattle.glob.specs.Answers.{IsTold}
 use Rattle.glob.specs.Components.{walk_fault}
-use Rattle.glob.specs.Listing.{listing}
-use Rattle.glob.specs.Marks.{Mark, Work, Give, Found}
+use Rattle.glob.specs.Walks.{listing, Mark, Work, Give, Found, Answers, AreItems, IsWalk, RefusesWith}
 use Rattle.glob.specs.Matching.Options.{new_options}
 use Rattle.glob.specs.Types.{End, PatternRefusal}
 use Rattle.glob.specs.Variants.End.{Done, Limit}
 use Rattle.glob.specs.Variants.End as end
 use Rattle.glob.specs.Variants.PatternRefusal.{Syntax, Memory}
-use Rattle.glob.specs.Goal.{Answers}
-use Rattle.glob.specs.Walks.{AreItems, IsWalk, RefusesWith}
 use Rattle.glob.proofs.Computing.{computed}
 use Rattle.glob.proofs.WalkLemmas.{done_walk, limited_walk}
 use Rattle.glob_examples.specs.OneFile.{one_file}
@@ -33,13 +30,14 @@ fault : walk_fault (codes "*.rs") ≡ None
 unfolding computed
 fault = refl
 
--- what a walk by that listing within 3 units says
+-- what a walk with that listing gives within 3 units
 record IsDoneOrOut {A : Type 0} (at_end : End) (spent : ℕ) (answers : Answers A) : Type 0 where
   within : at_end ≢ Limit
   found : at_end ≡ Done → AreItems answers (Found (codes "main.rs") ∷ [])
   units : at_end ≡ Done → spent ≡ 3
 
-says : {A : Type 0} (at_end : End) (spent : ℕ) (answers : Answers A) → IsWalk marks 3 at_end spent answers → IsDoneOrOut at_end spent answers
+says : {A : Type 0} (at_end : End) (spent : ℕ) (answers : Answers A) → IsWalk marks 3 at_end spent answers →
+    IsDoneOrOut at_end spent answers
 says end.Done spent answers walk =
     let done = done_walk answers marks 3 spent walk in record {
       within = λ e. absurd (cc);

@@ -1,15 +1,13 @@
-use Rattle.std.proofs.Common.{◌≡◌, [], ◌∷◌, Contains, Err, map, ap, sym, subst, refl, ◌∙◌}
+use Rattle.std.proofs.Common.{◌≡◌, [], ◌∷◌, Contains, Err, map, sym, subst, refl, ◌∙◌}
 use Rattle.std.proofs.lemmas.List.{map-id, map-append}
 use Rattle.std.proofs.lemmas.Iterator.Adapters.{YieldsList-from_vec}
 use Rattle.std.proofs.lemmas.Iterator.Consumers.{YieldsList-end, YieldsList-turn}
 use Rattle.std.specs.Path.{path_buf_bytes}
-use Rattle.glob.specs.Listing.{listing}
-use Rattle.glob.specs.Marks.{items, paths}
+use Rattle.glob.specs.Walks.{AreItems, listing, items, IsWalk}
 use Rattle.glob.specs.Matching.Options.{new_options}
-use Rattle.glob.specs.Goal.{IsOrderly, given_items, FindsGoal}
+use Rattle.glob.specs.Goal.{IsOrderly, FindsGoal}
 use Rattle.glob.specs.Variants.End.{Done, Limit}
-use Rattle.glob.specs.Walks.{IsWalk}
-use Rattle.glob.proofs.FoundPaths.{AreFound-more, found_items, given_items-are, given_items-found, goal-found, paths-found, paths-listed}
+use Rattle.glob.proofs.FoundPaths.{AreFound-more, found_items, AreItems-same, goal-found, paths-found, paths-listed}
 use Rattle.glob.proofs.WalkLemmas.{found_goal, found_in_order, done_walk, limited_walk}
 use Rattle.glob_examples.specs.WalkFaults.{IsPatternFault}
 use Rattle.glob_walk.proofs.WalkLemmas.Reading.{IfErr-from_known}
@@ -51,11 +49,13 @@ returns-in_err-item-clause-met g c = λ content told.
     let walk : IsWalk ms c.args.limit Done c.in_ok-walk.walk.spent answers =
     rw (c.new.ensures, c.in-Done.is) at (c.in_ok-walk.ensures.walk content told) in
     let parts = YieldsList-from_vec answers (cc) (cc) in
-    let turn = YieldsList-turn parts c.loop-item.yielded _ c.loop-item.yielded_by _ c.next.new.self c.in-Some.item c.in-Some.is c.next.ensures.steps in
+    let turn = YieldsList-turn parts c.loop-item.yielded _ c.loop-item.yielded_by _ c.next.new.self c.in-Some.item
+    c.in-Some.is c.next.ensures.steps in
     let has : Contains answers (Err c.in_err-item.field-0.0) =
     subst (Contains answers) c.in_err-item.was (_, turn.0, sym turn.1) in
     IfErr-from_known _ _ _
-    (λ fault is. IsMet-answer _ content c.args.limit c.in_err-item.field-0.0 answers (done_walk answers ms c.args.limit c.in_ok-walk.walk.spent walk).2 has fault is)
+    (λ fault is. IsMet-answer _ content c.args.limit c.in_err-item.field-0.0 answers
+    (done_walk answers ms c.args.limit c.in_ok-walk.walk.spent walk).2 has fault is)
     c.from_residual-in_err-item.ensures.1
 
 -- all items are paths, so no goal is hidden
@@ -67,23 +67,24 @@ returns-clause-files g c = λ content told.
     let all = YieldsList-end parts c.loop-item.yielded _ c.loop-item.yielded_by _ c.next.new.self c.in-None.is c.next.ensures.steps in
     let whole : c.loop-item.yielded ≡ answers = sym (map-id c.loop-item.yielded) ∙ all.0 in
     let files = map path_buf_bytes c.loop-item.files.items in
-    let given : given_items answers ≡ found_items files =
-    ap given_items (sym whole) ∙ given_items-found c.loop-item.yielded files c.loop-item.invariant in
+    let are : AreItems answers (found_items files) = subst (λ found. AreItems found (found_items files)) whole c.loop-item.invariant in
     let finds : FindsGoal (g.T.Tree.tells c.args.tree) new_options c.args.pattern.now c.in_ok-walk.walk.end answers =
-    subst (λ o. FindsGoal (g.T.Tree.tells c.args.tree) o c.args.pattern.now c.in_ok-walk.walk.end answers) c.new.ensures c.in_ok-walk.ensures.goal in
+    subst (λ o. FindsGoal (g.T.Tree.tells c.args.tree) o c.args.pattern.now c.in_ok-walk.walk.end answers) c.new.ensures
+    c.in_ok-walk.ensures.goal in
     let walk : IsWalk ms c.args.limit Done c.in_ok-walk.walk.spent answers =
     rw (c.new.ensures, c.in-Done.is) at (c.in_ok-walk.ensures.walk content told) in
     record {
-      exact = goal-found content new_options c.args.pattern.now _ files (c.in_ok-walk.walk.end ≡ Done) given c.in-Done.is
-          (found_goal _ _ _ _ _ finds content told c.in_ok-check_plain.ensures.plain refl);
-      orderly = subst (IsOrderly c.args.pattern.now) (ap paths given ∙ paths-found files)
-          (found_in_order _ _ _ _ _ c.in_ok-walk.ensures.taken content told c.in_ok-check_plain.ensures.plain);
-      listed = paths-listed files ms
-          (sym given ∙ given_items-are answers (items ms) (done_walk answers ms c.args.limit c.in_ok-walk.walk.spent walk).2);
+      exact = goal-found content new_options c.args.pattern.now _ files (c.in_ok-walk.walk.end ≡ Done) refl c.in-Done.is
+          (found_goal _ _ _ _ _ finds content _ told are c.in_ok-check_plain.ensures.plain refl);
+      orderly = subst (IsOrderly c.args.pattern.now) (paths-found files)
+          (found_in_order _ _ _ _ _ c.in_ok-walk.ensures.taken content _ told are c.in_ok-check_plain.ensures.plain);
+      listed = paths-listed files ms (AreItems-same answers (found_items files) (items ms) are
+          (done_walk answers ms c.args.limit c.in_ok-walk.walk.spent walk).2);
     }
 
 -- one more path is kept
 pub loop-item-preserved : goal.loop-item-preserved
 loop-item-preserved g c =
     let files = map-append path_buf_bytes c.loop-item.files.items (c.in_ok-item.field-0 ∷ []) in
-    rw (c.in_ok-item.was, c.in_ok-push.ensures.items, files) (AreFound-more c.loop-item.yielded (map path_buf_bytes c.loop-item.files.items) c.in_ok-item.field-0 c.loop-item.invariant)
+    rw (c.in_ok-item.was, c.in_ok-push.ensures.items, files) (AreFound-more c.loop-item.yielded
+    (map path_buf_bytes c.loop-item.files.items) c.in_ok-item.field-0 c.loop-item.invariant)

@@ -4,7 +4,7 @@ use Rattle.glob.specs.Matching.Options.{new_options}
 use Rattle.glob.proofs.PatternLemmas.{no_match_by_fault}
 use Rattle.glob_examples.proofs.texts.matches_text.Goals as goal
 
--- what has a fault matches nothing
+-- a pattern with a fault matches nothing
 pub returns-in-Err-Syntax : goal.returns-in-Err-Syntax
 returns-in-Err-Syntax g c =
     let fault = rw c.in-Err-Syntax.field-0-is at c.in-Err-Syntax.ensures.refused in

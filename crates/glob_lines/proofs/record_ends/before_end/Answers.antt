@@ -6,7 +6,7 @@ use Rattle.std.specs.List.{position_or_len}
 use Rattle.std.specs.Simd.Lanes.{mask_l}
 use Rattle.glob_lines.proofs.record_ends.before_end.Goals as goal
 
--- the lowest lane that is set, or sixteen where none is, is the first place
+-- the lowest lane that is set is the first place; sixteen if there is none
 first-lane : (end : ℕ) (bytes : List ℕ) (lanes : ℕ) → length bytes ≡ 16 → lanes ≡ mask_l (map (λ b. b == end) bytes)
     → cond (eqb lanes 0) 16 (count_trailing_zeros 64 lanes) ≡ position_or_len (λ b. b == end) bytes
 first-lane end bytes lanes long is = rw is (first_set_mask_l (λ b. b == end) bytes 16 long (omega arith))

@@ -1,4 +1,4 @@
--- What a slot owns is the same for every thread.
+-- A slot owns the same in every thread.
 use mir.Raw.{raw}
 use base.Fraction.{full_share}
 use base.Shift.{Keyless}

@@ -1,4 +1,4 @@
--- A slot is made of the box of a walk.
+-- A slot is made from the box of a walk.
 use Rattle.std.proofs.Common.{refl}
 use base.Logic.{emp}
 use contract.Monad.{fact_i}

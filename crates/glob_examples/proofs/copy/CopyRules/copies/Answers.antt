@@ -8,7 +8,8 @@ use Rattle.glob_examples.proofs.copy.CopyRules.copies.Goals as goal
 pub returns-then-not-branch : goal.returns-then-not-branch
 returns-then-not-branch g c =
     let path = path_bytes c.args.path in
-    let none = Copies-not_included _ path (λ any. absurd (false≢true (sym c.if-not-branch.true ∙ c.in_ok-is_match_path.ensures.answer.1 any))) in
+    let none = Copies-not_included _ path (λ any. absurd (false≢true
+    (sym c.if-not-branch.true ∙ c.in_ok-is_match_path.ensures.answer.1 any))) in
     (λ yes. absurd (false≢true yes), λ copies. absurd (none (subst (λ rules. Copies rules path) (sym c.self.view_is) copies)))
 
 pub returns : goal.returns

@@ -27,16 +27,19 @@ loop-piece-init g c =
     let left = (YieldsList-from_str_split 47 c.args.path.now (lit< tt) split.text split.has_more split.pattern).runs in
     let some = not_zero _ (eqb-false _ 0 (sym c.if-is_empty.ensures)) in (
       pieces c.args.path.now,
-      subst (λ s. AlwaysYields (split_steps FindsChar (λ a b. b ≡ a)) (λ x. x.now) s (pieces c.args.path.now)) (sym c.into_iter-piece-iterator.ensures.into_iter_gives) left,
+      subst (λ s. AlwaysYields (split_steps FindsChar (λ a b. b ≡ a)) (λ x. x.now) s (pieces c.args.path.now))
+          (sym c.into_iter-piece-iterator.ensures.into_iter_gives) left,
       resolve_steps content c.args.path.now some
-          ∙ ap (λ k. steps content (Some k) (pieces c.args.path.now)) (origin-root c.args.self.now.kinds.items c.args.path.now ∙ ap key_of (sym c.new-at.ensures.items)),
+          ∙ ap (λ k. steps content (Some k) (pieces c.args.path.now))
+          (origin-root c.args.self.now.kinds.items c.args.path.now ∙ ap key_of (sym c.new-at.ensures.items)),
     )
 
 pub loop-piece-preserved : goal.loop-piece-preserved
 loop-piece-preserved g c =
     let (rest, left, on) = c.loop-piece.invariant in
     let content = content_of c.args.self.now.kinds.items in
-    let (ys, first, more) = left_after (split_steps FindsChar (λ a b. b ≡ a)) (λ x. x.now) c.loop-piece.piece-iterator c.next.new.self c.next.result c.in-Some.piece c.next.ensures.steps c.in-Some.is rest left in (
+    let (ys, first, more) = left_after (split_steps FindsChar (λ a b. b ≡ a)) (λ x. x.now) c.loop-piece.piece-iterator
+    c.next.new.self c.next.result c.in-Some.piece c.next.ensures.steps c.in-Some.is rest left in (
       ys,
       more,
       on ∙ ap (steps content (Some (key_of c.loop-piece.at.items))) first
@@ -47,13 +50,16 @@ pub returns-in-None-2 : goal.returns-in-None-2
 returns-in-None-2 g c =
     let (rest, left, on) = c.loop-piece.invariant in
     let content = content_of c.args.self.now.kinds.items in
-    let (ys, first, more) = left_after (split_steps FindsChar (λ a b. b ≡ a)) (λ x. x.now) c.loop-piece.piece-iterator c.next.new.self c.next.result c.in-Some.piece c.next.ensures.steps c.in-Some.is rest left in
+    let (ys, first, more) = left_after (split_steps FindsChar (λ a b. b ≡ a)) (λ x. x.now) c.loop-piece.piece-iterator
+    c.next.new.self c.next.result c.in-Some.piece c.next.ensures.steps c.in-Some.is rest left in
     sym (on ∙ ap (steps content (Some (key_of c.loop-piece.at.items))) first
-    ∙ ap (λ o. steps content o ys) (sym c.in_ok-next.ensures ∙ ap (option_map (λ k. key_of k.items)) c.in-None-2.is) ∙ steps_none content ys)
+    ∙ ap (λ o. steps content o ys) (sym c.in_ok-next.ensures ∙ ap (option_map (λ k. key_of k.items)) c.in-None-2.is) ∙
+    steps_none content ys)
 
 pub returns : goal.returns
 returns g c =
     let (rest, left, on) = c.loop-piece.invariant in
     let content = content_of c.args.self.now.kinds.items in
-    let none = none_left (split_steps FindsChar (λ a b. b ≡ a)) (λ x. x.now) c.loop-piece.piece-iterator c.next.new.self c.next.result c.next.ensures.steps c.in-None.is rest left in
+    let none = none_left (split_steps FindsChar (λ a b. b ≡ a)) (λ x. x.now) c.loop-piece.piece-iterator c.next.new.self
+    c.next.result c.next.ensures.steps c.in-None.is rest left in
     sym (on ∙ ap (steps content (Some (key_of c.loop-piece.at.items))) none)

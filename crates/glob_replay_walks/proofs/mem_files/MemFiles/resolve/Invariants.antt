@@ -1,4 +1,4 @@
--- The pieces that are left lead on from the key.
+-- The pieces that are left lead from the key to where the path leads.
 use Rattle.std.proofs.Common.{◌≡◌, List, Some}
 use Rattle.std.specs.Iterator.{AlwaysYields}
 use Rattle.std.specs.Str.Iter.{split_steps}

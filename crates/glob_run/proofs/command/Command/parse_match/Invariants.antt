@@ -1,4 +1,4 @@
--- What the rest asks for under the options so far is what all words ask for.
+-- The rest, under the options so far, asks for the same as all words.
 use Rattle.std.proofs.Common.{◌≡◌, length, map}
 use Rattle.glob.specs.Matching.Options.{new_options}
 use Rattle.glob_run.specs.CommandLine.{lines_request}

@@ -18,7 +18,8 @@ loop-component-preserved g c =
     let e = c.in_ok-push_component.ensures in
     record {
       read = rw (e.added, map-append (λ x. x.now) c.loop-component.yielded (component ∷ [])) (ap (λ xs. xs ++ component.now ∷ []) i.read);
-      shaped = rw (e.shaped, e.added, map-append shape_of c.loop-component.components.items (component.now ∷ [])) (ap (λ xs. xs ++ shape_of component.now ∷ []) i.shaped);
+      shaped = rw (e.shaped, e.added, map-append shape_of c.loop-component.components.items (component.now ∷ []))
+          (ap (λ xs. xs ++ shape_of component.now ∷ []) i.shaped);
       accepted = rw e.added (All-push IsComponent _ _ i.accepted e.accepted);
     }
 

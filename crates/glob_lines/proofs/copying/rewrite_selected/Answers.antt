@@ -2,13 +2,13 @@ use Rattle.std.proofs.Common.{◌≡◌, ◌+◌, ◌-◌, ◌≤◌, ℕ, List,
 use Rattle.std.proofs.lemmas.Bool.{false_from_ne_true}
 use Rattle.std.proofs.lemmas.List.{take-take}
 use Rattle.glob_lines.specs.LineFaults.{IsMemory, IsWrite}
-use Rattle.glob_lines.specs.Lines.{Selected, CopiesSelected, CopiesSomeSelected, CopiesSelectedBytes, CopiesWholeSelected}
+use Rattle.glob_lines.specs.Lines.{Selected, Rewrites, RewritesSome, RewritesBytes, RewritesWhole}
 use Rattle.glob_lines.proofs.LineLemmas.CopiedRecords.{AreCopied-more, AreCopied-last, AreCopied-whole, AreCopied-some}
 use Rattle.glob_lines.proofs.LineLemmas.CopiedRecords.{AreCopied-some_more, AreCopied-bytes_more, IsBlock-last}
 use Rattle.glob_lines.proofs.LineLemmas.CopiedRecords.{IsBlock-whole}
 use Rattle.glob_lines.proofs.LineLemmas.MatchingLines.{selected_decided}
 use Rattle.glob_lines.proofs.LineLemmas.Passing.{IsErrAnd-passed}
-use Rattle.glob_lines.proofs.copying.copy_selected.Goals as goal
+use Rattle.glob_lines.proofs.copying.rewrite_selected.Goals as goal
 
 -- two views of a buffer have the same front
 same_front : (view other buffer : List ℕ) (filled whole : ℕ) → view ≡ buffer → other ≡ buffer → whole ≤ length
@@ -17,73 +17,79 @@ same_front view other buffer filled whole is other_is fits =
     ap (take whole) (other_is ∙ sym is) ∙ sym (take-take whole filled view (omega (arith, fits, length-take filled view)))
 
 pub returns-in_err-len-clause-read_fault : goal.returns-in_err-len-clause-read_fault
-unfolding CopiesWholeSelected
-returns-in_err-len-clause-read_fault g c = λ _. AreCopied-whole c.args.end _ _ _ _ _ _ _ _ c.loop.invariant.copied c.in_err-len.ensures.kept
+unfolding RewritesWhole
+returns-in_err-len-clause-read_fault g c = λ _. AreCopied-whole c.args.end _ _ _ _ _ _ _ _ _ c.loop.invariant.copied
+    c.in_err-len.ensures.kept
 
 pub returns-in_err-len-clause-memory : goal.returns-in_err-len-clause-memory
-unfolding CopiesSomeSelected
+unfolding RewritesSome
 returns-in_err-len-clause-memory g c = λ _.
-    AreCopied-some c.args.end _ (selected_decided (g.S.Selection.selects c.args.selection.now)) _ _ _ _ _ _ c.loop.invariant.copied
+    AreCopied-some c.args.end _ _ (selected_decided (g.S.Rewrite.selects c.args.rewrite.now)) _ _ _ _ _ _ c.loop.invariant.copied
 
 pub returns-in_err-last-clause-memory : goal.returns-in_err-last-clause-memory
-unfolding CopiesSomeSelected
+unfolding RewritesSome
 returns-in_err-last-clause-memory g c = λ is.
-    let selects = g.S.Selection.selects c.args.selection.now in
+    let selects = g.S.Rewrite.selects c.args.rewrite.now in
+    let write = g.S.Rewrite.written c.args.rewrite.now in
     let read = c.in_ok-len.ensures in
     let empty = c.if-len-eq0.true in
-    AreCopied-some_more c.args.end (Selected selects) (selected_decided selects) _ _ _ _ _ _ _ _ _ _ c.loop.invariant.copied
-    (IsBlock-last c.args.end (Selected selects) _ _ c.loop.input.items c.read_piece.new.input.items c.loop.partial
+    AreCopied-some_more c.args.end _ (Selected selects) (selected_decided selects) _ _ _ _ _ _ _ _ _ _ c.loop.invariant.copied
+    (IsBlock-last c.args.end _ (Selected selects) _ _ c.loop.input.items c.read_piece.new.input.items c.loop.partial
     c.in_ok-len.len read.bytes empty (read.end empty)) _
     (ap (take c.loop.partial) c.deref.ensures.value ∙ read.front)
     (c.in_err-last.ensures.memory (IsErrAnd-passed _ _ IsMemory c.from_residual-in_err-last.ensures.1 is))
 
 pub returns-in_err-last-clause-write_fault : goal.returns-in_err-last-clause-write_fault
-unfolding CopiesSelectedBytes
+unfolding RewritesBytes
 returns-in_err-last-clause-write_fault g c = λ is.
-    let selects = g.S.Selection.selects c.args.selection.now in
+    let selects = g.S.Rewrite.selects c.args.rewrite.now in
+    let write = g.S.Rewrite.written c.args.rewrite.now in
     let read = c.in_ok-len.ensures in
     let empty = c.if-len-eq0.true in
-    AreCopied-bytes_more c.args.end (Selected selects) (selected_decided selects) _ _ _ _ _ _ _ _ _ _ c.loop.invariant.copied
-    (IsBlock-last c.args.end (Selected selects) _ _ c.loop.input.items c.read_piece.new.input.items c.loop.partial
+    AreCopied-bytes_more c.args.end _ (Selected selects) (selected_decided selects) _ _ _ _ _ _ _ _ _ _ c.loop.invariant.copied
+    (IsBlock-last c.args.end _ (Selected selects) _ _ c.loop.input.items c.read_piece.new.input.items c.loop.partial
     c.in_ok-len.len read.bytes empty (read.end empty)) _
     (ap (take c.loop.partial) c.deref.ensures.value ∙ read.front)
     (c.in_err-last.ensures.write_fault (IsErrAnd-passed _ _ IsWrite c.from_residual-in_err-last.ensures.1 is))
 
 pub returns-then-len-eq0-clause-records : goal.returns-then-len-eq0-clause-records
-unfolding CopiesSelected
+unfolding Rewrites
 returns-then-len-eq0-clause-records g c =
-    let selects = g.S.Selection.selects c.args.selection.now in
+    let selects = g.S.Rewrite.selects c.args.rewrite.now in
+    let write = g.S.Rewrite.written c.args.rewrite.now in
     let read = c.in_ok-len.ensures in
     let empty = c.if-len-eq0.true in
-    rw c.saturating_add.ensures (AreCopied-last c.args.end (Selected selects) _ _ _ _ _ _ _ _ _ _ c.loop.invariant.copied
-    (IsBlock-last c.args.end (Selected selects) _ _ c.loop.input.items c.read_piece.new.input.items c.loop.partial
+    rw c.saturating_add.ensures (AreCopied-last c.args.end _ (Selected selects) _ _ _ _ _ _ _ _ _ _ c.loop.invariant.copied
+    (IsBlock-last c.args.end _ (Selected selects) _ _ c.loop.input.items c.read_piece.new.input.items c.loop.partial
     c.in_ok-len.len read.bytes empty (read.end empty)) (read.end empty) _
     (ap (take c.loop.partial) c.deref.ensures.value ∙ read.front)
     c.in_ok-last.ensures.records)
 
 pub returns-in_err-copied-clause-memory : goal.returns-in_err-copied-clause-memory
-unfolding CopiesSomeSelected
+unfolding RewritesSome
 returns-in_err-copied-clause-memory g c = λ is.
-    let selects = g.S.Selection.selects c.args.selection.now in
+    let selects = g.S.Rewrite.selects c.args.rewrite.now in
+    let write = g.S.Rewrite.written c.args.rewrite.now in
     let filled = c.loop.partial + c.in_ok-len.len in
     let whole = c.whole_len-whole in
     let read = c.in_ok-len.ensures in
-    AreCopied-some_more c.args.end (Selected selects) (selected_decided selects) _ _ _ _ _ _ _ _ _ _ c.loop.invariant.copied
-    (IsBlock-whole c.args.end (Selected selects) _ _ c.loop.input.items c.read_piece.new.input.items
+    AreCopied-some_more c.args.end _ (Selected selects) (selected_decided selects) _ _ _ _ _ _ _ _ _ _ c.loop.invariant.copied
+    (IsBlock-whole c.args.end _ (Selected selects) _ _ c.loop.input.items c.read_piece.new.input.items
     (take filled c.deref-in-loop.result.now) c.loop.partial c.in_ok-len.len whole.result
     read.front read.bytes (ap (take filled) c.deref-in-loop.ensures.value) whole.ensures.whole) _
     (same_front _ _ _ filled whole.result c.deref-in-loop.ensures.value c.deref-in-loop-2.ensures.value whole.ensures.bound)
     (c.in_err-copied.ensures.memory (IsErrAnd-passed _ _ IsMemory c.from_residual-in_err-copied.ensures.1 is))
 
 pub returns-in_err-copied-clause-write_fault : goal.returns-in_err-copied-clause-write_fault
-unfolding CopiesSelectedBytes
+unfolding RewritesBytes
 returns-in_err-copied-clause-write_fault g c = λ is.
-    let selects = g.S.Selection.selects c.args.selection.now in
+    let selects = g.S.Rewrite.selects c.args.rewrite.now in
+    let write = g.S.Rewrite.written c.args.rewrite.now in
     let filled = c.loop.partial + c.in_ok-len.len in
     let whole = c.whole_len-whole in
     let read = c.in_ok-len.ensures in
-    AreCopied-bytes_more c.args.end (Selected selects) (selected_decided selects) _ _ _ _ _ _ _ _ _ _ c.loop.invariant.copied
-    (IsBlock-whole c.args.end (Selected selects) _ _ c.loop.input.items c.read_piece.new.input.items
+    AreCopied-bytes_more c.args.end _ (Selected selects) (selected_decided selects) _ _ _ _ _ _ _ _ _ _ c.loop.invariant.copied
+    (IsBlock-whole c.args.end _ (Selected selects) _ _ c.loop.input.items c.read_piece.new.input.items
     (take filled c.deref-in-loop.result.now) c.loop.partial c.in_ok-len.len whole.result
     read.front read.bytes (ap (take filled) c.deref-in-loop.ensures.value) whole.ensures.whole) _
     (same_front _ _ _ filled whole.result c.deref-in-loop.ensures.value c.deref-in-loop-2.ensures.value whole.ensures.bound)
@@ -91,7 +97,8 @@ returns-in_err-copied-clause-write_fault g c = λ is.
 
 pub loop-preserved : goal.loop-preserved
 loop-preserved g c =
-    let selects = g.S.Selection.selects c.args.selection.now in
+    let selects = g.S.Rewrite.selects c.args.rewrite.now in
+    let write = g.S.Rewrite.written c.args.rewrite.now in
     let filled = c.loop.partial + c.in_ok-len.len in
     let whole = c.whole_len-whole in
     let read = c.in_ok-len.ensures in
@@ -102,8 +109,9 @@ loop-preserved g c =
       no_read_failed = false_from_ne_true _ read.failed.0;
       no_write_failed = false_from_ne_true _ c.in_ok-copied.ensures.failed.0;
       within = left_is;
-      copied = rw c.saturating_add-count.ensures (AreCopied-more c.args.end (Selected selects) _ _ _ _ _ _ _ _ _ _ _ c.loop.invariant.copied
-          (IsBlock-whole c.args.end (Selected selects) _ _ c.loop.input.items c.read_piece.new.input.items
+      copied = rw c.saturating_add-count.ensures (AreCopied-more c.args.end _ (Selected selects) _ _ _ _ _ _ _ _ _ _ _
+          c.loop.invariant.copied
+          (IsBlock-whole c.args.end _ (Selected selects) _ _ c.loop.input.items c.read_piece.new.input.items
           (take filled c.deref-in-loop.result.now) c.loop.partial c.in_ok-len.len whole.result
           read.front read.bytes value whole.ensures.whole)
           whole.ensures.whole whole.ensures.rest _ (same_front _ _ _ filled whole.result c.deref-in-loop.ensures.value
@@ -112,6 +120,6 @@ loop-preserved g c =
     }
 
 pub returns-clause-memory : goal.returns-clause-memory
-unfolding CopiesSomeSelected
+unfolding RewritesSome
 returns-clause-memory g c = λ _.
-    AreCopied-some c.args.end _ (selected_decided (g.S.Selection.selects c.args.selection.now)) _ _ _ _ _ _ c.loop.invariant.copied
+    AreCopied-some c.args.end _ _ (selected_decided (g.S.Rewrite.selects c.args.rewrite.now)) _ _ _ _ _ _ c.loop.invariant.copied
