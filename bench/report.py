@@ -15,10 +15,10 @@ BENCH = Path(__file__).resolve().parent
 README, PAGE = BENCH.parent / "README.md", BENCH.parent / "docs/PERFORMANCE.md"
 MARK = "<!-- bench/report.py writes this table -->\n"
 HEADS = ["Report", "What", "Ratio", "Cases", "Least", "Median", "Most", "Commit"]
-CHART = 'alt="{} patterns: from {:.2f} to {:.2f}"'
-SENTENCE = """From Rust, beside the crate 0.3.4, parsing takes {:.2g} to {:.2g} times its
-[instructions](docs/PERFORMANCE.md#measured), a copy {:.2g} to {:.2g} times, and a walk {:.2g} to {:.2g} of its time. From
-Rattle, the measured sets take at most {:.2g} of `globset`'s time.
+CHART = 'alt="{} patterns: from {:.2g} to {:.2g}"'
+SENTENCE = """From Rust, parsing takes {:.2g} to {:.2g} times the [instructions](docs/PERFORMANCE.md#measured) of the
+crate 0.3.4, a copy {:.2g} to {:.2g} times, and a walk {:.2g} to {:.2g} of its time. From Rattle, the measured sets take
+at most {:.2g} of `globset`'s time.
 """
 PLOT = """
 set terminal svg size 720,{height} font "sans-serif,13"
@@ -97,7 +97,7 @@ def with_sentence(page):
     ends = (end(found) for found in (parsing, copies, walks) for end in (min, max))
     sentence = SENTENCE.format(*ends, max(sets))
     page = re.sub(r'alt="\d+ patterns: [^"]*"', CHART.format(len(chart), min(chart), max(chart)), page)
-    return re.sub(r"^From Rust, beside the crate 0.3.4, (.+\n)+", lambda _: sentence, page, flags=re.M)
+    return re.sub(r"^From Rust, parsing takes (.+\n)+", lambda _: sentence, page, flags=re.M)
 
 
 def plot():

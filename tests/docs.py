@@ -118,11 +118,31 @@ def unknown_clauses():
     return found
 
 
-def unnamed_premises():
-    """The public calls with a `requires` that the beginning of docs/DEFINITIONS.md does not name."""
+@functools.cache
+def reference():
+    """The contracts that bin/reference prints, each with the file of its call."""
     with tempfile.TemporaryDirectory() as folder:
         run([ROOT / "bin/reference", folder])
-        calls = re.split(r"\n\n|```", Path(folder, "contracts.md").read_text(encoding="utf-8"))
+        parts = re.split(r"^## `(.*)`$", Path(folder, "contracts.md").read_text(encoding="utf-8"), flags=re.M)
+    return [(f"crates/{file}", call.strip()) for file, calls in zip(parts[1::2], parts[2::2])
+        for call in re.split(r"\n\n|```\w*", calls) if call.strip()]
+
+
+def cut_off_contracts():
+    """The contracts of bin/reference that are not all that the source has between the call's name and its body."""
+    found = []
+    for file, call in reference():
+        text = " ".join(re.sub(r"^.*?(?:fn (?:\w+::)?|ghost )", "", call, flags=re.S).split())
+        source = " ".join(re.sub(r"^ *//.*$", "", read(file), flags=re.M).split())
+        ends = [""] if text.endswith("};") else [" {", ";"]
+        is_whole = text.count("{") == text.count("}") and any(f"{text}{end}" in source for end in ends)
+        found += [] if is_whole else [f"{file}: {text[:40]}"]
+    return found
+
+
+def unnamed_premises():
+    """The public calls with a `requires` that the beginning of docs/DEFINITIONS.md does not name."""
+    calls = [call for _, call in reference()]
     names = [re.search(r"fn (?:\w+::)?(\w+)", call)[1] for call in calls if re.search(r"^ *requires", call, re.M)]
     return [name for name in names if not re.search(rf"[`:]{name}`", read("docs/DEFINITIONS.md").split("\n## ")[0])]
 
@@ -207,6 +227,7 @@ def main():
             check(f"{page}: no source has", unknown_names(page))
     check("docs/DEFINITIONS.md: no clause", unknown_clauses())
     check("docs/DEFINITIONS.md: no call with a requires", unnamed_premises())
+    check("bin/reference: cut off", cut_off_contracts())
     check("other messages:", other_messages())
     check("docs/FAULTS.md: no test", unknown_tests())
     check("out of date:", stale())

@@ -1,8 +1,9 @@
 #!/usr/bin/env python3
 """Compares the output of `globs find` on random trees on the disk: with a filter of all paths by tests/lib/reference.py,
-where symbolic links are not followed, with several patterns with braces, excluded paths, kinds and depths; and, with
-`--git`, with what git lists, where the trees have ignore files at any depth. Order and duplicates count. In a table it
-counts the directories that are listed. The last line counts searches: 'N passed, M failed'.
+where symbolic links are not followed, with several patterns with braces and leads, excluded paths, kinds and depths; and,
+with `--git`, with what git lists, where the trees have ignore files at any depth, and a search begins anywhere in them.
+Order and duplicates count. In a table it counts the directories that are listed. The last line counts searches: 'N
+passed, M failed'.
 
     tests/find.py [--seed N] [--searches N]
 """
@@ -25,11 +26,15 @@ RULES = ["a", "b", "/a", "/b", "a/", "b/", "*", "!*", "!a", "!b", "!a/", "!/a/b"
 GIT = {"GIT_CONFIG_NOSYSTEM": "1", "GIT_CONFIG_GLOBAL": "/dev/null"}
 
 # Lines about words that may have been meant otherwise.
-HINT = re.compile(r"globs: (`.*` is (of one path|a directory)|\[\^ lists a \^ here)")
+HINT = re.compile(
+    r"globs: (`.*` (is a directory|matches (one path|only names at the start))|\[\^ lists a \^ here|the start is ignored by )"
+)
 
-# Patterns, and how many directories are listed in a tree with src/{a.c,b.c,deep/c.c}, lib/{a.h,b.h} and doc/x.
+# Patterns, and how many directories are listed in a tree with src/{a.c,b.c,deep/c.c}, lib/{a.h,b.h} and doc/x. If the
+# last word is a path that does not exist, one more is listed, for a line about what is there.
 LISTED = [("src/*.c lib/a*", 2), ("src/a.c lib/a.h doc", 0), ("*", 1), ("*/a.c", 1), ("src/**/*.c", 2), ("**/*.c", 5),
-    ("src/deep/*.c doc/y", 1), ("-x deep src/**", 1), ("--max-depth 2 **", 4), ("-i SRC/*.c", 2)]
+    ("doc/y src/deep/*.c", 1), ("-x deep src/**", 1), ("--max-depth 2 **", 4), ("-i SRC/*.c", 2),
+    ("src/deep/*.c doc/y", 2)]
 
 
 def some_components(source, count):
@@ -97,7 +102,8 @@ class Searches:
         self.count.same(f"{what} {words}", (output.splitlines(), faults, status), (wanted, [], not wanted))
 
     def filtered(self, top):
-        """Searches a tree, and compares with a filter of its paths. Half of the searches begin in another directory."""
+        """Searches a tree, and compares with a filter of its paths. Most of the searches begin in another directory, or
+        have patterns that lead from there to the top."""
         source = self.source
         tree = make.grown(source, source.randint(0, 30), make.few_name, 0.7)
         ends = {path: some_end(source, path, tree) for path in tree}
@@ -107,12 +113,18 @@ class Searches:
             rules = [(source.choice([*tree] or ["b"]), source.random() < 0.5) for _ in range(source.randint(0, 3))]
             kept = [path for path in tree if is_kept(path, rules, tree) and is_wanted(path, ends[path], options)]
             excluded = [word for rule, only in rules for word in ("-x", f"/{rule}" + "/" * only)]
-            start, place = source.choice([([], top), (["-C", top], "/")])
-            words = [*start, *excluded, *options, *map(written, patterns)]
-            self.same(place, sorted(tree), words, matched(kept, patterns, options))
+            starts = [([], top, ["", "./", "././"]), (["-C", top], "/", ["", "./"])]
+            starts += [(["-C", path], top, ["../" * len(path.split("/")), "./" + "../" * len(path.split("/"))])
+                for path in tree if tree[path]]
+            start, place, leads = source.choice(starts)
+            led = [(source.choice(leads), pattern) for pattern in patterns]
+            words = [*start, *excluded, *options, *(lead + written(pattern) for lead, pattern in led)]
+            wanted = [lead + path for lead in dict.fromkeys(lead for lead, _ in led)
+                for path in matched(kept, [pattern for other, pattern in led if other == lead], options)]
+            self.same(place, sorted(tree), words, wanted)
 
     def beside_git(self, top):
-        """Searches a tree with ignore files, and compares with what git lists."""
+        """Searches a tree with ignore files, or a directory in it, and compares with what git lists there."""
         source = self.source
         tree = make.grown(source, source.randint(1, 30), ascii_name, 0.7)
         files = {f"{path}/.gitignore" for path in ["."] + [it for it in tree if tree[it]] if source.random() < 0.4}
@@ -120,11 +132,12 @@ class Searches:
         make.place(top, [path + "/" * is_dir for path, is_dir in tree.items()])
         make.place(top, [f"{file}={self.rules()}" for file in [*files, ".git/info/exclude"]])
         words = ["git", "ls-files", "-co", "--exclude-standard", "-z"]
-        listed = run(words, cwd=top, env={**os.environ, **GIT})[1].split("\0")[:-1]
+        start = os.path.join(top, source.choice([".", source.choice([".", *(path for path in tree if tree[path])])]))
+        listed = run(words, cwd=start, env={**os.environ, **GIT})[1].split("\0")[:-1]
         for _ in range(EACH):
             patterns, options = some_patterns(source), source.choice([[], ["-i"], ["-d"]])
             words = ["--git", "-t", "f", *options, *map(written, patterns)]
-            self.same(top, f"{sorted(tree)} {sorted(files)}", words, matched(listed, patterns, options))
+            self.same(start, f"{sorted(tree)} {sorted(files)} {start}", words, matched(listed, patterns, options))
 
     def rules(self):
         """The text of an ignore file."""

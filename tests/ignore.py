@@ -1,7 +1,7 @@
 #!/usr/bin/env python3
 """Compares ignore lists with git. First, questions with recorded answers in tests/rows/git.answers, in the format of
 `glob_vectors rules`: answers of git 2.39 and, at the end and marked R, lists that are refused according to
-docs/IGNORE.md. Then random lists and trees, and which line decides for each path.
+docs/IGNORE.md. Then random lists and trees, and which line decides for each path: for some of them by `globs ignore -v`.
 
     tests/ignore.py [--seed N] [--lists N]
 
@@ -70,7 +70,7 @@ def name(rng):
 
 
 def git_says(folder, cases):
-    """The deciding line of each question, 0 for none."""
+    """The deciding line of each question, 0 for none, and how that rule is written."""
     subprocess.run(["git", "init", "-q", folder], check=True)
     for number, (text, paths) in enumerate(cases):
         place(f"{folder}/L{number}", [f".gitignore={text}", *(path + "/" * is_dir for path, is_dir in paths)])
@@ -81,7 +81,7 @@ def git_says(folder, cases):
     fields = output.decode().split("\0")[:-1]
     if status > 1 or fields[3::4] != asked:
         sys.exit(f"git: {errors.decode()}")
-    return [int(line or 0) for line in fields[1::4]]
+    return [(int(line or 0), rule) for line, rule in zip(fields[1::4], fields[2::4])]
 
 
 def answers(asked):
@@ -126,13 +126,29 @@ def compare(count, text, paths, expected, answer):
 
 def compare_batch(count, cases):
     with tempfile.TemporaryDirectory() as folder:
-        expected = iter(git_says(folder, cases))
-    for (text, paths), answer in zip(cases, ours(cases)):
-        lines = [next(expected) for _ in paths]
-        if isinstance(answer, str):
-            compare_refusal(count, text, answer)
-        else:
+        says = iter(git_says(folder, cases))
+        for number, ((text, paths), answer) in enumerate(zip(cases, ours(cases))):
+            expected = [next(says) for _ in paths]
+            if isinstance(answer, str):
+                compare_refusal(count, text, answer)
+                continue
+            lines = [line for line, _ in expected]
             compare(count, text, paths, lines, answer)
+            if number % 20 == 0 and lines == answer:
+                compare_named(count, f"{folder}/L{number}", text, paths, expected)
+
+
+def compare_named(count, folder, text, paths, expected):
+    """`globs ignore -v` names the rules that git does."""
+    asked = "".join(path + "/" * is_dir + "\0" for path, is_dir in paths)
+    words = [built("globs"), "ignore", "-v", "-0", ".gitignore"]
+    status, output, _ = run(words, input=asked.encode(), cwd=folder, text=False)
+    named = []
+    for (path, is_dir), (line, rule) in zip(paths, expected):
+        if line:
+            named += [".gitignore", str(line), rule, path + "/" * is_dir]
+    wanted = 0 if named else 1, "".join(field + "\0" for field in named)
+    count.same(f"list {text!r}, -v", (status, output.decode()), wanted)
 
 
 def compare_kept(count):

@@ -6,7 +6,7 @@
 //!
 //! let pattern = Pattern::new("*.rs").unwrap();
 //! let pieces = captures(&pattern, "main.rs", MatchOptions::new()).unwrap().unwrap();
-//! // of `*`, `.`, `r` and `s`
+//! // one piece each for `*`, `.`, `r` and `s`
 //! assert_eq!(pieces.len(), 4);
 //! assert_eq!(&"main.rs"[pieces[0].start..pieces[0].end], "main");
 //! assert_eq!(captures(&pattern, "main.c", MatchOptions::new()).unwrap(), None);

@@ -1,4 +1,4 @@
-//! `Debug` of types that have none in the sources, without fields that would fill the screen.
+//! `Debug` for types that lack it in the sources, without fields that would fill the screen.
 
 use std::fmt;
 

@@ -38,8 +38,7 @@ pub fn glob(pattern: &str) -> Result<Paths, PatternError> {
     glob_with(pattern, MatchOptions::new())
 }
 
-/// The paths that a pattern leads to, like [`glob()`], but under these options. The separator rule has no effect, since
-/// a name has no `/`.
+/// Like [`glob()`], but under these options. The separator rule has no effect, since a name has no `/`.
 ///
 /// ```
 /// use cadmiumdove::{glob_with, MatchOptions};
@@ -82,7 +81,7 @@ pub struct Disk {
 }
 
 impl Disk {
-    /// The file system, whose symbolic links are followed.
+    /// The file system, with symbolic links followed.
     ///
     /// <details><summary>Tested</summary>
     ///
@@ -95,7 +94,7 @@ impl Disk {
 
     /// Whether symbolic links are followed. If not, a link does not count as a directory: a walk by `**` does not enter
     /// it, so it ends on a cycle of links, and `link/*` finds nothing. A path through a link, such as `link/a`, is
-    /// looked up all the same.
+    /// still looked up.
     ///
     /// <details><summary>Tested</summary>
     ///
@@ -115,7 +114,7 @@ impl Disk {
         }
     }
 
-    /// What is at a path: an error if the system says neither what is there nor that nothing is.
+    /// What is at a path, or an error if the system cannot say whether anything is there.
     pub(crate) fn look_at(self, path: &Path) -> io::Result<Look> {
         match fs::symlink_metadata(path) {
             Ok(metadata) if metadata.is_symlink() && self.follow_links => match fs::metadata(path) {
@@ -137,15 +136,15 @@ impl Disk {
 
     /// The entries of a directory, with their kinds or without.
     fn entries(self, path: &Path, kinds: bool) -> io::Result<Vec<Entry>> {
-        self.entries_and(path, kinds, |_stray| ())
+        self.entries_and(path, kinds, &mut |_stray| ())
     }
 
-    /// The entries of a directory, with their kinds or without. Names that are not UTF-8 go to a function.
+    /// The entries of a directory, with their kinds or without. Calls a function with each name that is not UTF-8.
     pub(crate) fn entries_and(
         self,
         path: &Path,
         kinds: bool,
-        mut stray: impl FnMut(OsString),
+        stray: &mut dyn FnMut(OsString),
     ) -> io::Result<Vec<Entry>> {
         let mut entries = Vec::new();
         for entry in fs::read_dir(path)? {
@@ -153,7 +152,9 @@ impl Disk {
             match entry.file_name().into_string() {
                 Ok(name) => {
                     let is_dir = kinds && self.is_dir(&entry);
-                    entries.extend(Name::new(name).ok().map(|name| Entry { name, is_dir }));
+                    if let Ok(name) = Name::new(name) {
+                        entries.push(Entry { name, is_dir });
+                    }
                 }
                 Err(name) => stray(name),
             }
@@ -182,7 +183,7 @@ impl Tree for Disk {
     }
 }
 
-/// The text of a [`GlobError`] ends in that of its I/O error, so there is no `source` that would print it again.
+/// The text of a [`GlobError`] ends in the text of its I/O error, so there is no `source`, which would print it again.
 impl Error for GlobError {
     #[allow(deprecated)]
     fn description(&self) -> &str {

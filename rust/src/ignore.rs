@@ -11,8 +11,8 @@
 //! # Ok::<(), cadmiumdove::ignore::RuleRefusal>(())
 //! ```
 //!
-//! [`Reason`] has the kinds of lines that are refused, and the error has the number of the first.
-//! [`IgnoreList::lenient`] passes over them, as for a file of somebody else, and has an error for each:
+//! [`Reason`] lists the kinds of lines that are refused, and the error has the number of the first refused line. For
+//! somebody else's file, [`IgnoreList::lenient`] skips such lines, and returns an error for each:
 //!
 //! ```
 //! use cadmiumdove::ignore::IgnoreList;

@@ -1,4 +1,5 @@
-//! Sixteen bytes at once, in two words: what the search for a needle uses of `std::simd`, which stable Rust lacks.
+//! Sixteen bytes at once, in two words: the part of `std::simd`, which stable Rust lacks, that the search for a needle
+//! uses.
 
 use std::ops::BitOr;
 
@@ -13,6 +14,7 @@ const EACH: u64 = 0x0101_0101_0101_0101;
 impl u8x16 {
     #[inline(always)]
     pub fn from_slice(bytes: &[u8]) -> Self {
+        let bytes = &bytes[..16]; // so that the bound is tested once
         let word = |at: usize| u64::from_le_bytes(std::array::from_fn(|lane| bytes[at + lane]));
         u8x16([word(0), word(8)])
     }

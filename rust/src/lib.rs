@@ -15,15 +15,19 @@
 //! }
 //! ```
 //!
-//! More is in modules of their own: walks with a limit, over any tree, or that ask their caller ([`walk`]), sets of
-//! patterns ([`set`]), the rules of ignore files ([`ignore`]), searches by many patterns that heed such files
-//! ([`search`]), and the pieces of a text that a pattern's wildcards take, and how far a text matches
-//! ([`captures`](mod@captures)). [`tutorial`] takes one sitting, and [`recipes`] has an example for each task.
+//! There is more in modules: walks with a limit, over any tree, or that ask their caller ([`walk`]); sets of patterns
+//! ([`set`]); the rules of ignore files ([`ignore`]); searches by many patterns that heed such files ([`search`]); the
+//! pieces of a text that a pattern's wildcards take, and how far a text matches ([`captures`](mod@captures)).
+//! [`tutorial`] takes one sitting, and [`recipes`] has an example for each task.
 //!
 //! The code that matches and walks is made from sources in which every function is proved to do what its contract says;
-//! README says what that means for this crate. The file that an item's source link shows begins with the path of its
-//! source, where its contract is, unless the item is written by hand. A match asks at most
-//! as many questions as the pattern has tokens times the text has characters, plus tokens, and nothing here recurses.
+//! README says what that means for this crate. An item's source link shows a file that begins with the path of the
+//! proved source, which has the item's contract; items written by hand have no such source.
+//!
+//! Nothing here recurses. For t tokens and c characters a match asks at most t × c + t times whether a token takes a
+//! character. Between the ends of the pattern, which are the one-character tokens before its first `*` or `**` and
+//! after its last, a proved clause counts each question; at the ends the code asks each token at most once, the first
+//! perhaps twice, but no clause counts there.
 
 #![forbid(unsafe_code)]
 #![warn(missing_debug_implementations, missing_docs, clippy::missing_errors_doc)]
@@ -31,9 +35,10 @@
 #[cfg(windows)]
 compile_error!("paths of Windows have prefixes and `\\`, which no pattern of this crate knows");
 
-// First, so that the documentation of a type begins with `new`, and not with what is added to it.
+// This comes first, so that the documentation of a type begins with `new`, and not with what is added to it.
 mod proved;
 
+mod above;
 mod debug;
 mod disk;
 mod lanes;

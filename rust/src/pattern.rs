@@ -55,7 +55,7 @@ impl Error for PatternError {
     }
 }
 
-/// The pattern's text, in the width and precision that are asked for.
+/// The pattern's text, with the format's width and precision.
 impl fmt::Display for Pattern {
     fn fmt(&self, f: &mut fmt::Formatter<'_>) -> fmt::Result {
         f.pad(self.as_str())
@@ -81,7 +81,7 @@ impl PatternErrorKind {
     ///
     /// <details><summary>Contract</summary>
     ///
-    /// That of a method in the sources: `self` is the error.
+    /// The contract of a method in the sources, whose `self` is the error.
     ///
     /// ```text
     /// ensures kind { result ≡ kind_of self.now.msg.now }

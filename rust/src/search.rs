@@ -17,18 +17,19 @@
 //! wildcards, such as `src/lib.rs`, is looked up, and lists nothing. A `*` takes no `/`, and `**` takes any number of
 //! names.
 //!
-//! A path that cannot be looked up, a directory that cannot be listed, an ignore file that cannot be read, a refused
-//! line of one, and a name that is not UTF-8 give items with a [`SearchError`].
+//! An item is a [`SearchError`] if a path cannot be looked up, a directory cannot be listed, an ignore file cannot be
+//! read or has a refused line, or a name is not UTF-8.
 //!
-//! With [`git`](Search::git) and [`Wanted::Others`], a search of `**/*` finds the files that `git ls-files -co
-//! --exclude-standard` prints, if no tracked file is ignored or missing, there is no repository within, each name is
-//! UTF-8, and the user has no ignore file of their own. Git prints no pipe, socket or device. It reads lines that are
-//! [refused](crate::ignore::Reason) here, and compares `?` and brackets with single bytes.
+//! With [`git`](Search::git) and [`Wanted::Others`], a search for `**/*` finds the files that `git ls-files -co
+//! --exclude-standard` prints, if no tracked file is ignored or missing, no repository is inside, each name is UTF-8,
+//! and the user has no ignore file of their own. Other differences: git prints no pipes, sockets and devices, accepts
+//! lines that are [refused](crate::ignore::Reason) here, and compares `?` and brackets with single bytes.
 
 use std::fmt;
 use std::mem;
 use std::path::PathBuf;
 
+use crate::above::{place_of, rules_above};
 use crate::ignore::IgnoreList;
 pub use crate::proved::glob_search::{NoRuleTexts, RuleTexts, Wanted};
 use crate::proved::glob_search::{Search as Engine, Settings};
@@ -52,11 +53,12 @@ use crate::MatchOptions;
 pub struct Found {
     /// The names from the start directory on, such as `src/main.rs`.
     pub path: PathBuf,
-    /// Whether it is a directory. A symbolic link to one does not count, unless links are followed.
+    /// Whether it is a directory. A symbolic link to a directory is one only if links are followed.
     pub is_dir: bool,
 }
 
-/// A search that has not begun. [`IntoIterator`] begins it on the file system, [`over`](Search::over) in any [`Tree`].
+/// A search that has not begun. [`IntoIterator`] begins it on the file system, and [`over`](Search::over) begins it in
+/// any [`Tree`].
 ///
 /// ```
 /// use cadmiumdove::search::{Search, Wanted};
@@ -83,8 +85,8 @@ impl fmt::Debug for Search {
 }
 
 impl Search {
-    /// A search below the current directory for what any of the patterns matches, case-sensitively. Links are not
-    /// followed.
+    /// A case-sensitive search below the current directory for the paths that any of the patterns matches. Links are
+    /// not followed.
     ///
     /// ```
     /// use cadmiumdove::search::Search;
@@ -103,10 +105,10 @@ impl Search {
     ///
     /// # Errors
     ///
-    /// The error is that of the first text that is refused, with its number, counted from 0:
+    /// The error is about the first text that is refused, and has its number, counted from 0:
     /// [`Pattern`](SearchRefusal::Pattern) if it is not a pattern, and [`NoPath`](SearchRefusal::NoPath) if it has a
-    /// component that is empty, `.` or `..`, as `src/`, `/tmp/*`, `../*` and the empty text have. No path that a search
-    /// gives has such a component.
+    /// component that is empty, `.` or `..`, such as `src/`, `/tmp/*`, `../*` and the empty text. A search gives no
+    /// path with such a component.
     ///
     /// <details><summary>Tested</summary>
     ///
@@ -139,10 +141,10 @@ impl Search {
     ///
     /// # Errors
     ///
-    /// The error is that of the first text that is refused, with its number, counted from 0:
+    /// The error is about the first text that is refused, and has its number, counted from 0:
     /// [`Braces`](SearchRefusal::Braces) if its braces are not closed or stand for too many alternatives, or if an
-    /// alternative is not a pattern; [`NoPath`](SearchRefusal::NoPath) if one has a component that is empty, `.` or
-    /// `..`.
+    /// alternative is not a pattern; [`NoPath`](SearchRefusal::NoPath) if an alternative has a component that is empty,
+    /// `.` or `..`.
     ///
     /// <details><summary>Tested</summary>
     ///
@@ -168,14 +170,14 @@ impl Search {
         Ok(Search::of(patterns))
     }
 
-    /// A search for patterns that were read.
+    /// A search for parsed patterns.
     fn of(patterns: Vec<String>) -> Self {
         let settings = Settings { kinds: true, ..Settings::new() };
         let start = PathBuf::new();
         Search { patterns, settings, follow_links: false, start, is_git: false, files: false, exclusions: Vec::new() }
     }
 
-    /// How names are matched. The separator rule always holds.
+    /// How names are matched. The separator rule is always on.
     ///
     /// ```
     /// use cadmiumdove::search::Search;
@@ -218,9 +220,9 @@ impl Search {
         self
     }
 
-    /// Finds only directories, or everything else. [`Others`](Wanted::Others) are not only files, but also symbolic
-    /// links (even those that lead nowhere), pipes, sockets and devices. Opening a pipe may wait forever;
-    /// [`files`](Search::files) finds only regular files.
+    /// Finds only directories, or only everything else. [`Others`](Wanted::Others) are files, symbolic links (even if
+    /// they lead nowhere), pipes, sockets and devices. Opening a pipe may wait forever; [`files`](Search::files) finds
+    /// only regular files.
     ///
     /// ```
     /// use cadmiumdove::search::{Search, Wanted};
@@ -245,7 +247,7 @@ impl Search {
 
     /// Finds only regular files, on the file system. Each path found that is not a directory is looked up once more: a
     /// symbolic link does not count as a file, unless links are followed and it leads to one. A [`Tree`] of your own
-    /// knows only directories and others; there, this finds the others.
+    /// knows only directories and others; in such a tree this finds the others.
     ///
     /// ```
     /// use cadmiumdove::search::Search;
@@ -288,8 +290,8 @@ impl Search {
         self
     }
 
-    /// Searches below this directory of the file system, instead of the current one. Paths are relative to it, also
-    /// those of errors, where `.` is the directory itself. If it is missing or not a directory, the only item is an
+    /// Searches below this directory of the file system, instead of the current one. Paths are relative to it, also the
+    /// paths of errors, where `.` is the directory itself. If it is missing or not a directory, the only item is an
     /// error [`Unread`](SearchError::Unread) of `.`, whatever the patterns.
     ///
     /// ```
@@ -315,8 +317,9 @@ impl Search {
         self
     }
 
-    /// Leaves out what a list ignores, and everything below it. Its rules override those of files, so this is for rules
-    /// of a command line, not for a user's global ignore file. Of several lists, the one given last decides.
+    /// Leaves out what a list ignores, and everything below it. Its rules override the rules of files, so use it for
+    /// rules of a command line, not for a user's global ignore file. If there are several lists, the one given last
+    /// decides.
     ///
     /// A list is the text of an ignore file: `#` begins a comment, `!` re-includes, and a rule without a `/` is about
     /// names at every depth. For patterns of a command line use [`exclude`](Search::exclude) with a
@@ -371,9 +374,13 @@ impl Search {
     }
 
     /// Heeds what git heeds: reads the `.gitignore` of each directory and `.git/info/exclude`, and leaves out each
-    /// `.git`. The start directory counts as the top of the repository. This adds to the names of
-    /// [`ignore_files`](Search::ignore_files), which has to be called before. A refused line of `.git/info/exclude`
-    /// makes no rule, and gives no error.
+    /// `.git`. This adds to the names of [`ignore_files`](Search::ignore_files), so call that one first.
+    ///
+    /// The top of the repository is the nearest directory, from the start directory upwards, that has a `.git`, and
+    /// `.git/info/exclude` is read there. If the top is above the start, the `.gitignore` of each directory from the
+    /// top down is read, too. If these rules ignore the start, or a directory above it, nothing is found. Without a
+    /// repository, and [over](Search::over) a tree of your own, the start counts as the top. A refused line of
+    /// `.git/info/exclude` or of a file above the start makes no rule, and gives no error.
     ///
     /// ```
     /// use cadmiumdove::search::Search;
@@ -385,7 +392,8 @@ impl Search {
     ///
     /// <details><summary>Tested</summary>
     ///
-    /// `a_search_by_ignore_files_finds_what_git_does` in `tests/searches.rs`.
+    /// `a_search_by_ignore_files_finds_what_git_does` and `a_search_below_the_top_finds_what_git_does` in
+    /// `tests/searches.rs`.
     ///
     /// </details>
     #[must_use]
@@ -396,8 +404,8 @@ impl Search {
     }
 
     /// Leaves out each path for which a function returns `true`, and everything below it. The function is called for
-    /// the paths that no rule ignores, with whether each is a directory. Several calls leave out what any of their
-    /// functions does.
+    /// the paths that no rule ignores; its second argument says whether the path is a directory. If `exclude` is called
+    /// several times, each of the functions leaves out paths.
     ///
     /// ```
     /// use cadmiumdove::search::Search;
@@ -407,8 +415,8 @@ impl Search {
     /// # Ok::<(), cadmiumdove::search::SearchRefusal>(())
     /// ```
     ///
-    /// Patterns of a command line make a set. Under the separator rule its `*` takes no `/`, as in the search itself. No
-    /// path has a `./` in front or a `/` at its end, so a pattern that has leaves out nothing:
+    /// For patterns of a command line, make a set. Under the separator rule its `*` takes no `/`, as in the search
+    /// itself. No path begins with `./` or ends in `/`, so a pattern that does leaves out nothing:
     ///
     /// ```
     /// use cadmiumdove::search::Search;
@@ -435,8 +443,8 @@ impl Search {
         self
     }
 
-    /// The most units of work: one for each lookup, listing, ignore file, and entry of a listing. A search that needs
-    /// more ends with [`Limit`](SearchError::Limit).
+    /// How many units of work the search may take: one for each lookup, listing, ignore file, and entry of a listing. A
+    /// search that needs more ends with [`Limit`](SearchError::Limit).
     ///
     /// ```
     /// use cadmiumdove::search::{Search, SearchError};
@@ -458,9 +466,9 @@ impl Search {
     }
 
     /// Begins in a tree of your own, with the texts of its ignore files ([`NoRuleTexts`] has none). In a directory that
-    /// is listed, only the files that the listing has are asked for. The names of a tree are UTF-8 by their type, so
-    /// what it leaves out, as [`Disk`] does, is not an error here. Nor is a missing start directory, unless it is
-    /// listed.
+    /// is listed, the search asks only for ignore files that are in the listing. The names of a tree are UTF-8 by their
+    /// type, so names that a tree leaves out, as [`Disk`] does, give no errors. A missing start directory gives one
+    /// only if it is listed.
     ///
     /// ```
     /// use cadmiumdove::search::{NoRuleTexts, Search};
@@ -478,11 +486,17 @@ impl Search {
     ///
     /// </details>
     pub fn over<T: Tree, R: RuleTexts>(self, tree: T, texts: R) -> Searching<T, R> {
+        self.over_at(&[], tree, texts)
+    }
+
+    /// The same, if these names lead from the top of a repository down to the start.
+    fn over_at<T: Tree, R: RuleTexts>(self, place: &[String], tree: T, texts: R) -> Searching<T, R> {
         let Search { patterns, mut settings, is_git, exclusions, .. } = self;
         let mut guide = Guide { texts, is_git, exclusions };
         if is_git {
-            if let Ok(Some(text)) = guide.text(".git/info/exclude") {
-                settings.last.push(IgnoreList::lenient(&text).0);
+            match rules_above(place, &mut guide) {
+                Some(lists) => settings.last = lists,
+                None => settings.depth = 0,
             }
         }
         let engine = Engine::new(&strs_of(&patterns), settings).expect("the patterns were read");
@@ -491,9 +505,9 @@ impl Search {
 }
 
 /// Begins on the file system. A start directory that is missing, or is not a directory, gives an error
-/// [`Unread`](SearchError::Unread), and nothing else. Each name that is not UTF-8, in a directory that is listed, gives
-/// an item [`NotText`](SearchError::NotText), whatever the patterns and the rules. These items come before what is
-/// found in and below that directory, in the order of their bytes.
+/// [`Unread`](SearchError::Unread), and nothing else. In each directory that is listed, each name that is not UTF-8
+/// gives an item [`NotText`](SearchError::NotText), whatever the patterns and the rules. These items come in the order
+/// of their bytes, before what is found in and below the directory.
 ///
 /// ```
 /// use cadmiumdove::search::{Search, SearchError};
@@ -512,17 +526,18 @@ impl IntoIterator for Search {
     type IntoIter = Searching<Start, Start>;
 
     fn into_iter(mut self) -> Searching<Start, Start> {
+        let place = if self.is_git { place_of(&self.start) } else { Vec::new() };
         let start = Start::new(Disk::new().follow_links(self.follow_links), mem::take(&mut self.start));
         let missing = start.missing();
         if missing.is_some() {
             self.patterns.clear();
         }
         let files = self.files;
-        self.over(start.clone(), start).reporting(missing, files)
+        self.over_at(&place, start.clone(), start).reporting(missing, files)
     }
 }
 
-/// Whether a component of a pattern is not a name.
+/// Whether a component of a pattern is not a name: empty, `.` or `..`.
 fn matches_no_path(pattern: &str) -> bool {
     pattern.split('/').any(|component| matches!(component, "" | "." | ".."))
 }

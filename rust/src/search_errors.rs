@@ -9,8 +9,8 @@ use crate::ignore::{Reason, RuleRefusal};
 use crate::proved::glob_search::SearchFault as Fault;
 use crate::set::{BraceSetRefusal, SetRefusal};
 
-/// What a search could not do. Paths are relative to the start directory, like those that are found; `.` is that
-/// directory itself. The search goes on, except after [`Limit`](SearchError::Limit).
+/// What a search could not do. Paths are relative to the start directory, like the paths that are found; `.` is the
+/// start directory itself. The search goes on, except after [`Limit`](SearchError::Limit).
 ///
 /// ```
 /// use cadmiumdove::search::{Search, SearchError};
@@ -36,8 +36,8 @@ pub enum SearchError {
     Unread(PathBuf, io::Error),
     /// The file with rules at the path could not be read, so its rules do not apply.
     UnreadRules(PathBuf, io::Error),
-    /// A line of the file with rules at the path is refused, so it is no rule; the other lines count. Lines are counted
-    /// from 1.
+    /// A line of the file with rules at the path is refused, so it is not a rule; the other lines count. Lines are
+    /// counted from 1.
     RefusedRules(PathBuf, usize, Reason),
     /// The next unit of work does not fit the limit. The search has ended.
     Limit,
@@ -90,7 +90,7 @@ impl fmt::Display for SearchError {
     }
 }
 
-/// Its source is the I/O error, or why the line is refused: what is printed without the path and the line.
+/// The source is the I/O error, or the reason why the line is refused: the printed text without the path and the line.
 impl Error for SearchError {
     fn source(&self) -> Option<&(dyn Error + 'static)> {
         match self {
@@ -101,7 +101,7 @@ impl Error for SearchError {
     }
 }
 
-/// The errors of a search for the fault of the proved one: of a file with rules, one for each line that is refused.
+/// The errors for a fault of the proved search: for a file with refused rules, one for each of these lines.
 pub(crate) fn errors_of(fault: Fault) -> Vec<SearchError> {
     match fault {
         Fault::Unread(path, error) => vec![SearchError::Unread(path.into(), error)],
@@ -135,8 +135,8 @@ pub enum SearchRefusal {
     Pattern(SetRefusal),
     /// The braces of a text are not closed or stand for too many alternatives, or an alternative is not a pattern.
     Braces(BraceSetRefusal),
-    /// The text with the number, counted from 0, or one of its alternatives, has a component that is empty, `.` or
-    /// `..`, so that it matches no path of a search.
+    /// The text with this number, counted from 0, or one of its alternatives has a component that is empty, `.` or
+    /// `..`, so it matches no path of a search.
     NoPath(usize),
 }
 
@@ -175,7 +175,7 @@ impl fmt::Display for SearchRefusal {
     }
 }
 
-/// Its source is the fault without the number: that of the text, of its braces, or of its alternative.
+/// The source is the fault without the number: the fault of the text, of its braces, or of its alternative.
 impl Error for SearchRefusal {
     fn source(&self) -> Option<&(dyn Error + 'static)> {
         match self {

@@ -66,7 +66,8 @@ impl<T, R> Searching<T, R> {
 }
 
 impl Searching<Start, Start> {
-    /// Over a file system: reports what it leaves out, and first why its start is no directory. It may give only files.
+    /// Over a file system: reports what the file system leaves out, and first, if the start is not a directory, why. It
+    /// may give only files.
     pub(crate) fn reporting(mut self, missing: Option<io::Error>, files: bool) -> Self {
         self.passed_over = Box::new(Start::passed_over);
         if files {
@@ -83,7 +84,7 @@ impl<T: Tree, R: RuleTexts> Iterator for Searching<T, R> {
     fn next(&mut self) -> Option<Self::Item> {
         while self.ready.is_empty() {
             let item = self.engine.next(&mut self.tree, &mut self.guide);
-            // The directories that were listed for this item come before it.
+            // Reports about directories listed for this item come before it.
             self.ready.extend((self.passed_over)(&mut self.tree).into_iter().map(Err));
             match item {
                 Some(Ok(found)) => {
@@ -108,7 +109,7 @@ impl<T, R> fmt::Debug for Searching<T, R> {
     }
 }
 
-/// The texts of ignore files, and what functions leave out.
+/// The texts of ignore files, and the functions that leave out paths.
 pub(crate) struct Guide<R> {
     pub(crate) texts: R,
     pub(crate) is_git: bool,
@@ -156,17 +157,17 @@ impl Start {
         Start { disk, directory, strays: Vec::new() }
     }
 
-    /// Why there is no such directory. A path that ends in `/.` leads nowhere from anything but a directory.
+    /// Why there is no such directory. The path is looked up with `/.` at its end, which only a directory has.
     pub(crate) fn missing(&self) -> Option<io::Error> {
         fs::metadata(self.at(".")).err()
     }
 
-    /// What was left out since the last such question.
+    /// What was left out since this was last asked.
     fn passed_over(&mut self) -> Vec<SearchError> {
         mem::take(&mut self.strays)
     }
 
-    /// A path from the directory on. What is not UTF-8 was given by the caller.
+    /// The whole path for a path from the directory on. Only the directory, which the caller gave, may be not UTF-8.
     fn at<'a>(&self, path: &'a str) -> Cow<'a, Path> {
         if self.directory.as_os_str().is_empty() {
             Cow::Borrowed(Path::new(path))
@@ -187,7 +188,7 @@ impl Tree for Start {
 
     fn list(&mut self, path: &str) -> io::Result<Vec<Entry>> {
         let mut names: Vec<OsString> = Vec::new();
-        let entries = self.disk.entries_and(&self.at(path), true, |name| names.push(name))?;
+        let entries = self.disk.entries_and(&self.at(path), true, &mut |name| names.push(name))?;
         names.sort_unstable();
         let above = Path::new(if path == "." { "" } else { path });
         self.strays.extend(names.into_iter().map(|name| SearchError::NotText(above.join(name))));

@@ -25,8 +25,8 @@
 //! # Ok::<(), cadmiumdove::set::SetRefusal>(())
 //! ```
 //!
-//! [`Search::exclude`](crate::search::Search::exclude) leaves out what a set matches: `**/target`, and not
-//! `**/target/**`, leaves out the directory, and all below it.
+//! [`Search::exclude`](crate::search::Search::exclude) leaves out what a set matches. To leave out a directory with
+//! everything below it, use `**/target`, not `**/target/**`.
 //!
 //! Braces are an abbreviation for their alternatives:
 //!
@@ -51,9 +51,9 @@ pub use crate::proved::glob_set::{BraceSetRefusal, PatternSet, SetRefusal};
 use crate::MatchOptions;
 
 impl PatternSet {
-    /// [`new`](Self::new) of the patterns that are parsed from the texts, in their order. The texts may be an array, a
-    /// `&[String]`, the lines of a file, or what else gives `&str` or `String`. Each text is a pattern as it is: the
-    /// empty one matches only the empty text, `#` and `!` are characters, and spaces are kept.
+    /// Parses the texts, and makes a set of the patterns, in this order. The texts may be an array, a `&[String]`, the
+    /// lines of a file, or anything else that gives `&str` or `String`. Each text is a pattern as it is: an empty text
+    /// is a pattern that matches only the empty text, `#` and `!` are ordinary characters, and spaces are kept.
     ///
     /// ```
     /// use cadmiumdove::set::PatternSet;
@@ -93,9 +93,9 @@ impl PatternSet {
         Self::of_texts(&strs_of(&texts), options)
     }
 
-    /// [`new`](Self::new) of all alternatives of all texts, those of the first text first, as
-    /// [`expand`](braces::expand) returns them. The texts may be what [`from_texts`](Self::from_texts) takes, and are
-    /// read as there, except for braces. Numbers of patterns count alternatives, and numbers in errors count texts.
+    /// Parses all alternatives of all texts, and makes a set of the patterns: text by text, each in the order of
+    /// [`expand`](braces::expand). It takes the same lists as [`from_texts`](Self::from_texts), and reads the texts in
+    /// the same way, except for braces. Numbers of patterns count alternatives; numbers in errors count texts.
     ///
     /// ```
     /// use cadmiumdove::set::PatternSet;
@@ -111,7 +111,7 @@ impl PatternSet {
     ///
     /// # Errors
     ///
-    /// The error is of the first text that has a fault: [`Braces`](BraceSetRefusal::Braces) if its braces are not
+    /// The error is about the first text that has a fault: [`Braces`](BraceSetRefusal::Braces) if its braces are not
     /// closed or stand for more than [`MOST_ALTERNATIVES`](braces::MOST_ALTERNATIVES), and
     /// [`Pattern`](BraceSetRefusal::Pattern) if one of its alternatives is not a pattern.
     ///
@@ -160,7 +160,7 @@ impl PatternSet {
         numbers
     }
 
-    /// [`is_match`](Self::is_match) of the path's text. A path that is not UTF-8 is never matched.
+    /// [`is_match`](Self::is_match) for the path's text. A path that is not UTF-8 is never matched.
     ///
     /// <details><summary>Tested</summary>
     ///
@@ -171,7 +171,7 @@ impl PatternSet {
         path.as_ref().to_str().is_some_and(|text| self.is_match(text))
     }
 
-    /// [`first_match`](Self::first_match) of the path's text. A path that is not UTF-8 is never matched.
+    /// [`first_match`](Self::first_match) for the path's text. A path that is not UTF-8 is never matched.
     ///
     /// <details><summary>Tested</summary>
     ///
@@ -182,7 +182,7 @@ impl PatternSet {
         self.first_match(path.as_ref().to_str()?)
     }
 
-    /// [`last_match`](Self::last_match) of the path's text. A path that is not UTF-8 is never matched.
+    /// [`last_match`](Self::last_match) for the path's text. A path that is not UTF-8 is never matched.
     ///
     /// <details><summary>Tested</summary>
     ///
@@ -193,7 +193,7 @@ impl PatternSet {
         self.last_match(path.as_ref().to_str()?)
     }
 
-    /// [`matches`](Self::matches) of the path's text. A path that is not UTF-8 is never matched.
+    /// [`matches`](Self::matches) for the path's text. A path that is not UTF-8 is never matched.
     ///
     /// ```
     /// use cadmiumdove::set::PatternSet;
@@ -214,7 +214,7 @@ impl PatternSet {
         path.as_ref().to_str().map(|text| self.matches(text)).unwrap_or_default()
     }
 
-    /// [`matches_into`](Self::matches_into) of the path's text. A path that is not UTF-8 is never matched.
+    /// [`matches_into`](Self::matches_into) for the path's text. A path that is not UTF-8 is never matched.
     ///
     /// <details><summary>Tested</summary>
     ///
@@ -241,8 +241,8 @@ impl Default for PatternSet {
 }
 
 impl SetRefusal {
-    /// The number of the text that is not a pattern, counted from 0. The fault without it is
-    /// [`source`](std::error::Error::source).
+    /// The number of the text that is not a pattern, counted from 0. [`source`](std::error::Error::source) has the
+    /// fault without the number.
     ///
     /// ```
     /// use cadmiumdove::set::PatternSet;
@@ -263,8 +263,8 @@ impl SetRefusal {
 }
 
 impl BraceSetRefusal {
-    /// The number of the text that is refused, counted from 0. Its alternatives do not count. The fault without it is
-    /// [`source`](std::error::Error::source).
+    /// The number of the text that is refused, counted from 0. Alternatives are not counted.
+    /// [`source`](std::error::Error::source) has the fault without the number.
     ///
     /// ```
     /// use cadmiumdove::set::PatternSet;

@@ -1,4 +1,4 @@
-//! Traits of Rust's library that the proved sources have no use for.
+//! Traits of Rust's library that the proved sources do not need.
 
 use std::error::Error;
 use std::fmt;
@@ -24,7 +24,7 @@ impl AsRef<str> for Pattern {
     }
 }
 
-/// As [`Pattern::new`].
+/// The same as [`Pattern::new`].
 ///
 /// ```
 /// use cadmiumdove::Pattern;
@@ -40,7 +40,7 @@ impl TryFrom<&str> for Pattern {
     }
 }
 
-/// The set of the patterns, in their order, under [`MatchOptions::new`].
+/// The set of the patterns, in this order, under [`MatchOptions::new`].
 ///
 /// ```
 /// use cadmiumdove::set::PatternSet;
@@ -66,7 +66,7 @@ impl<'a> IntoIterator for &'a PatternSet {
     }
 }
 
-/// Its source is the fault of the text, without the number.
+/// The source is the fault of the text, without the number.
 ///
 /// ```
 /// use cadmiumdove::set::PatternSet;
@@ -84,7 +84,7 @@ impl Error for SetRefusal {
     }
 }
 
-/// Its source is the fault of the text or of its alternative, without the numbers.
+/// The source is the fault of the text or of its alternative, without the numbers.
 impl Error for BraceSetRefusal {
     fn source(&self) -> Option<&(dyn Error + 'static)> {
         match self {
@@ -94,10 +94,10 @@ impl Error for BraceSetRefusal {
     }
 }
 
-/// So a reason is the source of an error that has one.
+/// This lets a reason be the source of an error.
 impl Error for Reason {}
 
-/// As [`IgnoreList::new`].
+/// The same as [`IgnoreList::new`].
 ///
 /// ```
 /// use cadmiumdove::ignore::IgnoreList;
@@ -120,14 +120,14 @@ impl AsRef<str> for Name {
     }
 }
 
-/// The name's text, in the width and precision that are asked for.
+/// The name's text, with the format's width and precision.
 impl fmt::Display for Name {
     fn fmt(&self, f: &mut fmt::Formatter<'_>) -> fmt::Result {
         f.pad(self.as_str())
     }
 }
 
-/// As [`Name::new`].
+/// The same as [`Name::new`].
 ///
 /// ```
 /// use cadmiumdove::walk::Name;

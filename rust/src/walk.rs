@@ -1,7 +1,7 @@
 //! Walks with a limit, over trees of your own, and walks that ask their caller.
 //!
 //! A walk is charged in units: one for each path that is looked up, one for each directory that is listed, and one for
-//! each of its entries. With a limit it ends, whatever the pattern and the tree, even if links form a cycle. A
+//! each entry of these. With a limit it ends, whatever the pattern and the tree, even if links form a cycle. A
 //! directory is read to its end before its entries are charged:
 //!
 //! ```
@@ -20,8 +20,8 @@
 //! # Ok::<(), cadmiumdove::PatternError>(())
 //! ```
 //!
-//! A [`Tree`] is anything that can be looked up and listed, such as an archive. [`recipes`](crate::recipes) has one
-//! made of a map of paths, and says what it is asked:
+//! A [`Tree`] is anything that can be looked up and listed, such as an archive. [`recipes`](crate::recipes) makes one
+//! from a map of paths, and says what a walk asks it:
 //!
 //! ```
 //! use cadmiumdove::walk::{glob_in, Entry, Look, Name, Tree};
@@ -51,7 +51,7 @@
 //! ```
 //!
 //! A [`WalkMachine`] has no tree: it asks, and whoever drives it answers, at once or later. So a walk over a network
-//! can wait for its answers. After anything but an answer to its question, it asks again.
+//! can wait for its answers. If an answer does not fit the question, the machine asks again.
 //!
 //! ```
 //! use cadmiumdove::walk::{Entry, Look, Name, Step, WalkMachine};
@@ -76,7 +76,7 @@ pub use crate::proved::glob_tree::{Entry, Look, Name, Tree};
 pub use crate::proved::glob_walk::{is_plain, Answer, GlobCause, GlobError, GlobResult, Step, WalkMachine};
 
 impl GlobCause {
-    /// Why a walk gave an error: `Read` if a directory could not be listed.
+    /// Why a walk gave an error, such as `Read` if a directory could not be listed.
     ///
     /// ```
     /// use cadmiumdove::walk::{glob_in, Disk, GlobCause};
@@ -89,7 +89,7 @@ impl GlobCause {
     ///
     /// <details><summary>Contract</summary>
     ///
-    /// That of a method in the sources: `self` is the error.
+    /// The contract of a method in the sources, whose `self` is the error.
     ///
     /// ```text
     /// ensures { result ≡ cause_of self.now }
@@ -113,7 +113,7 @@ impl GlobCause {
 ///
 /// <details><summary>Contract</summary>
 ///
-/// That of a method in the sources: `self` is the walk.
+/// The contract of a method in the sources, whose `self` is the walk.
 ///
 /// ```text
 /// ensures spent { result ≡ self.now.machine.spent }
@@ -125,11 +125,11 @@ pub fn spent<T: Tree>(paths: &Paths<T>) -> u64 {
     paths.spent()
 }
 
-/// How many items a walk has given, at most one more than it [`spent`].
+/// How many items a walk has given: at most one more than the units that it has [`spent`].
 ///
 /// <details><summary>Contract</summary>
 ///
-/// That of a method in the sources: `self` is the walk.
+/// The contract of a method in the sources, whose `self` is the walk.
 ///
 /// ```text
 /// ensures given { result ≡ self.now.machine.given }
@@ -141,7 +141,7 @@ pub fn given<T: Tree>(paths: &Paths<T>) -> u128 {
     paths.given()
 }
 
-/// A walk over a `&mut T` leaves the tree to its caller.
+/// A walk over a `&mut T` borrows the tree, so the caller keeps it.
 ///
 /// ```
 /// use cadmiumdove::walk::{glob_in, Disk, Entry, Look, Tree};

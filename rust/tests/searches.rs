@@ -227,6 +227,32 @@ fn a_search_by_ignore_files_finds_what_git_does() {
 }
 
 #[test]
+fn a_search_below_the_top_finds_what_git_does() {
+    let mut dice = Dice(3);
+    for _ in 0..50 {
+        let scratch = Scratch::new("git-below");
+        git(&scratch.0, &["init", "-q"]);
+        grow(&mut dice, &scratch.0);
+        if dice.is_one_of(2) {
+            fs::write(scratch.0.join(".git/info/exclude"), random_rule(&mut dice)).unwrap();
+        }
+        for start in directories(&scratch.0) {
+            let listed = git(&start, &["ls-files", "-co", "-z", "--exclude-standard"]);
+            let mut listed: Vec<&str> = listed.split_terminator('\0').collect();
+            listed.sort_by_key(|path| names(path));
+            assert_eq!(unignored(&start, &["**/*".to_owned()]), listed, "{}", start.display());
+        }
+    }
+}
+
+/// The directories below one, except for `.git`.
+fn directories(at: &Path) -> Vec<PathBuf> {
+    let search = Search::new(["**/*"]).unwrap().wanted(Wanted::Directories).below(at);
+    let paths = search.into_iter().map(|found| found.unwrap().path);
+    paths.filter(|path| !path.starts_with(".git")).map(|path| at.join(path)).collect()
+}
+
+#[test]
 fn a_search_lists_only_where_something_may_be_found() {
     let kinds = ["src", "src/a", "src/a/b", "lib", "lib/x"].map(|path| (path.to_owned(), true));
     let files = ["src/a.c", "src/a/b/d.c", "lib/b.h"].map(|path| (path.to_owned(), false));

@@ -1,4 +1,4 @@
-//! Made by `bin/rust_crate` from `crates/glob/src/paths.rt`, where its contracts are: sha256 b42f04e1c34a6712.
+//! Made by `bin/rust_crate` from `crates/glob/src/paths.rt`, where its contracts are: sha256 f549016ee88092de.
 //! Public there: `spent`, `given`. A trait of a user may have a function of such a name.
 //!
 //! A walk over a tree, item by item.
@@ -87,8 +87,8 @@ impl<T: Tree> Iterator for Paths<T> {
 ///
 /// # Errors
 ///
-/// A pattern with a fault is refused: the fault of the whole text, or else that of the first component with one, for
-/// example if a bracket has a `/`. Its place is in characters, from the start of the text or of that component: for
+/// A pattern with a fault is refused: the fault of the whole text, or else the fault of the first component with one,
+/// for example if a bracket has a `/`. Its place is in characters, from the start of the text or of that component: for
 /// `x/a[/]b` it is 1. A refusal drops the tree.
 ///
 /// <details><summary>Contract</summary>

@@ -1,11 +1,11 @@
-//! Made by `bin/rust_crate` from `crates/glob_captures/src/capturing.rt`, where its contracts are: sha256 02b4cb11fd832b16.
+//! Made by `bin/rust_crate` from `crates/glob_captures/src/capturing.rt`, where its contracts are: sha256 596e4e33f7ef0b81.
 //!
 //! The piece of a text that each token of a pattern takes.
 
 use crate::proved::glob_captures::error::CapturesError;
 use crate::proved::glob_captures::piece::Piece;
 use crate::proved::glob_captures::rests::{rests_of, Rests};
-use crate::proved::glob_captures::span::{span_of, Span};
+use crate::proved::glob_captures::span::{span_of, WildcardSpan};
 use crate::proved::glob_captures::steps::{bytes_of, form_of, is_too_large};
 use crate::proved::glob_pattern::{characters_of, opens, tokens_len, MatchOptions, Pattern};
 
@@ -59,7 +59,7 @@ pub fn captures(pattern: &Pattern, text: &str, options: MatchOptions) -> Result<
 }
 
 /// The places of the pieces, each as short as the tokens after it allow.
-fn shortest_pieces(pattern: &Pattern, text: &[char], span: Span, rests: &[Rests]) -> Vec<Piece> {
+fn shortest_pieces(pattern: &Pattern, text: &[char], span: WildcardSpan, rests: &[Rests]) -> Vec<Piece> {
     let tokens = tokens_len(pattern);
     let mut pieces = Vec::with_capacity(tokens);
     let mut place = 0;
@@ -75,7 +75,14 @@ fn shortest_pieces(pattern: &Pattern, text: &[char], span: Span, rests: &[Rests]
 }
 
 /// The end of the shortest piece of `token` that begins at `place`. `rests` was made with the same options.
-fn shortest_end(pattern: &Pattern, token: usize, text: &[char], place: usize, span: Span, rests: &[Rests]) -> usize {
+fn shortest_end(
+    pattern: &Pattern,
+    token: usize,
+    text: &[char],
+    place: usize,
+    span: WildcardSpan,
+    rests: &[Rests],
+) -> usize {
     let form = form_of(pattern, token);
     if !form.grows {
         place + 1

@@ -1,4 +1,4 @@
-//! Made by `bin/rust_crate` from `crates/glob_captures/src/reaching.rt`, where its contracts are: sha256 35f187e12c99fa2e.
+//! Made by `bin/rust_crate` from `crates/glob_captures/src/reaching.rt`, where its contracts are: sha256 f7b6f4e3cd525b74.
 //! Not derived there: `Reached`.
 //! `Vec::with_capacity` and `resize` are there `vec![x; n]`: memory that is asked for as zeros is never what was freed
 //! last, and costs more.
@@ -108,8 +108,8 @@ fn fronts_at_start(text: &[char]) -> Vec<bool> {
     places
 }
 
-/// Extends `whole`, the places up to which the tokens before this one take the text, to those up to which they and this
-/// one take it. Sets `alive` to the places where this one waits.
+/// Updates `whole`, the places up to which the first tokens take the text, to include this token. Sets `alive` to the
+/// places where this token waits.
 fn step(pattern: &Pattern, token: usize, options: MatchOptions, text: &[char], whole: &mut [bool], alive: &mut [bool]) {
     let form = form_of(pattern, token);
     let mut took = false;

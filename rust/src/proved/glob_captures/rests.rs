@@ -1,10 +1,10 @@
-//! Made by `bin/rust_crate` from `crates/glob_captures/src/rests.rt`, where its contracts are: sha256 fd6ee066f06fbdaa.
+//! Made by `bin/rust_crate` from `crates/glob_captures/src/rests.rt`, where its contracts are: sha256 8e47fb328cca8786.
 //! `Vec::with_capacity` and `resize` are there `vec![x; n]`: memory that is asked for as zeros is never what was freed
 //! last, and costs more.
 //!
 //! From which places the last tokens take the rest of a text.
 
-use crate::proved::glob_captures::span::Span;
+use crate::proved::glob_captures::span::WildcardSpan;
 use crate::proved::glob_captures::steps::{form_of, takes_if, Form};
 use crate::proved::glob_pattern::{opens, tokens_len, MatchOptions, Pattern};
 
@@ -23,7 +23,7 @@ impl Rests {
 
 /// Row `i` says from which places the tokens from number `span.last - i` on take the rest. It is empty if the token
 /// before them is not a wildcard.
-pub fn rests_of(pattern: &Pattern, options: MatchOptions, text: &[char], span: Span) -> Vec<Rests> {
+pub fn rests_of(pattern: &Pattern, options: MatchOptions, text: &[char], span: WildcardSpan) -> Vec<Rests> {
     let mut rows = Vec::with_capacity(span.last - span.first);
     if span.first == span.last {
         return rows;
@@ -46,7 +46,7 @@ fn row_after(pattern: &Pattern, token: usize, row: &[bool]) -> Rests {
 
 /// The row of the tokens after the last wildcard. Each of them takes one character, so they take the rest from exactly
 /// one place.
-fn rests_after_span(pattern: &Pattern, text: &[char], span: Span) -> Vec<bool> {
+fn rests_after_span(pattern: &Pattern, text: &[char], span: WildcardSpan) -> Vec<bool> {
     let mut row = Vec::with_capacity(text.len() + 1);
     row.resize(text.len() + 1, false);
     row[text.len() - (tokens_len(pattern) - 1 - span.last)] = true;
@@ -76,8 +76,8 @@ fn may_take(form: Form, text: &[char], place: usize, rest: bool, more: bool) -> 
     (rest && (!form.closes || opens(text, place + 1))) || (form.grows && more)
 }
 
-/// Whether a token and those after it take the rest from a place: the token takes a character there (`more`), or its
-/// piece may be empty.
+/// Whether a token and the tokens after it take the rest from a place: the token takes a character there (`more`), or
+/// its piece may be empty.
 #[inline(always)]
 fn is_taken(form: Form, rest: bool, more: bool) -> bool {
     more || (form.grows && rest)

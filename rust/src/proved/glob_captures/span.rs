@@ -1,4 +1,4 @@
-//! Made by `bin/rust_crate` from `crates/glob_captures/src/span.rt`, where its contracts are: sha256 30459d7fa13fc555.
+//! Made by `bin/rust_crate` from `crates/glob_captures/src/span.rt`, where its contracts are: sha256 3f0e05ddb11eb8c4.
 //!
 //! The wildcards `*` and `**` of a pattern: only the pieces between them have to be searched for.
 
@@ -7,7 +7,7 @@ use crate::proved::glob_pattern::{tokens_len, Pattern};
 
 /// The numbers of the first and the last token that is `*` or `**`. If there is none, both are the number of tokens.
 #[derive(Clone, Copy)]
-pub struct Span {
+pub struct WildcardSpan {
     /// The number of the first.
     pub first: usize,
     /// The number of the last.
@@ -15,7 +15,7 @@ pub struct Span {
 }
 
 /// Where the wildcards are.
-pub fn span_of(pattern: &Pattern) -> Span {
+pub fn span_of(pattern: &Pattern) -> WildcardSpan {
     let tokens = tokens_len(pattern);
     let mut first = tokens;
     let mut last = tokens;
@@ -27,5 +27,5 @@ pub fn span_of(pattern: &Pattern) -> Span {
             }
         }
     }
-    Span { first, last }
+    WildcardSpan { first, last }
 }

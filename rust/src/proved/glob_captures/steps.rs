@@ -1,11 +1,11 @@
-//! Made by `bin/rust_crate` from `crates/glob_captures/src/steps.rt`, where its contracts are: sha256 3eca5b902cde1ff4.
+//! Made by `bin/rust_crate` from `crates/glob_captures/src/steps.rt`, where its contracts are: sha256 5d80bce63d119ddf.
 //!
 //! What captures and reach share: the bound on the work, what a token's piece may be, and places in bytes.
 
 use crate::proved::glob_pattern::{opens, token_kind, token_takes, tokens_len, MatchOptions, Pattern, TokenKind};
 
-/// The most that a call accepts of the pattern's tokens times the text's bytes. A pattern of 8 tokens may have a text
-/// of 8 MiB.
+/// The greatest product of pattern tokens and text bytes that a call accepts. A pattern of 8 tokens may have a text of
+/// 8 MiB.
 pub const MOST_STEPS: usize = 1 << 26;
 
 /// Whether the tokens times the bytes are more than [`MOST_STEPS`].
@@ -16,7 +16,7 @@ pub fn is_too_large(pattern: &Pattern, text: &str) -> bool {
     }
 }
 
-/// What the pieces of a token may be.
+/// Which pieces a token may have.
 #[derive(Clone, Copy)]
 pub struct Form {
     /// They may have any number of characters, rather than exactly one.
@@ -25,7 +25,7 @@ pub struct Form {
     pub closes: bool,
 }
 
-/// What the pieces of token `token` may be.
+/// Which pieces token `token` may have.
 pub fn form_of(pattern: &Pattern, token: usize) -> Form {
     match token_kind(pattern, token) {
         TokenKind::AnySequence => Form { grows: true, closes: false },
@@ -36,7 +36,7 @@ pub fn form_of(pattern: &Pattern, token: usize) -> Form {
     }
 }
 
-/// Whether token `token` takes the character at `place`, where `may` says whether it may take one there.
+/// Whether token `token` takes the character at `place`. `may`: whether it may take one there at all.
 #[inline(always)]
 pub fn takes_if(
     pattern: &Pattern,

@@ -1,4 +1,4 @@
-//! Made by `bin/rust_crate` from `crates/glob_pattern/src/error.rt`, where its contracts are: sha256 b05113e2ca959ccc.
+//! Made by `bin/rust_crate` from `crates/glob_pattern/src/error.rt`, where its contracts are: sha256 0c9156a40543a0b5.
 //! Public there: `kind`. A trait of a user may have a function of such a name.
 //! Not derived there: `PatternError`.
 //! `PatternErrorKind` is not `#[non_exhaustive]` there.
@@ -80,8 +80,8 @@ pub struct PatternError {
 }
 
 impl PatternError {
-    /// The kind of the error: `Recursive` for `a**`. An error made by hand has the kind with its message, or else
-    /// `Range`.
+    /// The kind of the error: `Recursive` for `a**`. An error made by hand has the kind that its message belongs to, or
+    /// else `Range`.
     pub(crate) fn kind(&self) -> PatternErrorKind {
         if self.msg == PatternErrorKind::Wildcards.message() {
             PatternErrorKind::Wildcards

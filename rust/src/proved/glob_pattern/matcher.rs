@@ -1,6 +1,7 @@
-//! Made by `bin/rust_crate` from `crates/glob_pattern/src/matcher.rt`, where its contracts are: sha256 800abe4d545d4bef.
+//! Made by `bin/rust_crate` from `crates/glob_pattern/src/matcher.rt`, where its contracts are: sha256 8714e95cc9437163.
 //!
-//! Judges, and whether their answers let the characters split into pieces.
+//! Matching over any alphabet: a judge says which tokens take each character, and a run says whether the characters
+//! split into pieces that the tokens allow.
 
 mod positions;
 mod shape_word;

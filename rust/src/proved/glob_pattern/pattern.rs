@@ -1,4 +1,4 @@
-//! Made by `bin/rust_crate` from `crates/glob_pattern/src/pattern.rt`, where its contracts are: sha256 db524bf8b0bf4149.
+//! Made by `bin/rust_crate` from `crates/glob_pattern/src/pattern.rt`, where its contracts are: sha256 b1f688299d873d93.
 //! Public there: `matches_counted`. A trait of a user may have a function of such a name.
 //!
 //! Patterns: parsing them, and matching texts.

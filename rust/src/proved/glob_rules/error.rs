@@ -1,4 +1,4 @@
-//! Made by `bin/rust_crate` from `crates/glob_rules/src/error.rt`, where its contracts are: sha256 a57f275f9a04d63b.
+//! Made by `bin/rust_crate` from `crates/glob_rules/src/error.rt`, where its contracts are: sha256 a82e737e5a73cdbb.
 //! Not derived there: `RuleRefusal`.
 //! `Reason` is not `#[non_exhaustive]` there.
 //!
@@ -36,7 +36,7 @@ impl fmt::Display for Reason {
         f.write_str(match self {
             Reason::BeyondAscii => "a bracket names a character beyond ASCII",
             Reason::UnknownClass => "a bracket has an unknown class of characters",
-            Reason::StarsBehindText => "two stars are right behind plain text",
+            Reason::StarsBehindText => "`**` is not a whole component",
             Reason::Nul => "the line has a NUL",
             Reason::Pattern => "the translation is no pattern",
         })

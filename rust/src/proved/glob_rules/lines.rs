@@ -1,4 +1,4 @@
-//! Made by `bin/rust_crate` from `crates/glob_rules/src/lines.rt`, where its contracts are: sha256 20af206b7dc5d88d.
+//! Made by `bin/rust_crate` from `crates/glob_rules/src/lines.rt`, where its contracts are: sha256 21f0ddf8b7d013a6.
 //!
 //! The lines of an ignore list.
 
@@ -43,7 +43,7 @@ impl Line {
         if has(text, 0, b'#') {
             return Self::nothing();
         }
-        let kept = without_blanks(without_last(text, b'\r'));
+        let kept = kept_line(text);
         let negative = has(kept, 0, b'!');
         let body = without_first(kept, b'!');
         let directories = ends_in(body, b'/');
@@ -58,6 +58,12 @@ impl Line {
         let reading = Reading::of(without_first(body, b'/'), is_path(body));
         Line { outcome: reading.outcome(), negative, directories, glob: reading.into_glob() }
     }
+}
+
+/// The rule of a line as it is written, without a carriage return and unescaped spaces at its end. For `!*.o \r` this
+/// is `!*.o`.
+pub fn kept_line(text: &[u8]) -> &[u8] {
+    without_blanks(without_last(text, b'\r'))
 }
 
 /// Whether the text has a separator.

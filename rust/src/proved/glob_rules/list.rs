@@ -1,4 +1,4 @@
-//! Made by `bin/rust_crate` from `crates/glob_rules/src/list.rt`, where its contracts are: sha256 0f7c150af6738ae6.
+//! Made by `bin/rust_crate` from `crates/glob_rules/src/list.rt`, where its contracts are: sha256 f01ad781cc544f1d.
 //! Not derived there: `IgnoreList`.
 //!
 //! Ignore lists: which paths they ignore, and by which rule.
@@ -67,7 +67,7 @@ impl IgnoreList {
         }
     }
 
-    /// Parses a text that somebody else wrote: skips the lines that are refused, and returns why each one is. The other
+    /// Parses a text that somebody else wrote: skips the refused lines, and returns why each was refused. The other
     /// lines keep their numbers: in `*.o`, `[é]` and `target/`, the last is line 3.
     ///
     /// All refusals are [`Line`](RuleRefusal::Line), in the order of the lines.
@@ -142,8 +142,8 @@ impl IgnoreList {
     }
 
     /// The last rule that matches the path itself, whatever the list says about the directories above it, or `None` if
-    /// no rule does: with `a/` and `!a/b`, it is line 2 for `a/b`. This is all that a search needs that enters no
-    /// ignored directory.
+    /// no rule does: with `a/` and `!a/b`, it is line 2 for `a/b`. A search that enters no ignored directory needs
+    /// nothing more.
     ///
     /// ```
     /// use cadmiumdove::ignore::IgnoreList;

@@ -1,8 +1,8 @@
-//! Made by `bin/rust_crate` from `crates/glob_rules/src/listing.rt`, where its contracts are: sha256 5f5d38f1c5b13d7c.
+//! Made by `bin/rust_crate` from `crates/glob_rules/src/listing.rt`, where its contracts are: sha256 2bade7e4005aa1ed.
 //!
 //! The characters of a bracket, written out.
 
-use crate::proved::glob_rules::steps::{Span, Writing};
+use crate::proved::glob_rules::steps::{BracketSpan, Writing};
 
 /// The ASCII characters except NUL, in an order in which a bracket can list any of them together with `/`: `]` comes
 /// first, `!` and `-` come last.
@@ -18,25 +18,25 @@ pub const ORDER: [u8; 127] = [
 
 /// Whether a bracket with these spans lists `c`. Every bracket lists `/`, so that none is empty; under the separator
 /// rule no bracket matches it.
-fn holds(spans: &[Span], c: u8) -> bool {
+fn holds(spans: &[BracketSpan], c: u8) -> bool {
     c == b'/' || is_in_any(spans, c)
 }
 
 /// Whether `c` is in the span.
-fn is_within(c: u8, span: Span) -> bool {
+fn is_within(c: u8, span: BracketSpan) -> bool {
     match span {
-        Span::Between(first, last) => first <= c && c <= last,
-        Span::OfClass(class) => class.has(c),
+        BracketSpan::Between(first, last) => first <= c && c <= last,
+        BracketSpan::OfClass(class) => class.has(c),
     }
 }
 
 /// Whether `c` is in one of the spans.
-fn is_in_any(spans: &[Span], c: u8) -> bool {
+fn is_in_any(spans: &[BracketSpan], c: u8) -> bool {
     spans.iter().any(|span| is_within(c, *span))
 }
 
 /// Appends the characters of a bracket.
-fn write_held(glob: &mut Vec<u8>, spans: &[Span]) {
+fn write_held(glob: &mut Vec<u8>, spans: &[BracketSpan]) {
     for place in 0..ORDER.len() {
         if holds(spans, ORDER[place]) {
             glob.push(ORDER[place]);
@@ -45,7 +45,7 @@ fn write_held(glob: &mut Vec<u8>, spans: &[Span]) {
 }
 
 /// Appends what a step writes, where the bracket has these spans.
-pub fn write(glob: &mut Vec<u8>, spans: &[Span], writing: Writing) {
+pub fn write(glob: &mut Vec<u8>, spans: &[BracketSpan], writing: Writing) {
     match writing {
         Writing::Nothing => {}
         Writing::Byte(c) => glob.extend_from_slice(&[c]),

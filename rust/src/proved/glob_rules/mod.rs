@@ -1,4 +1,4 @@
-//! Made by `bin/rust_crate` from `crates/glob_rules/src/lib.rt`, where its contracts are: sha256 787afa312a3e89a3.
+//! Made by `bin/rust_crate` from `crates/glob_rules/src/lib.rt`, where its contracts are: sha256 c94ae01b735c68f2.
 //!
 //! Ignore lists: which paths the rules of gitignore(5) exclude.
 //!

@@ -1,11 +1,11 @@
-//! Made by `bin/rust_crate` from `crates/glob_rules/src/reading.rt`, where its contracts are: sha256 8e6fbe9c5d1031e0.
+//! Made by `bin/rust_crate` from `crates/glob_rules/src/reading.rt`, where its contracts are: sha256 62df5cc547913382.
 //!
 //! The translation of a rule, byte by byte.
 
 use crate::proved::glob_rules::classes::before_close;
 use crate::proved::glob_rules::error::Reason;
 use crate::proved::glob_rules::listing::write;
-use crate::proved::glob_rules::steps::{step_from, Change, Mode, Prefix, Span};
+use crate::proved::glob_rules::steps::{step_from, BracketSpan, Change, Mode, Prefix};
 
 /// The outcome of reading a rule.
 #[derive(Clone, Copy)]
@@ -21,7 +21,7 @@ pub enum Outcome {
 /// A rule read in part: the mode after the bytes so far, the characters of the last bracket, and the pattern so far.
 pub struct Reading {
     mode: Mode,
-    spans: Vec<Span>,
+    spans: Vec<BracketSpan>,
     glob: Vec<u8>,
 }
 
@@ -46,7 +46,11 @@ impl Reading {
     /// A rule before its first byte.
     fn start(path: bool) -> Self {
         let front: &[u8] = if path { &[] } else { &[b'*', b'*', b'/'] };
-        Reading { mode: Mode::Units(Prefix { plain: path, opening: path }), spans: Vec::new(), glob: Vec::from(front) }
+        Reading {
+            mode: Mode::Units(Prefix { all_literal: path, opening: path }),
+            spans: Vec::new(),
+            glob: Vec::from(front),
+        }
     }
 
     /// Reads one byte. `ahead` is the text after it, up to the next `]` or the end.
@@ -79,7 +83,7 @@ impl Reading {
 }
 
 /// Applies a change to the bracket's characters.
-fn change(spans: &mut Vec<Span>, change: Change) {
+fn change(spans: &mut Vec<BracketSpan>, change: Change) {
     match change {
         Change::Keep => {}
         Change::Clear => spans.clear(),

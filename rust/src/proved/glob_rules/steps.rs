@@ -1,4 +1,4 @@
-//! Made by `bin/rust_crate` from `crates/glob_rules/src/steps.rt`, where its contracts are: sha256 bf7129aebdcd722e.
+//! Made by `bin/rust_crate` from `crates/glob_rules/src/steps.rt`, where its contracts are: sha256 d8bed8cfd57bf321.
 //!
 //! What one byte of a rule does, given the bytes before it.
 
@@ -9,17 +9,17 @@ use crate::proved::glob_rules::error::Reason;
 #[derive(Clone, Copy)]
 pub struct Prefix {
     /// All of it is unescaped literals.
-    pub plain: bool,
+    pub all_literal: bool,
     /// A component begins after it: it is empty, or ends in a separator.
     pub opening: bool,
 }
 
 impl Prefix {
     /// Inside a component, and not only literals.
-    const INSIDE: Prefix = Prefix { plain: false, opening: false };
+    const INSIDE: Prefix = Prefix { all_literal: false, opening: false };
 
     /// At the start of a component, and not only literals.
-    const AT_START: Prefix = Prefix { plain: false, opening: true };
+    const AT_START: Prefix = Prefix { all_literal: false, opening: true };
 
     /// The prefix with one more literal.
     fn with(self, c: u8) -> Prefix {
@@ -36,7 +36,7 @@ pub enum Mode {
     Escape,
     /// A star, and the prefix before it.
     Star(Prefix),
-    /// Two or more stars, and the prefix before them, which is `plain` or `opening`.
+    /// Two or more stars, and the prefix before them, which is `all_literal` or `opening`.
     Stars(Prefix),
     /// Two or more such stars and a backslash.
     EscapedStars,
@@ -62,7 +62,7 @@ pub enum Mode {
 
 /// Some characters of a bracket.
 #[derive(Clone, Copy)]
-pub enum Span {
+pub enum BracketSpan {
     /// From the first to the last, both included. Empty if the last is below the first.
     Between(u8, u8),
     /// The characters of a class.
@@ -77,7 +77,7 @@ pub enum Change {
     /// Removes them: a bracket begins.
     Clear,
     /// Adds these.
-    Add(Span),
+    Add(BracketSpan),
 }
 
 /// What a byte appends to the pattern.
@@ -120,7 +120,7 @@ fn writes(mode: Mode, writing: Writing) -> Step {
 
 /// A step that adds the characters from `first` to `last` to the bracket.
 fn adds(mode: Mode, first: u8, last: u8) -> Step {
-    Step { mode, change: Change::Add(Span::Between(first, last)), writing: Writing::Nothing }
+    Step { mode, change: Change::Add(BracketSpan::Between(first, last)), writing: Writing::Nothing }
 }
 
 /// A step that refuses the line.
@@ -161,7 +161,7 @@ fn after_escape(c: u8) -> Step {
 fn after_star(prefix: Prefix, c: u8) -> Step {
     if c != b'*' {
         after_units(Prefix::INSIDE, c)
-    } else if prefix.plain || prefix.opening {
+    } else if prefix.all_literal || prefix.opening {
         moves(Mode::Stars(prefix))
     } else {
         moves(Mode::Star(Prefix::INSIDE))
@@ -223,7 +223,7 @@ fn as_class(class: Option<Class>) -> Step {
     match class {
         None => refuses(Reason::UnknownClass),
         Some(class) => {
-            Step { mode: Mode::InClass, change: Change::Add(Span::OfClass(class)), writing: Writing::Nothing }
+            Step { mode: Mode::InClass, change: Change::Add(BracketSpan::OfClass(class)), writing: Writing::Nothing }
         }
     }
 }
@@ -266,7 +266,7 @@ fn after_hyphen(item: u8, c: u8) -> Step {
     } else if c == b']' {
         Step {
             mode: Mode::Units(Prefix::INSIDE),
-            change: Change::Add(Span::Between(b'-', b'-')),
+            change: Change::Add(BracketSpan::Between(b'-', b'-')),
             writing: Writing::Held,
         }
     } else {

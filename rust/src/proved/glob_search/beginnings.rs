@@ -1,10 +1,10 @@
-//! Made by `bin/rust_crate` from `crates/glob_search/src/beginnings.rt`, where its contracts are: sha256 35179d10a0ce89b2.
+//! Made by `bin/rust_crate` from `crates/glob_search/src/beginnings.rt`, where its contracts are: sha256 ab4f2842e71c258e.
 //!
 //! The beginnings of patterns, as a tree: what a search still has to match below a directory.
 //!
-//! A beginning is the first components of some patterns. It is a node of the tree, and leads to others, each of one
-//! component more. In a directory those beginnings are alive that take the names of its path: in `src` these are `src`
-//! and `src/**`, in `src/a` only `src/**`. Nothing else of the patterns matters there.
+//! A beginning is the first components of some patterns. It is a node of the tree, and leads to beginnings with one
+//! more component. In a directory, a beginning is alive if it takes the names of the directory's path: in `src` these
+//! are `src` and `src/**`, in `src/a` only `src/**`. Nothing else of the patterns matters there.
 
 mod growing;
 mod node;
@@ -21,8 +21,8 @@ pub struct Beginnings {
 }
 
 impl Beginnings {
-    /// The beginnings of some patterns. The error is the fault of the first pattern with one: that of its whole text
-    /// or, if that has none, of its first component with one.
+    /// The beginnings of some patterns. The error is the fault of the first faulty pattern: the fault of its whole text
+    /// or, if that has none, of its first faulty component.
     pub fn of(patterns: &[&str], options: MatchOptions) -> Result<Self, SetRefusal> {
         let mut nodes = Vec::new();
         nodes.push(Node::new(false));
@@ -52,7 +52,7 @@ impl Beginnings {
         self.after_key(alive, name, key.as_str())
     }
 
-    /// The same, given also the text by which the name is compared with literals.
+    /// The same, also given the text by which the name is compared with literals.
     fn after_key(&self, alive: &[usize], name: &str, key: &str) -> Vec<usize> {
         let mut next = Vec::new();
         for number in alive {
@@ -87,7 +87,7 @@ impl Beginnings {
         }
     }
 
-    /// Adds what the components with wildcards lead to that match the name.
+    /// Adds the beginnings that matching components with wildcards lead to.
     fn step_wild(&self, node: &Node, name: &str, next: &mut Vec<usize>) {
         match &node.set {
             Some(set) if set.options() == self.options => self.step_set(set, node, name, next),
@@ -95,7 +95,7 @@ impl Beginnings {
         }
     }
 
-    /// The same, asking one component after another.
+    /// The same, asking the components one by one.
     fn step_each(&self, node: &Node, name: &str, next: &mut Vec<usize>) {
         for wild in node.wilds.iter() {
             if wild.pattern.matches_with(name, self.options) {
@@ -104,7 +104,7 @@ impl Beginnings {
         }
     }
 
-    /// The same, given the components with wildcards also as a set, which is asked once.
+    /// The same, with the components as a set, which is asked once.
     fn step_set(&self, set: &PatternSet, node: &Node, name: &str, next: &mut Vec<usize>) {
         let mut numbers = Vec::new();
         set.matches_into(name, &mut numbers);
@@ -115,7 +115,7 @@ impl Beginnings {
         }
     }
 
-    /// Adds a beginning, and the one that a `**` leads to from there, which may take no name.
+    /// Adds a beginning, and the beginning that `**` leads to from there, since `**` may take no name.
     fn enliven(&self, number: usize, alive: &mut Vec<usize>) {
         alive.push(number);
         if let Some(deep) = self.deep_of(number) {
@@ -181,12 +181,12 @@ impl Beginnings {
         node.is_literal() && (self.options.case_sensitive || node.literals.is_empty())
     }
 
-    /// Whether a directory may have to be entered whose name is no literal of these beginnings.
+    /// Whether a directory may have to be entered whose name is not a literal of these beginnings.
     pub fn enters_many(&self, alive: &[usize]) -> bool {
         alive.iter().any(|number| matches!(self.nodes.get(*number), Some(node) if self.leads_on(node)))
     }
 
-    /// Whether `**` or a component with wildcards leads from a node to one that leads on.
+    /// Whether `**` or a component with wildcards leads from a node to a node that leads on.
     fn leads_on(&self, node: &Node) -> bool {
         node.is_deep || node.wilds.iter().any(|wild| matches!(self.nodes.get(wild.node), Some(node) if node.goes_on()))
     }

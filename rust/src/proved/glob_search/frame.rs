@@ -1,4 +1,4 @@
-//! Made by `bin/rust_crate` from `crates/glob_search/src/frame.rt`, where its contracts are: sha256 e3c2701e117a060d.
+//! Made by `bin/rust_crate` from `crates/glob_search/src/frame.rt`, where its contracts are: sha256 edaa829ee0a7d9bc.
 //!
 //! A directory that a search is in, or enters next.
 
@@ -30,14 +30,14 @@ pub struct Frame {
     pub source: Source,
     /// The entries that are still to be visited, each name once, in descending order: the last is visited first.
     pub entries: Vec<Entry>,
-    /// How many of the names of ignore files are dealt with: read, or known to be missing.
+    /// How many names of ignore files are done: the file was read, or is known to be missing.
     pub files: usize,
-    /// How many of the lists in `Heard::files` come from above it.
-    pub heard: usize,
+    /// How many of the lists in `ActiveRules::files` come from above it.
+    pub active: usize,
 }
 
 impl Frame {
-    /// The index of the next of these names that may exist in it. A later call goes on after it.
+    /// The index of the next name of an ignore file that may exist in it. A later call goes on after it.
     pub fn next_file(&mut self, names: &[String]) -> Option<usize> {
         while self.files < names.len() {
             let number = self.files;
@@ -57,7 +57,7 @@ impl Frame {
         }
     }
 
-    /// Whether the name may exist in it. If its names are known, whether it is one of them.
+    /// Whether the name may exist in it; if its names are known, whether the name is one of them.
     fn may_have(&self, name: &str) -> bool {
         match self.source {
             Source::LookedUp => true,

@@ -1,10 +1,12 @@
-//! Made by `bin/rust_crate` from `crates/glob_search/src/rule_texts.rt`, where its contracts are: sha256 c9f95ba42a332888.
+//! Made by `bin/rust_crate` from `crates/glob_search/src/rule_texts.rt`, where its contracts are: sha256 f2c2e290696753d0.
 //!
 //! Where the texts of ignore files come from.
 
+use crate::proved::glob_rules::{IgnoreList, RuleRefusal};
+use crate::proved::glob_search::fault::SearchFault;
 use std::io;
 
-/// The texts of ignore files, and what else is left out.
+/// The texts of ignore files, and a function that leaves out more.
 ///
 /// ```
 /// use cadmiumdove::search::{RuleTexts, Search};
@@ -44,8 +46,9 @@ pub trait RuleTexts {
     /// </details>
     fn text(&mut self, path: &str) -> Result<Option<String>, io::Error>;
 
-    /// Whether to leave out a path that no rule ignores, and all that is below it. This is asked about each path that
-    /// is to be found or entered.
+    /// Whether to leave out a path that no rule ignores, and everything below it. A search asks this about each path
+    /// that it would find or enter. `is_dir` is also `false` if the search did not learn the kind, which happens only if
+    /// it was not asked for kinds.
     ///
     /// <details><summary>Contract</summary>
     ///
@@ -77,4 +80,19 @@ impl RuleTexts for NoRuleTexts {
     fn text(&mut self, _path: &str) -> Result<Option<String>, io::Error> {
         Ok(None)
     }
+}
+
+/// The rules of the file at a path, if there is one, and the refusals of its lines.
+pub fn read_list<R: RuleTexts>(
+    texts: &mut R,
+    path: &str,
+) -> Result<Option<(IgnoreList, Vec<RuleRefusal>)>, SearchFault> {
+    let text = match texts.text(path) {
+        Ok(Some(text)) => text,
+        Ok(None) => return Ok(None),
+        Err(error) => {
+            return Err(SearchFault::UnreadRules(String::from(path), error));
+        }
+    };
+    Ok(Some(IgnoreList::lenient(text.as_str())))
 }

@@ -1,4 +1,4 @@
-//! Made by `bin/rust_crate` from `crates/glob_search/src/search.rt`, where its contracts are: sha256 3b26c791622ed440.
+//! Made by `bin/rust_crate` from `crates/glob_search/src/search.rt`, where its contracts are: sha256 e4b9a0ec13544514.
 //!
 //! A search, as its callers see it.
 
@@ -33,14 +33,14 @@ impl Search {
         Ok(Search { searcher })
     }
 
-    /// The next path that is found, or what could not be done. `None` if nothing is left, and from then on.
+    /// The next path that is found, or what could not be done; `None` once nothing is left.
     ///
-    /// Where the content of the tree and the texts of the files with rules are known, the paths and the directories that
-    /// cannot be listed are exactly those that the search has to give, one after another, and `None` comes after the last.
-    /// Where lines of a file with rules are refused, the search goes on by its other lines, and after a file that cannot
-    /// be read by other files. Both happen only where files with rules were asked for.
+    /// If the content of the tree and the texts of ignore files are known, the paths, and the directories that cannot
+    /// be listed, are exactly those that the search has to give, one after another, and then comes `None`. If an ignore
+    /// file has refused lines, the search goes on with its other lines; if a file cannot be read, with the other files.
+    /// Both happen only if ignore files were asked for.
     ///
-    /// With each path and each fault less is still to come, so that a loop of calls up to `None` ends.
+    /// Each path and each fault leaves less to come, so a loop of calls up to `None` ends.
     pub fn next<T: Tree, R: RuleTexts>(&mut self, tree: &mut T, texts: &mut R) -> Option<Result<Found, SearchFault>> {
         self.searcher.next(tree, texts)
     }

@@ -1,4 +1,4 @@
-//! Made by `bin/rust_crate` from `crates/glob_search/src/searcher.rt`, where its contracts are: sha256 2b48541b29680a48.
+//! Made by `bin/rust_crate` from `crates/glob_search/src/searcher.rt`, where its contracts are: sha256 b08be8549bd7dbd6.
 //!
 //! The turns of a search.
 //!
@@ -7,15 +7,14 @@
 
 mod entering;
 
-use crate::proved::glob_rules::{IgnoreList, RuleRefusal};
+use crate::proved::glob_search::active::{ActiveRules, FileRules};
 use crate::proved::glob_search::beginnings::Beginnings;
 use crate::proved::glob_search::entries::look_at;
 use crate::proved::glob_search::fault::SearchFault;
 use crate::proved::glob_search::found::Found;
 use crate::proved::glob_search::frame::Opening;
-use crate::proved::glob_search::heard::{FileRules, Heard};
 use crate::proved::glob_search::meter::Meter;
-use crate::proved::glob_search::rule_texts::RuleTexts;
+use crate::proved::glob_search::rule_texts::{read_list, RuleTexts};
 use crate::proved::glob_search::settings::{Settings, Wanted};
 use crate::proved::glob_search::way::{Way, Work};
 use crate::proved::glob_set::SetRefusal;
@@ -28,7 +27,7 @@ pub struct Searcher {
     wanted: Wanted,
     kinds: bool,
     rule_files: Vec<String>,
-    heard: Heard,
+    active: ActiveRules,
     meter: Meter,
     way: Way,
 }
@@ -41,14 +40,14 @@ impl Searcher {
         let path = String::from(".");
         let alive = beginnings.at_start();
         let entering = if depth > 0 { Some(Opening { path, alive }) } else { None };
-        let heard = Heard::of_lists(first, last);
+        let active = ActiveRules::of_lists(first, last);
         Ok(Searcher {
             beginnings,
             depth,
             wanted,
             kinds,
             rule_files,
-            heard,
+            active,
             meter: Meter { limit, spent: 0 },
             way: Way { entering, frames: Vec::new() },
         })
@@ -92,12 +91,12 @@ impl Searcher {
             Work::Enter(opening) => self.enter(tree, opening)?,
             Work::Read(number) => self.read_rules(texts, number)?,
             Work::Meet(entry) => return self.meet(tree, texts, entry),
-            Work::Leave(heard) => self.heard.files.truncate(heard),
+            Work::Leave(active) => self.active.files.truncate(active),
         }
         Ok(None)
     }
 
-    /// Visits an entry of the last directory, which may be found, and may be entered next.
+    /// Visits an entry of the last directory. It may be found, and it may be entered next.
     fn meet<T: Tree, R: RuleTexts>(
         &mut self,
         tree: &mut T,
@@ -122,7 +121,7 @@ impl Searcher {
         self.take(path, alive, is_dir, is_found, goes_on)
     }
 
-    /// Whether the entry at a path is a directory. `None` if that is not known and does not matter.
+    /// Whether the entry at a path is a directory; `None` if that is unknown and does not matter.
     fn kind_at<T: Tree>(
         &mut self,
         tree: &mut T,
@@ -139,13 +138,13 @@ impl Searcher {
 
     /// Whether the rules ignore a path, or the caller leaves it out.
     fn is_left_out<R: RuleTexts>(&self, texts: &mut R, path: &str, is_dir: bool) -> bool {
-        if self.heard.ignores(path, is_dir) {
+        if self.active.ignores(path, is_dir) {
             return true;
         }
         texts.leaves_out(path, is_dir)
     }
 
-    /// Enters an entry next, if it is a directory and patterns go on, and finds it, if it is wanted.
+    /// Finds an entry, if it is wanted, and enters it next, if it is a directory and patterns go on.
     fn take(
         &mut self,
         path: String,
@@ -164,7 +163,7 @@ impl Searcher {
 
     /// Whether the kind of each path that is found matters.
     fn needs_kinds(&self) -> bool {
-        self.kinds || self.wanted != Wanted::All || self.heard.is_any()
+        self.kinds || self.wanted != Wanted::All || self.active.is_any()
     }
 
     /// Reads, in the last directory, the ignore file with the name at index `number`.
@@ -181,22 +180,10 @@ impl Searcher {
         let Some((list, refusals)) = read_list(texts, path.as_str())? else {
             return Ok(());
         };
-        self.heard.files.push(FileRules { above, list });
+        self.active.files.push(FileRules { above, list });
         if refusals.is_empty() {
             return Ok(());
         }
         Err(SearchFault::RefusedRules(path, refusals))
     }
-}
-
-/// The rules of the file at a path, if there is one, and the refusals of its lines.
-fn read_list<R: RuleTexts>(texts: &mut R, path: &str) -> Result<Option<(IgnoreList, Vec<RuleRefusal>)>, SearchFault> {
-    let text = match texts.text(path) {
-        Ok(Some(text)) => text,
-        Ok(None) => return Ok(None),
-        Err(error) => {
-            return Err(SearchFault::UnreadRules(String::from(path), error));
-        }
-    };
-    Ok(Some(IgnoreList::lenient(text.as_str())))
 }

@@ -1,10 +1,11 @@
-//! Made by `bin/rust_crate` from `crates/glob_search/src/settings.rt`, where its contracts are: sha256 006096ad1a668e98.
+//! Made by `bin/rust_crate` from `crates/glob_search/src/settings.rt`, where its contracts are: sha256 8ccc78f323699ba4.
 //! `Wanted` is not `#[non_exhaustive]` there.
 //!
 //! What a search is asked for, besides its patterns.
 
 use crate::proved::glob_pattern::MatchOptions;
 use crate::proved::glob_rules::IgnoreList;
+use crate::proved::glob_search::outer::OuterRules;
 
 /// Which of the paths that a pattern matches are found.
 ///
@@ -50,21 +51,21 @@ impl Wanted {
 pub struct Settings {
     /// How names are matched. The separator rule holds in any case.
     pub options: MatchOptions,
-    /// The most names that a path may have: with 1, only what is in the start directory is found.
+    /// How many names a path may have: with 1, only what is in the start directory is found.
     pub depth: usize,
     /// Which kinds are found.
     pub wanted: Wanted,
-    /// Whether to learn the kind of each path that is found. If not, a kind is asked for only where it decides
+    /// Whether to learn the kind of each path that is found. If not, the search asks for a kind only where it decides
     /// something.
     pub kinds: bool,
-    /// The most units of work: one for each lookup, listing, ignore file, and entry of a listing.
+    /// How many units of work it may take: one for each lookup, listing, ignore file, and entry of a listing.
     pub limit: u64,
-    /// Lists that take precedence over those of files, for paths from the start directory on. The last of them is asked
-    /// first.
+    /// Lists that override ignore files, for paths from the start directory on. The last list is asked first.
     pub first: Vec<IgnoreList>,
-    /// Lists that give way to those of files, such as git's `info/exclude`. The last of them is asked first.
-    pub last: Vec<IgnoreList>,
-    /// The names of ignore files, such as `.gitignore`. Of those in one directory the last is asked first.
+    /// Lists that ignore files override, such as git's `info/exclude` and the files of directories above the start. The
+    /// last list is asked first.
+    pub last: Vec<OuterRules>,
+    /// The names of ignore files, such as `.gitignore`. In each directory the last one is asked first.
     pub rule_files: Vec<String>,
 }
 

@@ -1,4 +1,4 @@
-//! Made by `bin/rust_crate` from `crates/glob_search/src/way.rt`, where its contracts are: sha256 02b5e7142a32708c.
+//! Made by `bin/rust_crate` from `crates/glob_search/src/way.rt`, where its contracts are: sha256 a843a2db10557eda.
 //!
 //! The way down to where a search is, and what it does next.
 
@@ -13,7 +13,7 @@ pub enum Work {
     Read(usize),
     /// It visits an entry of the last directory.
     Meet(Entry),
-    /// It has left a directory. This many of the lists in `Heard::files` still apply.
+    /// It has left a directory. This many of the lists in `ActiveRules::files` still apply.
     Leave(usize),
 }
 
@@ -37,7 +37,7 @@ impl Way {
             return Some(Work::Meet(entry));
         }
         let frame = self.frames.pop()?;
-        Some(Work::Leave(frame.heard))
+        Some(Work::Leave(frame.active))
     }
 
     /// Enters a directory next, if `enters` says so.

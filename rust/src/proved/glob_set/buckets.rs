@@ -1,4 +1,4 @@
-//! Made by `bin/rust_crate` from `crates/glob_set/src/buckets.rt`, where its contracts are: sha256 71bfade74cb2c1ea.
+//! Made by `bin/rust_crate` from `crates/glob_set/src/buckets.rt`, where its contracts are: sha256 bfbeb0d9fe43b4de.
 //! Not derived there: `Bucket`, `Buckets`.
 //!
 //! The patterns without a key that may match a text, listed by the class of the text's last two bytes.
@@ -32,7 +32,7 @@ impl Bucket {
         self.numbers.push(number);
     }
 
-    /// Adds a number, after the numbers of `others` if this is the first.
+    /// Adds a number. Before the first one it adds the numbers of `others`.
     fn push_behind(&mut self, others: &Bucket, number: usize) {
         if self.numbers.is_empty() {
             self.numbers.extend_from_slice(others.numbers());
@@ -51,7 +51,8 @@ impl Bucket {
 /// The numbers of the patterns without a key, by the class of the texts that they may match.
 #[derive(Clone)]
 pub struct Buckets {
-    // for each class that some pattern needs: the patterns that need it, and those that need no class; else empty
+    // for each class that some pattern needs: the patterns that need it, and the patterns that need no class; empty for
+    // other classes
     classes: Vec<Bucket>,
     // the patterns that need no class, for all other classes
     rest: Bucket,

@@ -1,4 +1,4 @@
-//! Made by `bin/rust_crate` from `crates/glob_set/src/components.rt`, where its contracts are: sha256 5a9b2773ccc4f09a.
+//! Made by `bin/rust_crate` from `crates/glob_set/src/components.rt`, where its contracts are: sha256 405136be1650067f.
 //!
 //! Components of texts and their beginnings, and the hashes by which texts are looked up.
 
@@ -43,7 +43,7 @@ pub fn hash_after(hash: u32, byte: u8) -> u32 {
     ((u64::from(hash) * 33 + u64::from(byte % 32)) % (1 << 32)) as u32
 }
 
-/// The hash of bytes read backwards, with the character before them.
+/// The hash of bytes read backwards, with one more character: the one before them.
 pub fn hash_before(hash: u32, c: char) -> u32 {
     let mut buffer = [0; 4];
     let bytes = c.encode_utf8(&mut buffer).as_bytes();

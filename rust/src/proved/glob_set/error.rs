@@ -1,4 +1,4 @@
-//! Made by `bin/rust_crate` from `crates/glob_set/src/error.rt`, where its contracts are: sha256 06534a8a1b37b069.
+//! Made by `bin/rust_crate` from `crates/glob_set/src/error.rt`, where its contracts are: sha256 0c933c189e4b72c2.
 //! Not derived there: `SetRefusal`, `BraceSetRefusal`.
 //! `BraceSetRefusal` is not `#[non_exhaustive]` there.
 //!
@@ -51,8 +51,8 @@ impl fmt::Display for SetRefusal {
 pub enum BraceSetRefusal {
     /// The number of the first text with a fault, and the fault of its braces: for `*.o` and `{a`, 1 and `Unclosed(0)`.
     Braces(usize, BraceError),
-    /// The number of the first text with a fault, the number of its first alternative that is not accepted, and that
-    /// one's first fault from the left: for `*.o` and `{a,[}`, 1, 1 and the place 0 in `[`.
+    /// The number of the first text with a fault, the number of its first alternative that is not accepted, and the
+    /// first fault of that alternative from the left: for `*.o` and `{a,[}`, 1, 1 and the place 0 in `[`.
     Pattern(usize, usize, PatternError),
 }
 

@@ -1,8 +1,8 @@
-//! Made by `bin/rust_crate` from `crates/glob_set/src/key.rt`, where its contracts are: sha256 82ccb52599caccb2.
+//! Made by `bin/rust_crate` from `crates/glob_set/src/key.rt`, where its contracts are: sha256 2420783efaa23fda.
 //!
 //! Keys, by which a text finds the few patterns that may match it.
 
-/// Something that all texts have that a pattern matches.
+/// Something that all texts matched by a pattern have.
 #[derive(Clone, Copy)]
 pub enum Key {
     /// A component with this hash.

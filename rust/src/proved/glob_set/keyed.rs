@@ -1,4 +1,4 @@
-//! Made by `bin/rust_crate` from `crates/glob_set/src/keyed.rt`, where its contracts are: sha256 028c5b59da393c91.
+//! Made by `bin/rust_crate` from `crates/glob_set/src/keyed.rt`, where its contracts are: sha256 a7887038d096d714.
 //! Not derived there: `Keyed`.
 //! `Vec::with_capacity` and `resize` are there `vec![x; n]`: memory that is asked for as zeros is never what was freed
 //! last, and costs more.
@@ -111,8 +111,8 @@ impl Keyed {
     }
 }
 
-/// Whether a text is looked up right before a byte: before a mark, and if there are keys with as many bytes as were
-/// read.
+/// Whether the text is looked up right before this byte: always before a mark, elsewhere only if a key has the length
+/// read so far.
 #[inline(always)]
 fn is_asked(byte: u8, mark: u8, is_used: bool) -> bool {
     byte == mark || is_used

@@ -1,11 +1,11 @@
-//! Made by `bin/rust_crate` from `crates/glob_set/src/needs.rt`, where its contracts are: sha256 1183e37a90b65e0b.
+//! Made by `bin/rust_crate` from `crates/glob_set/src/needs.rt`, where its contracts are: sha256 4b5727940ba541e9.
 //!
 //! What a text needs for a pattern to match it.
 
 use crate::proved::glob_pattern::{literal_at, tokens_len, Pattern};
 use crate::proved::glob_set::pairs::{class_bit, pair_class, Need};
 
-/// For each pattern, what all texts have that it matches.
+/// For each pattern, what all texts that it matches have.
 pub fn needs_of(patterns: &[Pattern]) -> Vec<Need> {
     let mut needs = Vec::new();
     for pattern in patterns {
@@ -14,7 +14,7 @@ pub fn needs_of(patterns: &[Pattern]) -> Vec<Need> {
     needs
 }
 
-/// What all texts have that the pattern matches. For `src/*.rs` these are the pairs of neighbours in `src/` and `.rs`,
+/// What all texts matched by the pattern have. For `src/*.rs` these are the pairs of neighbours in `src/` and `.rs`,
 /// `s` at the start and `rs` at the end.
 fn need_of(pattern: &Pattern) -> Need {
     let mut bits = 0;
@@ -26,7 +26,7 @@ fn need_of(pattern: &Pattern) -> Need {
     Need { bits, class }
 }
 
-/// The bits, with that of the class if there is one.
+/// The bits, plus the bit of the class if there is one.
 fn with_class(bits: u128, class: Option<u8>) -> u128 {
     match class {
         Some(class) => bits | class_bit(class),

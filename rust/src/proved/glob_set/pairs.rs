@@ -1,8 +1,8 @@
-//! Made by `bin/rust_crate` from `crates/glob_set/src/pairs.rt`, where its contracts are: sha256 206376cf7d665b45.
+//! Made by `bin/rust_crate` from `crates/glob_set/src/pairs.rt`, where its contracts are: sha256 36d023a9b8464bf6.
 //!
 //! Pairs of neighbouring bytes, as bits of one word.
 
-/// What all texts have that a pattern matches.
+/// What all texts matched by a pattern have.
 #[derive(Clone, Copy)]
 pub struct Need {
     /// The bits of neighbouring bytes.

@@ -1,6 +1,7 @@
-//! Made by `bin/rust_crate` from `crates/glob_set/src/pattern_keys.rt`, where its contracts are: sha256 1fdcc3719e957413.
+//! Made by `bin/rust_crate` from `crates/glob_set/src/pattern_keys.rt`, where its contracts are: sha256 ec0318f6c87546a1.
 //!
-//! The keys of patterns.
+//! The keys of a pattern: literals that every matching text has at its end, at the start of a component, or as a whole
+//! component.
 
 use crate::proved::glob_pattern::{literal_at, token_kind, tokens_len, Pattern, TokenKind};
 use crate::proved::glob_set::components::{hash_before, Component};

@@ -1,4 +1,4 @@
-//! Made by `bin/rust_crate` from `crates/glob_set/src/rarest.rt`, where its contracts are: sha256 acf548313f194aec.
+//! Made by `bin/rust_crate` from `crates/glob_set/src/rarest.rt`, where its contracts are: sha256 ff774153b30e54f4.
 //! `Vec::with_capacity` and `resize` are there `vec![x; n]`: memory that is asked for as zeros is never what was freed
 //! last, and costs more.
 //!
@@ -10,11 +10,11 @@ use crate::proved::glob_set::key::Key;
 use crate::proved::glob_set::keyed::slots_for;
 use crate::proved::glob_set::pattern_keys::find_keys;
 
-/// The least number of patterns with keys. If there are fewer, no pattern has one: asking them is faster than looking
-/// up keys.
+/// The least number of patterns with keys. If there are fewer, no pattern gets one: asking them one by one is faster
+/// than looking up keys.
 const FEWEST_WITH_KEYS: usize = 64;
 
-/// A key is rare if fewer than this many are in its slot, with the cost of its lookup added.
+/// A key is rare if the number of keys in its slot plus the cost of its lookup is below this.
 const COMMON: u8 = 32;
 
 /// The number of slots per pattern, so that few rare keys share a slot with a common one.
@@ -43,7 +43,7 @@ impl Listed {
     }
 }
 
-/// The rarest key of each pattern, if it is rare enough: that of `mod17` for `src/mod17/*.rs`. If few patterns have
+/// The rarest key of each pattern, if it is rare enough: for `src/mod17/*.rs`, the key of `mod17`. If few patterns have
 /// such a key, no pattern gets one.
 pub fn keys_of(patterns: &[Pattern]) -> Vec<Option<Key>> {
     if patterns.len() < FEWEST_WITH_KEYS {
@@ -103,7 +103,7 @@ fn counts_of(keys: &[Key], slots: usize) -> Vec<u8> {
     counts
 }
 
-/// The key with the lowest sum of the keys in its slot and the cost of its lookup, if that is low.
+/// The key for which the number of keys in its slot plus the cost of its lookup is lowest, if that sum is low enough.
 fn rarest(keys: &[Key], counts: &[u8]) -> Option<Key> {
     let mut rarest = None;
     let mut least = COMMON;
@@ -129,8 +129,8 @@ fn count_slot(key: Key, slots: usize) -> usize {
     slot_of(key.hash() ^ salt, slots)
 }
 
-/// What looking a key up costs each text, as a number of patterns to ask. A text is looked up once for each length of
-/// beginnings or endings that occurs.
+/// What it costs to look each text up by this key, measured in patterns asked. A text is looked up once for each length
+/// of beginnings or endings that occurs.
 fn cost_of(key: Key) -> u8 {
     match key {
         Key::Component(_) => 0,

@@ -1,4 +1,4 @@
-//! Made by `bin/rust_crate` from `crates/glob_set/src/set.rt`, where its contracts are: sha256 8cc0d43597f3036f.
+//! Made by `bin/rust_crate` from `crates/glob_set/src/set.rt`, where its contracts are: sha256 070253446daf11e4.
 //! Not derived there: `PatternSet`.
 //! `of_texts` is there `from_texts`: by hand it takes all kinds of lists.
 //! `of_braces` is there `from_braces`: by hand it takes all kinds of lists.
@@ -18,10 +18,10 @@ use crate::proved::glob_set::rarest::keys_of;
 use crate::proved::glob_set::reading::{read_braces, read_patterns};
 use asking::{bits_for, earlier, later};
 
-/// A list of patterns with the options that they match by. The set reports patterns by their **numbers**, counted from
-/// 0. It rejects most patterns without trying them, because the text lacks bytes that every match has. A large set looks
-/// up the components of the text, their beginnings and its ending, to find the patterns in which one of these is rare.
-/// No clause says how many patterns are tried.
+/// A list of patterns and the options that they match by. The set reports patterns by their **numbers**, counted from
+/// 0. It rejects most patterns without trying them, because the text lacks bytes that every match has. A large set
+/// looks up the text's components, their beginnings and the text's ending in a table, and so finds the patterns in
+/// which one of these is rare. No clause says how many patterns are tried.
 ///
 /// ```text
 /// let ignored = PatternSet::from_texts(&["**/*.o", "**/target/**"], options)?;
@@ -145,12 +145,12 @@ impl PatternSet {
         Ok(Self::new(patterns, options))
     }
 
-    /// Parses all alternatives of all texts, such as `src/*.{c,h}`, and makes a set of the patterns: those of the first
-    /// text first, in the order of [`expand`](crate::proved::glob_set::braces::expand). The set matches a text exactly
-    /// if an alternative of one of the texts does.
+    /// Parses all alternatives of all texts, such as `src/*.{c,h}`, and makes a set of the patterns: text by text, each
+    /// in the order of [`expand`](crate::proved::glob_set::braces::expand). The set matches a text exactly if an
+    /// alternative of one of the texts does.
     ///
-    /// The error is that of the first text with a fault, [`Braces`](BraceSetRefusal::Braces) or
-    /// [`Pattern`](BraceSetRefusal::Pattern).
+    /// The error is [`Braces`](BraceSetRefusal::Braces) or [`Pattern`](BraceSetRefusal::Pattern) for the first text
+    /// with a fault.
     pub(crate) fn of_braces(texts: &[&str], options: MatchOptions) -> Result<Self, BraceSetRefusal> {
         let patterns = read_braces(texts)?;
         Ok(Self::new(patterns, options))

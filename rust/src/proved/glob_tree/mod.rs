@@ -1,4 +1,4 @@
-//! Made by `bin/rust_crate` from `crates/glob_tree/src/lib.rt`, where its contracts are: sha256 2550543fad4103e5.
+//! Made by `bin/rust_crate` from `crates/glob_tree/src/lib.rt`, where its contracts are: sha256 260aac4a463ae7cb.
 
 mod name;
 mod path_text;

@@ -1,4 +1,4 @@
-//! Made by `bin/rust_crate` from `crates/glob_tree/src/name.rt`, where its contracts are: sha256 2dff9226807c6ee8.
+//! Made by `bin/rust_crate` from `crates/glob_tree/src/name.rt`, where its contracts are: sha256 93538640869ce295.
 //! Not derived there: `Name`.
 //!
 //! Names of entries.

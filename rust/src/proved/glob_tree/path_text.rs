@@ -1,4 +1,4 @@
-//! Made by `bin/rust_crate` from `crates/glob_tree/src/path_text.rt`, where its contracts are: sha256 ac283dcbc42f27b6.
+//! Made by `bin/rust_crate` from `crates/glob_tree/src/path_text.rt`, where its contracts are: sha256 8ed51ac3474edb0d.
 //!
 //! The texts of paths.
 
@@ -30,7 +30,7 @@ fn needs_separator(dir: &str) -> bool {
     !dir.is_empty() && !dir.ends_with('/')
 }
 
-/// Whether the path is `.`, or `.` and further pieces that stay there, such as `./.`.
+/// Whether the path is `.`, or `.` and more pieces that stay there, such as `./.`.
 fn is_here(path: &str) -> bool {
     path.starts_with('.') && all_stay(path)
 }
@@ -40,7 +40,7 @@ fn all_stay(path: &str) -> bool {
     path.split('/').all(stays)
 }
 
-/// Whether a piece of a path leads nowhere else: it is empty or `.`, and not `a` or `..`.
+/// Whether a piece of a path stays where it is: true for an empty piece and `.`, false for `a` and `..`.
 pub fn stays(piece: &str) -> bool {
     piece.is_empty() || piece == "."
 }

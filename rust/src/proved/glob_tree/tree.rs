@@ -1,4 +1,4 @@
-//! Made by `bin/rust_crate` from `crates/glob_tree/src/tree.rt`, where its contracts are: sha256 b896a90f2b5d0d1b.
+//! Made by `bin/rust_crate` from `crates/glob_tree/src/tree.rt`, where its contracts are: sha256 e07e6e946f26efa3.
 //! Not derived there: `Entry`.
 //!
 //! Trees: what a walk can ask, and what the answers are.
@@ -120,8 +120,8 @@ pub trait Tree {
     /// </details>
     fn list(&mut self, path: &str) -> Result<Vec<Entry>, io::Error>;
 
-    /// As [`list`](Tree::list), for callers that need only the names: `is_dir` may be `false` for any entry. A tree
-    /// that would have to find out what each entry is can skip that here.
+    /// Like [`list`](Tree::list), for callers that need only the names: `is_dir` may be `false` for any entry. A tree
+    /// that would have to find out the kind of each entry can skip that here.
     ///
     /// For a directory with the directory `a` and the file `b` it returns the names `a` and `b`.
     ///

@@ -1,11 +1,11 @@
-//! Made by `bin/rust_crate` from `crates/glob_walk/src/component.rt`, where its contracts are: sha256 b1e6f73f6442f04e.
+//! Made by `bin/rust_crate` from `crates/glob_walk/src/component.rt`, where its contracts are: sha256 6d9ddf77dbac3147.
 //!
 //! The components of a pattern, each read once.
 
 use crate::proved::glob_pattern::{MatchOptions, Pattern, PatternError};
 
-/// What is kept of a component: the text of a literal one, the pattern of one with wildcards, and for `**` nothing,
-/// since no name is matched against it.
+/// What is kept of a component: the text of a literal component, the pattern of a component with wildcards, and nothing
+/// for `**`, since no name is matched against it.
 enum Form {
     Literal(String),
     Recursive,
@@ -55,7 +55,7 @@ impl Component {
         Ok(Component { form })
     }
 
-    /// Checks a text for a fault, and keeps nothing of it. The error is that fault.
+    /// Checks a text for a fault, and keeps nothing. The error is the fault.
     pub fn check(text: &str) -> Result<(), PatternError> {
         if is_literal(text) {
             return Ok(());
@@ -64,7 +64,7 @@ impl Component {
         Ok(())
     }
 
-    /// Whether it matches the name; `**` matches none.
+    /// Whether it matches the name; `**` matches no name.
     pub fn matches(&self, name: &str, options: MatchOptions) -> bool {
         match &self.form {
             Form::Literal(text) => is_same_text(name, text.as_str(), options.case_sensitive),

@@ -1,4 +1,4 @@
-//! Made by `bin/rust_crate` from `crates/glob_walk/src/error.rt`, where its contracts are: sha256 f4713f428abb0b36.
+//! Made by `bin/rust_crate` from `crates/glob_walk/src/error.rt`, where its contracts are: sha256 050c9521ce871d9a.
 //! `GlobCause` is not `#[non_exhaustive]` there.
 //! `self.error` is there `*self.error()`: an I/O error of std is not Copy.
 //! `reason` is there `cause`: `cause` is a method of Rust's trait Error.
@@ -23,7 +23,7 @@ use std::{fmt, io};
 pub enum GlobCause {
     /// The directory at the path could not be listed.
     Read,
-    /// The next unit of work does not fit the walk's limit. It is for this path. The walk has ended.
+    /// The next unit of work, which is for this path, does not fit the walk's limit. The walk has ended.
     Limit,
 }
 
@@ -151,7 +151,7 @@ impl From<GlobError> for io::Error {
 }
 
 /// The path, and why it could not be read. If the cause is `Read`, the text ends with what the I/O error prints, and
-/// nothing is promised for any of it.
+/// nothing is promised about the text.
 impl fmt::Display for GlobError {
     fn fmt(&self, f: &mut fmt::Formatter<'_>) -> fmt::Result {
         let path = self.path.display();

@@ -1,4 +1,4 @@
-//! Made by `bin/rust_crate` from `crates/glob_walk/src/frame.rt`, where its contracts are: sha256 7e937caa95bf89fa.
+//! Made by `bin/rust_crate` from `crates/glob_walk/src/frame.rt`, where its contracts are: sha256 fdb6f9b2012c5fe7.
 //!
 //! A directory that a walk is going through.
 //!
@@ -6,8 +6,8 @@
 //! It is read from the tree once, as a whole. Each step moves the cursor once, and makes at most one task, so a child's
 //! path is built only if the child is met or entered.
 //!
-//! Under `**` each entry takes two steps. First the component after the `**` meets it, or at the pattern's end it is
-//! given; then, if it is a directory, the `**` enters it.
+//! Under `**` each entry takes two steps. First the component after the `**` meets the entry, or, at the pattern's end,
+//! the entry is given. Then, if it is a directory, the `**` enters it.
 
 mod tasks;
 
@@ -44,7 +44,7 @@ pub struct Frame {
 }
 
 impl Frame {
-    /// Whether nothing is left in it, as the cursor is past the last entry.
+    /// Whether nothing is left in it: the cursor is past the last entry.
     pub fn is_done(&self) -> bool {
         match self.cursor {
             Cursor::Parent | Cursor::Current => false,
@@ -52,8 +52,8 @@ impl Frame {
         }
     }
 
-    /// Moves to the next cursor, and returns the task that follows from the last one, if any. The steps that are left
-    /// get fewer: at most two for each entry, and one each for `..` and `.`.
+    /// Moves the cursor one step, and returns the task that follows from where it was, if any. Each call leaves fewer
+    /// steps: there are at most two for each entry, and one each for `..` and `.`.
     pub fn step(&mut self, plan: &Plan) -> Option<Task> {
         match self.cursor {
             Cursor::Parent => {

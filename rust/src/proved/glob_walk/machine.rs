@@ -1,4 +1,4 @@
-//! Made by `bin/rust_crate` from `crates/glob_walk/src/machine.rt`, where its contracts are: sha256 8d21070772188323.
+//! Made by `bin/rust_crate` from `crates/glob_walk/src/machine.rt`, where its contracts are: sha256 367a99293d16eaa9.
 //!
 //! A walk that asks its caller, and reads nothing by itself.
 
@@ -80,10 +80,10 @@ pub enum Answer {
 /// machine.next()                  // Step::Done; machine.spent() is 4
 /// ```
 ///
-/// As long as all answers are those of one content, its questions and items are those of the written listing, in order:
-/// the items so far are a prefix of the listing's, and at `Done` they are all. Whatever the answers are, it charges one
-/// unit for each question, before it asks it, and one for each entry in an answer; it gives at most one item more than
-/// it charged units; and it never charges more than its limit, so it comes to an end.
+/// As long as all answers come from one content, its questions and items are those of the written listing, in order:
+/// the items so far are a prefix of the listing's, and at `Done` they are all of them. Whatever the answers are, it
+/// charges one unit for each question, before it asks it, and one for each entry in an answer. It gives at most one
+/// more item than it charged units. It never charges more than its limit, so it comes to an end.
 ///
 /// ```
 /// use cadmiumdove::walk::{Look, Step, WalkMachine};
@@ -252,9 +252,9 @@ impl WalkMachine {
         self.resume(Answer::List(listed))
     }
 
-    /// Takes the answer to the open question, if there is one, and returns the next step, as
-    /// [`looked`](WalkMachine::looked), [`listed`](WalkMachine::listed) and [`next`](WalkMachine::next) do:
-    /// `Answer::Look(seen)` does what `looked(seen)` does. If no question is open, the answer does not matter. An
+    /// Takes the answer to the open question, if there is one, and returns the next step, like
+    /// [`looked`](WalkMachine::looked), [`listed`](WalkMachine::listed) and [`next`](WalkMachine::next):
+    /// `Answer::Look(seen)` has the effect of `looked(seen)`. If no question is open, the answer does not matter. An
     /// answer to another question leaves the walk as it is: the question is asked again, at no cost.
     ///
     /// <details><summary>Contract</summary>
@@ -299,8 +299,8 @@ impl WalkMachine {
         }
     }
 
-    /// How many units of work were charged, including that of an open question: never more than the limit. It is 1 at
-    /// the first question, and 4 after `*` has looked at a directory and listed it with two entries.
+    /// How many units of work were charged, including the unit of an open question: never more than the limit. It is 1
+    /// at the first question, and 4 after `*` has looked at a directory and listed it with two entries.
     ///
     /// <details><summary>Contract</summary>
     ///
@@ -331,9 +331,10 @@ impl WalkMachine {
         self.given
     }
 
-    /// How many directories it keeps with their entries: those that it listed and has not gone through. The last step
-    /// in a directory drops it. With a plain pattern each is below the one before it, so over a content they are at most
-    /// as many as the longest key has names. It is 1 after `*` has given the first of two files, and 0 after the second.
+    /// How many directories it keeps with their entries: directories that it listed and has not finished. The last step
+    /// in a directory drops it. With a plain pattern each kept directory is below the one before it, so over a content
+    /// there are at most as many as the longest key has names. It is 1 after `*` has given the first of two files, and
+    /// 0 after the second.
     ///
     /// <details><summary>Contract</summary>
     ///

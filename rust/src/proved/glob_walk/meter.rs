@@ -1,9 +1,9 @@
-//! Made by `bin/rust_crate` from `crates/glob_walk/src/meter.rt`, where its contracts are: sha256 722dae5c84056cb3.
+//! Made by `bin/rust_crate` from `crates/glob_walk/src/meter.rt`, where its contracts are: sha256 253693ca50eedf69.
 //!
 //! The limit of a walk, and what is charged against it.
 //!
 //! Each unit is charged before the question that it pays for, and a question that does not fit the limit is not asked.
-//! Only the entries of a listing are charged afterwards, since they cannot be counted before.
+//! Only the entries of a listing are charged afterwards, since they cannot be counted before that.
 
 use crate::proved::glob_tree::Entry;
 

@@ -1,4 +1,4 @@
-//! Made by `bin/rust_crate` from `crates/glob_walk/src/plain.rt`, where its contracts are: sha256 2891c75c3cbdb27c.
+//! Made by `bin/rust_crate` from `crates/glob_walk/src/plain.rt`, where its contracts are: sha256 068b1a7ac9a1cc21.
 //!
 //! Which patterns are plain.
 
@@ -9,7 +9,7 @@ use crate::proved::glob_walk::plan::{past_root, Plan};
 
 /// Whether the pattern is plain, so that its walk finds what the undivided pattern matches: no component is empty, `.`
 /// or `..`, and each that has a wildcard and begins with a dot is right after a `**`. A `/` at the start or at the end
-/// makes no component, but `/` by itself has an empty one, as the empty pattern has.
+/// makes no component, but the pattern `/` has an empty component, and so does the empty pattern.
 ///
 /// For example, `src/**/*.rs` is plain, `src/./*.rs` and `.*` are not, and `a**` is refused.
 ///
@@ -39,7 +39,7 @@ pub fn is_plain(pattern: &str) -> Result<bool, PatternError> {
     Ok(are_plain(past_root(pattern)))
 }
 
-/// Whether the components of a text, which are between its separators, are plain.
+/// Whether the components of a text, which are the parts between separators, are plain.
 fn are_plain(text: &str) -> bool {
     let mut after_recursive = false;
     for component in text.split('/') {

@@ -1,4 +1,4 @@
-//! Made by `bin/rust_crate` from `crates/glob_walk/src/plan.rt`, where its contracts are: sha256 951959d5bd3f2e00.
+//! Made by `bin/rust_crate` from `crates/glob_walk/src/plan.rt`, where its contracts are: sha256 171b0e413f1f6e1a.
 //!
 //! What a walk looks for.
 //!
@@ -12,11 +12,11 @@ use crate::proved::glob_walk::component::{is_recursive, Component};
 
 /// What a walk looks for: the components of a pattern, in order.
 pub struct Plan {
-    /// The components, in which no character is a separator. No two adjacent ones are `**`.
+    /// The components. None has a separator in it, and no two adjacent ones are `**`.
     pub components: Vec<Component>,
     /// How names are matched.
     pub options: MatchOptions,
-    /// Whether it starts at the root, and not in the current directory.
+    /// Whether it starts at the root, instead of in the current directory.
     pub rooted: bool,
     /// Whether only directories are given.
     pub directories: bool,
@@ -26,7 +26,7 @@ impl Plan {
     /// Reads a pattern. The error is the fault of the whole text or, if that has none, of the first component that has
     /// one.
     pub fn read(pattern: &str, options: MatchOptions) -> Result<Self, PatternError> {
-        // The whole text first, so that the place of its fault is counted from the start of the pattern.
+        // The whole text comes first, so that the place of its fault is counted from the start of the pattern.
         Component::check(pattern)?;
         let components = read_components(past_root(pattern))?;
         Ok(Plan {
@@ -59,14 +59,14 @@ impl Plan {
         }
     }
 
-    /// Whether the kinds of a directory's entries matter for the component of this number, which is `**` or has
-    /// wildcards. They do not if it is the last, is not `**`, and not only directories are wanted.
+    /// Whether the kinds of a directory's entries matter for the component with this number, which is `**` or has
+    /// wildcards. They do not matter if it is the last component, is not `**`, and files are wanted too.
     pub fn needs_kinds(&self, number: usize, recursive: bool) -> bool {
         recursive || self.directories || number + 1 < self.components.len()
     }
 }
 
-/// Reads the components of a text, which are between its separators. A `**` right after a `**` is left out.
+/// Reads the components of a text, which are the parts between separators. A `**` right after a `**` is left out.
 fn read_components(text: &str) -> Result<Vec<Component>, PatternError> {
     let mut components = Vec::new();
     let mut after_recursive = false;
@@ -81,7 +81,7 @@ fn read_components(text: &str) -> Result<Vec<Component>, PatternError> {
     Ok(components)
 }
 
-/// The text of the components: the pattern without a separator at its start and one at its end.
+/// The text of the components: the pattern without a separator at its start and without one at its end.
 pub fn past_root(pattern: &str) -> &str {
     without_end(pattern.strip_prefix('/').unwrap_or(pattern))
 }

@@ -1,6 +1,6 @@
-//! Made by `bin/rust_crate` from `crates/glob_walk/src/query.rt`, where its contracts are: sha256 4735860350c695b7.
+//! Made by `bin/rust_crate` from `crates/glob_walk/src/query.rt`, where its contracts are: sha256 315e1704d88f0e7c.
 //!
-//! An open question.
+//! A question of a walk, from when it is charged until it is answered.
 
 use crate::proved::glob_walk::task::Accepted;
 
@@ -21,9 +21,9 @@ pub enum QueryKind {
     Look(Accepted),
     /// The entries of the directory that it leads to.
     List {
-        /// Whether the listing is for `**`, and not for a component with wildcards.
+        /// Whether the listing is for `**`, rather than for a component with wildcards.
         recursive: bool,
-        /// Whether the kinds of the entries are asked for, and not only their names.
+        /// Whether the kinds of the entries are asked for, rather than only their names.
         kinds: bool,
     },
 }

@@ -1,14 +1,14 @@
-//! Made by `bin/rust_crate` from `crates/glob_walk/src/stack.rt`, where its contracts are: sha256 627a029a34af280f.
+//! Made by `bin/rust_crate` from `crates/glob_walk/src/stack.rt`, where its contracts are: sha256 0767026304f42d0e.
 //!
 //! What a walk still has to do.
 //!
-//! The stack of `walkdir` holds one directory for each level, and so does this one, with two differences. The next task
-//! is kept apart, before the directories. And a directory with nothing left is not on the stack: its last step removes
-//! it, with its names. In a directory listed for `**`, the last step enters the last entry. That comes after the entry
-//! was met, so the directory stays while the components after `**` go on in the entry. Down a chain of directories with
-//! one entry each, the stack so holds at most one directory for each `**` and one more, and not the whole chain (no
-//! clause says this). With a plain pattern each directory is below the one before it, so over a content there are at
-//! most as many as its longest key has names: the clause `few` of `WalkMachine::kept`.
+//! Like the stack of `walkdir`, this one holds one directory for each level, with two differences. The next task is
+//! kept apart, before the directories. And a directory with nothing left is not on the stack: its last step removes it,
+//! with its names. In a directory listed for `**`, the last step enters the last entry. That comes after the entry was
+//! met, so the directory stays on the stack while the components after `**` go on in the entry. So for a chain of
+//! directories with one entry each, the stack holds at most one directory for each `**` and one more, not the whole
+//! chain (no clause says this). With a plain pattern each directory is below the one before it, so over a content there
+//! are at most as many as its longest key has names: the clause `few` of `WalkMachine::kept`.
 
 use crate::proved::glob_walk::frame::Frame;
 use crate::proved::glob_walk::plan::Plan;

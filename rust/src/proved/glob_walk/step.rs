@@ -1,4 +1,4 @@
-//! Made by `bin/rust_crate` from `crates/glob_walk/src/step.rt`, where its contracts are: sha256 6680853eb269dcbc.
+//! Made by `bin/rust_crate` from `crates/glob_walk/src/step.rt`, where its contracts are: sha256 f0143a234c79e65a.
 //!
 //! What a step of a walk returns.
 

@@ -1,4 +1,4 @@
-//! Made by `bin/rust_crate` from `crates/glob_walk/src/task.rt`, where its contracts are: sha256 6a9f669411207ece.
+//! Made by `bin/rust_crate` from `crates/glob_walk/src/task.rt`, where its contracts are: sha256 aafc03310f29e534.
 //!
 //! What a walk does next: a path, and the index of the component from which it goes on there.
 
@@ -11,12 +11,12 @@ pub enum Accepted {
     Any,
     /// `Dir` and `Other`: something is there.
     Present,
-    /// None of them. The path is still looked up, so that the written listing costs the same whether `.` and `..` come
-    /// after a directory or after a file.
+    /// None of them. The path is still looked up, so that `.` and `..` cost the same in the written listing after a
+    /// directory and after a file.
     Nothing,
 }
 
-/// What is known of a task's path, which decides the task: ask for a look, or go on at the path.
+/// What is known about a task's path. It decides what the task is: to ask for a look, or to go on at the path.
 #[derive(Clone, Copy)]
 pub enum TaskState {
     /// Nothing: look it up.
@@ -32,7 +32,7 @@ pub struct Task {
     pub path: String,
     /// The index of the component.
     pub component: usize,
-    /// What is known of the path.
+    /// What is known about the path.
     pub state: TaskState,
 }
 

@@ -1,4 +1,4 @@
-//! Made by `bin/rust_crate` from `crates/glob_walk/src/walker.rt`, where its contracts are: sha256 9fefb09e18af0c16.
+//! Made by `bin/rust_crate` from `crates/glob_walk/src/walker.rt`, where its contracts are: sha256 3bd9b328caeec289.
 //!
 //! The turns of a walk.
 //!
@@ -8,8 +8,8 @@
 //! turn asks anything. A task that asks is replaced by a [`Query`], which is open until it is answered; turns are taken
 //! only while none is open.
 //!
-//! Nothing here reads a file: the caller answers. And nothing is recursive: a walk is a loop of turns. It comes to a
-//! question or an item, because a turn that does neither lowers the weight of the stack.
+//! Nothing here reads a file: the caller answers. And nothing is recursive: a walk is a loop of turns. It reaches a
+//! question or an item, because a turn with neither lowers the weight of the stack.
 //!
 //! ```text
 //! proceed               takes an answer, goes on to the next question or item, and clears a walk that is over
@@ -21,9 +21,9 @@
 //!                       none: Stack::step, to the next task
 //! ```
 //!
-//! The written listing is what a walk does, mark by mark. All methods of [`Walker`] have one contract, `TurnsTo`: what
-//! was left of the listing begins with what the turn charged and gave, and the rest is what is then left of the walk.
-//! After a turn without a [`Step`] the walk just goes on.
+//! The written listing says what a walk does, mark by mark. All methods of [`Walker`] have one contract, `TurnsTo`:
+//! what was left of the listing before a turn begins with what the turn charged and gave, and continues with what is
+//! left after it. After a turn without a [`Step`] the walk just goes on.
 
 use crate::proved::glob_tree::{child, Entry, Look};
 use crate::proved::glob_walk::component::{is_current_or_parent, Component};
@@ -83,8 +83,8 @@ impl Walker {
 
     /// Goes on at an existing path with the components from this number on. If none is left, the path is given: always
     /// for a directory, and for anything else unless the pattern ends in a separator. A literal component is joined to
-    /// the path, and the next task is to look that up. For `**` and for a component with wildcards, a directory is
-    /// listed; for anything else nothing follows.
+    /// the path, and the next task is to look up the result. For `**` and for a component with wildcards, a directory
+    /// is listed; for anything else nothing follows.
     fn enter(&mut self, path: String, number: usize, is_dir: bool) -> Option<Step> {
         let plan = &self.stack.plan;
         let Some(component) = plan.component(number) else {
@@ -106,8 +106,8 @@ impl Walker {
         Some(self.list(path, number, recursive))
     }
 
-    /// One turn: does the task, if there is one, and otherwise takes one step in the directory on top. If there is none
-    /// either, the walk is done. There is no recursion.
+    /// One turn: does the task, if there is one, and otherwise takes one step in the directory on top. If there is no
+    /// directory either, the walk is done. There is no recursion.
     fn turn(&mut self) -> Option<Step> {
         let Some(task) = self.stack.next.take() else {
             return match self.stack.step() {
@@ -183,7 +183,7 @@ impl Walker {
     }
 
     /// The step of [`take_turns`](Walker::take_turns). If no item can follow it, for example after a refusal, the stack
-    /// is cleared, since a finished walk may be kept for long.
+    /// is cleared, since callers may keep a finished walk for long.
     pub fn proceed(&mut self, answer: Answer) -> Step {
         let step = self.take_turns(answer);
         if step.is_last() {
@@ -193,8 +193,8 @@ impl Walker {
     }
 }
 
-/// The task of a literal component at a path: to look up the two joined. `.` and `..` are there only in a directory,
-/// any other name if something is there.
+/// The task of a literal component at a path: to look up the path joined with the component. `.` and `..` exist only in
+/// a directory; any other name exists if the look finds something.
 fn literal_task(component: &Component, path: &str, number: usize, is_dir: bool) -> Task {
     let name = component.as_str();
     let accepted = Accepted::of_literal(is_current_or_parent(name), is_dir);

@@ -1,4 +1,4 @@
-//! Made by `bin/rust_crate` from `crates/glob_pattern/src/matcher/positions.rt`, where its contracts are: sha256 1262e2ed0be3843d.
+//! Made by `bin/rust_crate` from `crates/glob_pattern/src/matcher/positions.rt`, where its contracts are: sha256 deb2ee25af11c459.
 //! `Vec::with_capacity` and `resize` are there `vec![x; n]`: memory that is asked for as zeros is never what was freed
 //! last, and costs more.
 //!
@@ -61,8 +61,10 @@ fn run<J: Judge>(word: ShapeWord, flat: bool, span: Span, judge: &mut J) -> bool
 /// [`decide`] for several words. `alive` is room for the position set: a zero for each word.
 #[inline(always)]
 fn run_words<J: Judge>(words: &[ShapeWord], alive: &mut [u64], span: Span, judge: &mut J) -> bool {
+    let Some(mut live) = run_first(words, alive, judge) else {
+        return false;
+    };
     let last = word_before(span.end);
-    let mut live = set_start(words, judge.opens(), alive);
     while live.high != 0 {
         if alive[last] & span.accepting != 0 {
             return true;
@@ -75,17 +77,40 @@ fn run_words<J: Judge>(words: &[ShapeWord], alive: &mut [u64], span: Span, judge
     false
 }
 
+/// Steps the first word, in a loop of its own, until a position in another word is alive: then it returns the live
+/// words. `None` if the characters end before, or nothing is alive: then the shapes do not split the characters.
+#[inline(always)]
+fn run_first<J: Judge>(words: &[ShapeWord], alive: &mut [u64], judge: &mut J) -> Option<Live> {
+    let word = words[0];
+    let mut first = word.step(0, judge.opens(), true);
+    if first >> WORD != 0 {
+        return Some(set_words(words, judge.opens(), 0, alive));
+    }
+    while first != 0 {
+        if !judge.step() {
+            return None;
+        }
+        let took = ask(word, 0, first, judge);
+        first = word.step(took, judge.opens(), false);
+        if first >> WORD != 0 {
+            alive[0] = first;
+            return Some(set_words(words, judge.opens(), 1, alive));
+        }
+    }
+    None
+}
+
 /// Asks the tokens of word `n` that are alive about the last character stepped over. Returns those that take it.
 #[inline(always)]
 fn ask<J: Judge>(word: ShapeWord, n: usize, alive: u64, judge: &mut J) -> u64 {
     judge.takes_each(n, alive & word.tokens)
 }
 
-/// Sets the words, which must be 0, to the positions before the first character. Returns the live words.
-#[inline(always)]
-fn set_start(words: &[ShapeWord], opens: bool, alive: &mut [u64]) -> Live {
+/// Sets the words from number `from` on, which must be 0, where the shapes before them split the characters so far and
+/// no token of theirs has taken the last one. Returns the live words.
+fn set_words(words: &[ShapeWord], opens: bool, from: usize, alive: &mut [u64]) -> Live {
     let mut whole = true;
-    for n in 0..alive.len() {
+    for n in from..alive.len() {
         if !whole {
             return Live { low: 0, high: n };
         }

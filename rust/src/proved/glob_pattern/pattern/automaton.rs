@@ -1,4 +1,4 @@
-//! Made by `bin/rust_crate` from `crates/glob_pattern/src/pattern/automaton.rt`, where its contracts are: sha256 0ede2fee64b2628c.
+//! Made by `bin/rust_crate` from `crates/glob_pattern/src/pattern/automaton.rt`, where its contracts are: sha256 0f467fbc4a6405ef.
 //!
 //! The automaton of the tokens between a pattern's ends: their shapes as words of bits, and the characters they take.
 
@@ -39,6 +39,25 @@ impl Automaton {
     /// at the start of the text.
     #[inline(always)]
     pub fn matches(
+        &self,
+        tokens: &[Token<Bracket>],
+        end: usize,
+        text: &str,
+        opening: bool,
+        options: MatchOptions,
+    ) -> (bool, u128) {
+        if has_rules(options) {
+            return self.run(tokens, end, text, opening, options);
+        }
+        // The same options, written so that the compiler sees that no rule is set and leaves the tests for rules out of
+        // this loop.
+        let free = MatchOptions { require_literal_separator: false, require_literal_leading_dot: false, ..options };
+        self.run(tokens, end, text, opening, free)
+    }
+
+    /// [`matches`](Self::matches), inlined once for options with a rule and once for those without.
+    #[inline(always)]
+    fn run(
         &self,
         tokens: &[Token<Bracket>],
         end: usize,

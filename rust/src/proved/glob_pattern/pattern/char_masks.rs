@@ -1,4 +1,4 @@
-//! Made by `bin/rust_crate` from `crates/glob_pattern/src/pattern/char_masks.rt`, where its contracts are: sha256 b44405f1ce57e192.
+//! Made by `bin/rust_crate` from `crates/glob_pattern/src/pattern/char_masks.rt`, where its contracts are: sha256 121dca82f62811ff.
 //! `Vec::with_capacity` and `resize` are there `vec![x; n]`: memory that is asked for as zeros is never what was freed
 //! last, and costs more.
 //!
@@ -20,7 +20,7 @@ pub enum CharMasks {
     Plain([u64; 3]),
     /// More tokens that list no character: two rows of three such masks for each word.
     PlainWords(Vec<u64>),
-    /// All other tokens.
+    /// Tokens some of which list characters.
     Listed(Box<Listed>),
 }
 
@@ -39,7 +39,7 @@ pub struct Listed {
 #[derive(Clone, Copy)]
 pub struct Rows<'a> {
     classes: Classes<'a>,
-    /// The masks from the first such row on. Every second row is one.
+    /// The masks, from the first row for this case-sensitivity on. Every second row is for it.
     masks: &'a [u64],
     /// The number of masks in a row.
     columns: usize,

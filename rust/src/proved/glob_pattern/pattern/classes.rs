@@ -1,9 +1,9 @@
-//! Made by `bin/rust_crate` from `crates/glob_pattern/src/pattern/classes.rt`, where its contracts are: sha256 856c49646552c0ab.
+//! Made by `bin/rust_crate` from `crates/glob_pattern/src/pattern/classes.rt`, where its contracts are: sha256 6f9655e2304c7ce1.
 //!
 //! Classes of characters: all characters of a class are taken by the same tokens.
 //!
-//! Tokens list intervals of characters. Between two neighbouring boundaries of intervals no token tells characters
-//! apart, so that these are a class. The tokens of `*[a-z]x` have one class for `a` to `w`, one for `x`, one for `y`
+//! Tokens list intervals of characters. No token tells apart the characters between two neighbouring boundaries of
+//! intervals, so these are one class. The tokens of `*[a-z]x` have one class for `a` to `w`, one for `x`, one for `y`
 //! and `z`, the same three in upper case, and one each for what is before, between and after these.
 
 use crate::proved::glob_pattern::token::bracket::{Bracket, Entry};
@@ -15,7 +15,8 @@ pub const FIRST: u8 = 2;
 /// The number of ASCII characters.
 pub const ASCII: usize = 128;
 
-/// For this many characters, from the first boundary beyond ASCII on, the number of boundaries up to each is stored.
+/// The length of a table of how many boundaries there are up to a character, which begins at the first boundary beyond
+/// ASCII.
 const COUNTED: usize = 128;
 
 /// The class of each character.
@@ -23,9 +24,9 @@ const COUNTED: usize = 128;
 pub struct Classes<'a> {
     /// The class of each ASCII character.
     pub ascii: &'a [u8; ASCII],
-    /// The boundaries beyond ASCII, ascending. Each begins a class, and the numbers of the classes go on.
+    /// The boundaries beyond ASCII, ascending. Each begins the class with the next number.
     pub beyond: &'a [u32],
-    /// The number of these boundaries up to each of some characters, which are counted from the first boundary.
+    /// How many of these boundaries there are up to a character, for the first characters from the first boundary on.
     pub begun: &'a [u8],
 }
 

@@ -1,4 +1,4 @@
-//! Made by `bin/rust_crate` from `crates/glob_pattern/src/pattern/compiled.rt`, where its contracts are: sha256 31d96fb9a37102ec.
+//! Made by `bin/rust_crate` from `crates/glob_pattern/src/pattern/compiled.rt`, where its contracts are: sha256 f21fdb950e4e0efe.
 //!
 //! What a match reads of a pattern, and how it goes: it compares the ends of the text, searches for a needle, and runs
 //! the automaton over what is between.
@@ -53,7 +53,7 @@ impl Compiled {
         Compiled { tokens: Vec::new(), ends: Ends::NONE, needle: Needle::NONE, automaton: Automaton::empty() }
     }
 
-    /// Whether the tokens, which are the pattern's, match the text.
+    /// Whether the pattern's tokens match the text.
     #[inline(always)]
     pub fn matches(&self, pattern: &str, text: &str, options: MatchOptions) -> bool {
         if self.ends.reject(pattern, text, options) {

@@ -1,4 +1,4 @@
-//! Made by `bin/rust_crate` from `crates/glob_pattern/src/pattern/ends.rt`, where its contracts are: sha256 6b414177d838465e.
+//! Made by `bin/rust_crate` from `crates/glob_pattern/src/pattern/ends.rt`, where its contracts are: sha256 df6d587727886919.
 //!
 //! What a text needs at its ends: the literals with which a pattern begins and ends, compared as bytes, and the
 //! characters that other one-character tokens take there.
@@ -85,7 +85,8 @@ impl Ends {
         self.prefix.bytes > 0 && !are_same(&bytes[..1], &literals[..1], options)
     }
 
-    /// Strips the ends off a text: those of `src/*.rs` leave `main` of `src/main.rs`. `None`: the text does not match.
+    /// Strips the ends off a text: for `src/*.rs`, what is left of `src/main.rs` is `main`. `None`: the text does not
+    /// match.
     #[inline(always)]
     pub fn strip<'a>(
         &self,

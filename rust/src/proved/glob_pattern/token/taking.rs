@@ -1,4 +1,4 @@
-//! Made by `bin/rust_crate` from `crates/glob_pattern/src/token/taking.rt`, where its contracts are: sha256 39b09c555e2de6bf.
+//! Made by `bin/rust_crate` from `crates/glob_pattern/src/token/taking.rt`, where its contracts are: sha256 5de340984db807fc.
 //!
 //! Which characters a token takes under the options.
 
@@ -13,7 +13,7 @@ pub fn takes(token: &Token<Bracket>, options: MatchOptions, opening: bool, c: ch
         Token::Literal(x) => bracket::is_same(options.case_sensitive, c, *x),
         Token::AnyChar => is_free(options, opening, c),
         _ => {
-            // The call needs the options in memory. A copy on this path leaves those of the caller in registers.
+            // The call needs the options in memory. Copying them only on this path keeps the caller's in registers.
             let copy = MatchOptions { ..options };
             takes_other(token, copy, opening, c)
         }
@@ -57,7 +57,8 @@ pub fn is_excluded_dot(options: MatchOptions, opening: bool, c: char) -> bool {
     c == '.' && opening && options.require_literal_leading_dot
 }
 
-/// Whether `**` may take the name of a component: any name, but under the dot rule none with a leading dot, as `.git`.
+/// Whether `**` may take the name of a component: any name, except under the dot rule one with a leading dot, as
+/// `.git`.
 pub fn is_open(options: MatchOptions, name: &str) -> bool {
     match name.as_bytes() {
         [] => true,

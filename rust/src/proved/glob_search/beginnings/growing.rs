@@ -1,4 +1,4 @@
-//! Made by `bin/rust_crate` from `crates/glob_search/src/beginnings/growing.rt`, where its contracts are: sha256 f0d1324c3ccea1c4.
+//! Made by `bin/rust_crate` from `crates/glob_search/src/beginnings/growing.rt`, where its contracts are: sha256 c4538f25c14d0c21.
 //!
 //! Adds patterns to the tree of beginnings.
 
@@ -16,7 +16,7 @@ impl Beginnings {
         Ok(())
     }
 
-    /// Adds the beginnings that the components of a pattern lead to, one after another, and returns the last.
+    /// Adds the beginnings that the components of a pattern lead to, one after another, and returns the last one.
     fn walk(&mut self, pattern: &str) -> Result<usize, PatternError> {
         let mut at = 0;
         for component in pattern.split('/') {
@@ -25,7 +25,8 @@ impl Beginnings {
         Ok(at)
     }
 
-    /// The beginning that is the whole pattern, given that of its last component: after `**`, one name further.
+    /// The beginning that is the whole pattern, given the beginning of its last component. They differ after `**`,
+    /// which needs one more name.
     fn end_of(&mut self, at: usize) -> Result<usize, PatternError> {
         if self.nodes[at].is_deep {
             return self.child(at, "*");
@@ -38,7 +39,8 @@ impl Beginnings {
         self.nodes[at].mark_whole();
     }
 
-    /// The beginning that a component leads to, added if it is missing. After `**`, another `**` leads to the same one.
+    /// The beginning that a component leads to, added if it is missing. After `**`, another `**` leads to the same
+    /// beginning.
     fn child(&mut self, at: usize, component: &str) -> Result<usize, PatternError> {
         let component = self.component(component)?;
         if component.is_deep() && self.nodes[at].is_deep {
@@ -50,7 +52,7 @@ impl Beginnings {
         Ok(self.lead(at, component))
     }
 
-    /// Makes sets for the beginnings from which many components with wildcards lead on.
+    /// Makes a set for each beginning from which many components with wildcards lead on.
     pub(super) fn gather(&mut self) {
         for number in 0..self.nodes.len() {
             self.gather_at(number);

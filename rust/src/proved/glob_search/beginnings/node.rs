@@ -1,4 +1,4 @@
-//! Made by `bin/rust_crate` from `crates/glob_search/src/beginnings/node.rt`, where its contracts are: sha256 c4c6a35672656cc9.
+//! Made by `bin/rust_crate` from `crates/glob_search/src/beginnings/node.rt`, where its contracts are: sha256 e59ab05d1cf9e96f.
 //!
 //! A node of the tree of beginnings.
 
@@ -38,9 +38,9 @@ pub struct Wild {
 
 /// A beginning, and the components by which it leads to others.
 pub struct Node {
-    /// Literal ones, in ascending order.
+    /// Literal components, in ascending order.
     pub literals: Vec<Literal>,
-    /// Those with wildcards, other than `**`.
+    /// Components with wildcards, other than `**`.
     pub wilds: Vec<Wild>,
     /// The number of the beginning that `**` leads to, if there is one.
     pub deep: Option<usize>,
@@ -48,7 +48,7 @@ pub struct Node {
     pub is_deep: bool,
     /// Whether it is a whole pattern.
     pub is_whole: bool,
-    /// The components with wildcards as a set, where there are many.
+    /// The components with wildcards as a set, if there are many.
     pub set: Option<PatternSet>,
 }
 
@@ -88,7 +88,7 @@ impl Node {
         None
     }
 
-    /// The index of a literal component, or the one at which it belongs.
+    /// The index of a literal component, or the index at which it belongs.
     fn find_literal(&self, text: &str) -> Result<usize, usize> {
         self.literals.as_slice().binary_search_by(|literal| literal.text.as_str().cmp(text))
     }
@@ -151,7 +151,7 @@ impl Node {
         !self.is_literal() || !self.literals.is_empty()
     }
 
-    /// Whether it leads on by nothing but literal components.
+    /// Whether it leads on only by literal components.
     pub fn is_literal(&self) -> bool {
         !self.is_deep && self.deep.is_none() && self.wilds.is_empty()
     }

@@ -1,4 +1,4 @@
-//! Made by `bin/rust_crate` from `crates/glob_search/src/searcher/entering.rt`, where its contracts are: sha256 6948f814a8af8a7d.
+//! Made by `bin/rust_crate` from `crates/glob_search/src/searcher/entering.rt`, where its contracts are: sha256 4402dcbf2cd92c31.
 //!
 //! How a directory is entered.
 
@@ -21,14 +21,14 @@ impl Searcher {
         if entries.is_empty() {
             return Ok(());
         }
-        let heard = self.heard.files.len();
+        let active = self.active.files.len();
         let Opening { path, alive } = opening;
-        self.way.frames.push(Frame { path, alive, source, entries, files: 0, heard });
+        self.way.frames.push(Frame { path, alive, source, entries, files: 0, active });
         Ok(())
     }
 
-    /// How to learn the entries of a directory. Names are looked up if only literals lead on. Otherwise it is listed,
-    /// without kinds if none are needed and only entries that literals name may be entered.
+    /// How to learn the entries of a directory. If only literals lead on, their names are looked up. Otherwise the
+    /// directory is listed, without kinds if no kinds are needed and only entries named by literals may be entered.
     fn source_of(&self, opening: &Opening) -> Source {
         let alive = opening.alive.as_slice();
         if self.beginnings.is_literal(alive) {

@@ -1,10 +1,10 @@
-//! Made by `bin/rust_crate` from `crates/glob_set/src/braces/escaping.rt`, where its contracts are: sha256 8a984e95de9bf0d4.
+//! Made by `bin/rust_crate` from `crates/glob_set/src/braces/escaping.rt`, where its contracts are: sha256 b03024f8bb2e4995.
 //!
 //! Escaped texts: patterns with braces that match the text they are made from.
 
 /// Escapes a text to a pattern with braces that matches it: puts each `?`, `*`, `[`, `]`, `{` and `}` in a bracket of
-/// its own, and keeps every other character. `{a}*` becomes `[{]a[}][*]`, which is its own only alternative in
-/// [`expand`](crate::proved::glob_set::braces::expand).
+/// its own, and keeps every other character. `{a}*` becomes `[{]a[}][*]`, which
+/// [`expand`](crate::proved::glob_set::braces::expand) returns as its only alternative.
 ///
 /// ```
 /// use cadmiumdove::set::braces::{escape, expand};

@@ -1,4 +1,4 @@
-//! Made by `bin/rust_crate` from `crates/glob_set/src/set/asking.rt`, where its contracts are: sha256 70d6473fc2deb03d.
+//! Made by `bin/rust_crate` from `crates/glob_set/src/set/asking.rt`, where its contracts are: sha256 863175843aa74ec7.
 //!
 //! Asking the patterns of a set that may match a text.
 
@@ -6,7 +6,7 @@ use crate::proved::glob_set::found::Found;
 use crate::proved::glob_set::pairs::{text_bits, text_class, Need};
 use crate::proved::glob_set::set::PatternSet;
 
-/// The bits of a text are computed if a list has at least this many patterns to ask. Fewer are asked faster without.
+/// How many patterns there must be to ask before the bits of a text are computed. Fewer are asked faster without them.
 const FEWEST_WITH_BITS: usize = 3;
 
 impl PatternSet {
@@ -57,7 +57,7 @@ impl PatternSet {
         self.push_of(found.numbers(), text, bits, numbers)
     }
 
-    /// Adds those of the asked numbers whose patterns match the text.
+    /// Adds the asked numbers whose patterns match the text.
     fn push_of(&self, asked: &[usize], text: &str, bits: Option<u128>, numbers: &mut Vec<usize>) {
         for number in asked {
             if self.matches_at(*number, text, bits) {

@@ -1,4 +1,4 @@
-//! Made by `bin/rust_crate` from `crates/glob_walk/src/frame/tasks.rt`, where its contracts are: sha256 ff876fc5e00d3f3b.
+//! Made by `bin/rust_crate` from `crates/glob_walk/src/frame/tasks.rt`, where its contracts are: sha256 f05be340e71321d2.
 //!
 //! The tasks that follow from a directory's entries, and from `.` and `..` in it.
 //!
@@ -48,8 +48,8 @@ impl Frame {
     }
 }
 
-/// The number of the component with which the walk goes on at an entry, if the entry is met: by the component of this
-/// number, or under `**` by the next one. A `**` at the pattern's end meets each entry that it enters.
+/// The number of the component with which the walk goes on at an entry, if the entry is met: by the component with this
+/// number, or under `**` by the component after it. A `**` at the pattern's end meets each entry that it enters.
 fn meet(plan: &Plan, recursive: bool, number: usize, name: &str, is_dir: bool) -> Option<usize> {
     let next = if recursive { number + 1 } else { number };
     match plan.component(next) {

@@ -1,4 +1,4 @@
-//! Made by `bin/rust_crate` from `crates/glob_pattern/src/pattern/char_masks/row.rt`, where its contracts are: sha256 a265cfd8e119518b.
+//! Made by `bin/rust_crate` from `crates/glob_pattern/src/pattern/char_masks/row.rt`, where its contracts are: sha256 c98ad0d923af2915.
 //!
 //! A row of masks: for each class of characters, which of 63 neighbouring tokens take them.
 
@@ -55,7 +55,7 @@ fn invert(row: &mut [u64], bits: u64) {
     }
 }
 
-/// Lists a token: sets its bit in the masks of the characters that it lists, and in those of its kinds. Returns the
+/// Lists a token: sets its bit in the masks of the characters that it lists, and in the masks of its kinds. Returns the
 /// kinds.
 #[inline(always)]
 fn list_token(
@@ -86,7 +86,7 @@ fn list_token(
     }
 }
 
-/// Sets the bit in the mask of the character, and case-insensitively also in that of its other case.
+/// Sets the bit in the mask of the character, and case-insensitively also in the mask of its other case.
 #[inline(always)]
 fn list_literal(row: &mut [u64], classes: Classes<'_>, bit: usize, c: char, case_sensitive: bool) {
     if case_sensitive {
@@ -115,8 +115,8 @@ fn list_all(row: &mut [u64], classes: Classes<'_>, bit: usize, entries: &[Entry]
     }
 }
 
-/// Sets the bit in the masks of the characters from `first` to `last`. If both are letters, case-insensitively also in
-/// those of the other case.
+/// Sets the bit in the masks of the characters from `first` to `last`. Case-insensitively, if both are letters, also in
+/// the masks of the same letters in the other case.
 #[inline(always)]
 fn list_cases(row: &mut [u64], classes: Classes<'_>, bit: usize, first: char, last: char, case_sensitive: bool) {
     list_interval(row, classes, bit, first, last);
@@ -129,7 +129,7 @@ fn list_cases(row: &mut [u64], classes: Classes<'_>, bit: usize, first: char, la
     list_interval(row, classes, bit, upper, last_upper);
 }
 
-/// Whether a range holds either case: case-insensitively, if both ends are letters.
+/// Whether a range holds its letters in both cases: if matching is case-insensitive and both ends are letters.
 #[inline(always)]
 fn has_cases(case_sensitive: bool, first: char, last: char) -> bool {
     !case_sensitive && are_letters(first, last)
