@@ -101,7 +101,7 @@ abbrev pub IsAmong : (texts : List Text) → (text : Text) → Type 0
 IsAmong texts text =
     (number : ℕ) × (number < length texts) × (slice_index_or texts number [] ≡ text)
 
--- the text is balanced, with this alternative
+-- this is one of the alternatives of a balanced text
 unfoldable pub IsAlternative : Text → (alternative : Text) → Type 0
 IsAlternative text alternative =
     (alternatives : List Text) × AreAlternatives text alternatives × IsAmong alternatives alternative

@@ -36,7 +36,7 @@ impl<A: Allocator> Bucket<A> {
         }
     }
 
-    /// The numbers, such as 1 and 4.
+    /// The numbers of the patterns in this bucket.
     #[inline(always)]
     pub fn numbers(&self) -> &[usize]
         ensures { result.now ≡ self.now }
@@ -131,7 +131,7 @@ impl<A: Allocator> Buckets<A> {
 }
 
 impl<A: Allocator + Copy> Buckets<A> {
-    /// Lists the patterns without a key by what they need.
+    /// Sorts the patterns without a key into buckets, by what a text needs to match them.
     pub fn new(alloc: A, needs: &[Need], keys: &[Option<Key>]) -> Result<Self, AllocError>
         requires keys { length keys.now ≡ length needs.now }
         requires classes { All HasSmallClass needs.now }

@@ -118,7 +118,7 @@ module _ (o : MatchOptions) (tokens : List Token) (text : Text) (n i : ℕ) (for
   unfolding table_of
   room fixed rest = room-one table n (shape_at tokens n) (shapes_from tokens (n + 1)) i (sym is.many ∙ fixed) (split-at rest)
 
-  -- which ends at the next place
+  -- a shape that takes one character ends at the next place
   pub shortest_one : form.grows ≡ false → TakesRest o tokens text n i → IsShortestEnd table n (shape_at tokens n)
       (shapes_from tokens (n + 1)) i (i + 1)
   shortest_one fixed rest = shortest-one table n (shape_at tokens n) (shapes_from tokens (n + 1)) i (sym is.many ∙ fixed) (split-at rest)

@@ -36,7 +36,7 @@ same_answer true false to from = absurd (false≢true (to refl))
 same_answer false true to from = absurd (false≢true (from refl))
 same_answer false false to from = refl
 
--- an answer that is yes exactly if a record matches is the computed one
+-- an answer that is `true` exactly if the record matches equals the computed one
 pub IfOk-computed : {E : Type 0} (r : Result Bool E) (o : MatchOptions) (pattern one : List ℕ) → IfOk r
     (λ b. IsTrue b ↔ RecordMatches o pattern one) → IfOk r (λ b. b ≡ record_matches o pattern one)
 IfOk-computed (Ok b) o pattern one (to, from) =
@@ -75,7 +75,7 @@ module _ (end : ℕ) (P : List ℕ → Type 0) (decided : (one : List ℕ) → P
   pub kept_records : (input : List ℕ) → (kept : List (List ℕ)) × AreKept P (records_of end input) kept
   kept_records input = AreKept-exists P decided (records_of end input)
 
-  -- if nothing was written, the first zero records were
+  -- writing nothing is writing the first zero records
   pub some_records-none : (input : List ℕ) (known : Option (List ℕ)) → WritesSomeKept end P input known known
   some_records-none input known =
       let (kept, are) = kept_records input in (kept, are, (0, appends_none known))

@@ -109,7 +109,7 @@ module _ (tokens : List Token) (start : ℕ) where
     bits = λ j lt. inverted _ _ _ _ (p _) (q _) (first.bits j lt) (second.bits j lt) (IsBitSet-xor a b j);
   }
 
--- the mask of a class has the bit of a token that takes a character of it
+-- the mask of a class has the bits of the tokens that take its characters
 at_class : (masks : List ℕ) (j class r : ℕ) (a b : Bool) (within : Type 0) → class ≡ r → b ≡ a → IsBitSet
     (mask_at masks r) j ↔ (within × IsTrue a) → IsBitSet (mask_at masks class) j ↔ (within × IsTrue b)
 at_class masks j class r a b within e f h = rw (e, f) h

@@ -126,7 +126,7 @@ fn run_words<T: Shaped, J: Judge>(
 }
 
 /// Steps the first word, in a loop of its own, until a position in another word is alive: then it returns the live
-/// words. `None` if the characters end before, or nothing is alive: then the shapes do not split the characters.
+/// words. Returns `None` if the characters end first or nothing is alive: then the shapes do not split the characters.
 #[inline(always)]
 fn run_first<T: Shaped, J: Judge>(
     tokens: &[T],

@@ -36,7 +36,7 @@ after_lexeme Open r =
 after_lexeme Comma r = after_comma r.texts r.groups
 after_lexeme Close r = after_close r.texts r.groups
 
--- after all these lexemes
+-- the reading after these lexemes
 abbrev pub after_lexemes : Reading → List Lexeme → Reading
 after_lexemes r [] = r
 after_lexemes r (l ∷ ls) = after_lexemes (after_lexeme l r) ls

@@ -25,7 +25,7 @@ hash_of (Extension hash len) = hash
 abbrev pub hash_back : List ℕ → ℕ
 hash_back bytes = fold hashed 0 (reverse bytes)
 
--- the key is that of a component of the text, or of the beginning of one
+-- the key of a component of the text, or of the beginning of one
 abbrev pub IsComponentOf : (bytes : List ℕ) → Key → Type 0
 IsComponentOf bytes (Component hash) =
     (front : List ℕ) × (back : List ℕ) × (bytes ≡ front ++ back) × IsTrue (is_end back)

@@ -36,8 +36,8 @@ pub fn count_of<A: Allocator>(alloc: A, lexemes: &[Lexeme]) -> Result<usize, Bra
     }
 }
 
-/// Reads one more lexeme. `count` is the number of alternatives since the last open `{` or its last comma; the result
-/// is the new one.
+/// Reads one more lexeme. `count` is the number of alternatives of the current branch, which began after the innermost
+/// open `{` or its last comma. Returns the new count.
 fn count_lexeme<A: Allocator>(
     opened: &mut Vec<Opened, A>,
     count: usize,

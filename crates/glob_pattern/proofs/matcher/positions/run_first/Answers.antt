@@ -24,12 +24,14 @@ module _ (table : Table) (shapes : List Shape) (end : ℕ) where
       let back : p - 1 ≡ k = omega (arith, next) in
       none-taken_in_words table shapes end (set list 0 word) 1 (length list) p
       (rw back (record { word = λ n low high. run.alive.word n (omega arith) (omega (arith, high, many)) }))
-      (λ n low high. rw (get_or-set_other list 0 n word 0 (omega (arith, low))) (zeros n high)) t (omega (arith, from)) (omega (arith, lt, all)) lt
+      (λ n low high. rw (get_or-set_other list 0 n word 0 (omega (arith, low))) (zeros n high))
+      t (omega (arith, from)) (omega (arith, lt, all)) lt
 
   -- so that asking those of the first word is asking all
   asked-all : (p before after : ℕ) → WereAsked table shapes 0 (word_end end 0) p before after
       → ((t : ℕ) → 63 ≤ t → t < end → ¬ (HasTaken table shapes t p)) → WereAsked table shapes 0 end p before after
-  asked-all p before after asked none = WereAsked-joined table shapes 0 (word_end end 0) end p before after after (omega arith) (omega arith) asked
+  asked-all p before after asked none = WereAsked-joined table shapes 0 (word_end end 0) end p before after after
+      (omega arith) (omega arith) asked
       (WereAsked-none table shapes (word_end end 0) end p after (λ t low lt. none t (omega (arith, low, lt)) lt))
 
   -- where no position after the first word is alive, the shapes are not whole
