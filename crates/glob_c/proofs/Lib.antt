@@ -1,7 +1,6 @@
-pub mod GivenSteps
 pub mod LooseValues
 pub mod Messages
+pub mod Resumed
 pub mod SlotBoxes
 pub mod SlotValues
-pub mod UnreadSteps
 pub mod Written

@@ -13,6 +13,8 @@ use Rattle.glob_walk.specs.Machines.{MachineState, Saying, AsksLook, AsksList, S
 use Rattle.glob_walk.specs.Private.Walkers.{Walk}
 use Rattle.glob_walk.specs.Walks.{Found, Unread, Gives, LimitAt, NoMemory}
 use Rattle.glob_walk.specs.Questions.{IsSomeContent, IsListedIn, question_path}
+use Rattle.glob_walk.specs.declared.machine.Answer.{Answer}
+use Rattle.glob_walk.specs.declared.machine.Answer.TheVariants as answer
 use Rattle.glob_c.specs.declared.session.Reply.{Reply}
 use Rattle.glob_c.specs.declared.session.Reply.TheVariants as reply
 
@@ -38,6 +40,12 @@ abbrev pub error_path : Saying → Option Text
 error_path (Says (Gives (Unread path kind))) = Some path
 error_path (Says (LimitAt path)) = Some path
 error_path _ = None
+
+-- the answer that the machine gets: none yet while entries are being added
+abbrev pub answer_of : Reply → Answer Global
+answer_of (reply.Look seen) = answer.Look (Ok seen)
+answer_of (reply.Listed r) = answer.List r
+answer_of _ = answer.Nothing
 
 -- if a question is open, the reply is the content's answer to it
 abbrev pub RepliesTo : Saying → Reply → MachineState (Walk Global) → Content → Type 0

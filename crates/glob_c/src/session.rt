@@ -9,11 +9,11 @@ ghost use Rattle.glob_walk.specs.Questions.{question_path};
 ghost use Rattle.glob_walk.specs.Walks.{Gives, outcome, Found, Item, Mark};
 ghost use Rattle.glob_c.specs.Answers.{done, is_entry_answer, no_name, not_asked, not_utf8, out_of_memory};
 ghost use Rattle.glob_c.specs.Sessions.{AreListed, Counts, IsUnanswered, IsUnread, Replies, RepliesTo, SaysUnread};
-ghost use Rattle.glob_c.specs.Sessions.{entries_so_far, error_path, kind_of};
+ghost use Rattle.glob_c.specs.Sessions.{answer_of, entries_so_far, error_path, kind_of};
 
 use crate::pattern::{DONE, NOT_UTF8, OUT_OF_MEMORY};
 use glob_tree::{Entry, ListError, Look, Name};
-use glob_walk::{GlobCause, GlobResult, Step, WalkMachine};
+use glob_walk::{Answer, GlobCause, GlobResult, Step, WalkMachine};
 use std::alloc::Global;
 use std::marker::Model;
 use std::{io, mem};
@@ -85,9 +85,8 @@ impl Session {
             → Replies self.old c → HasGiven all c given self.old.machine
             → GivesNext all c given self.new.said self.new.machine }
     {
-        let said = mem::replace(&mut self.step, Step::Done);
         let reply = mem::replace(&mut self.reply, Reply::Nothing);
-        self.step = step_after(&mut self.machine, said, reply);
+        self.step = self.machine.resume(answer_of(reply));
         self.reply = first_reply(alloc, &self.step);
         kind_of(&self.step)
     }
@@ -219,31 +218,14 @@ fn first_reply(alloc: Global, step: &Step<Global>) -> Reply
     }
 }
 
-/// The step that follows another one and its reply.
-#[tactic(auto, using(crate::proofs::UnreadSteps::unread_said))]
-fn step_after(machine: &mut WalkMachine<Global>, said: Step<Global>, reply: Reply) -> Step<Global>
-    requires { IsAskedAfter (saying said) machine.old.asked }
-    ensures asks { IsAskedAfter (saying result) machine.new.asked }
-    ensures counts { Counts (saying said) reply machine.old (saying result) machine.new }
-    ensures unread { SaysUnread (saying said) reply machine.old (saying result) }
-    ensures driven { (c : Content) → (all : List Mark) → (given : List Item)
-        → RepliesTo (saying said) reply machine.old c → HasGiven all c given machine.old
-        → GivesNext all c given (saying result) machine.new }
+/// The answer that a reply gives to the machine: none yet while entries are being added.
+fn answer_of(reply: Reply) -> Answer<Global>
+    ensures { result ≡ answer_of reply }
 {
-    match said {
-        Step::Look => match reply {
-            Reply::Look(seen) => machine.looked(Ok(seen)),
-            Reply::Nothing | Reply::Entries(_) | Reply::Listed(_) => Step::Look,
-        },
-        Step::List => match reply {
-            Reply::Listed(listed) => machine.listed(listed),
-            Reply::Nothing | Reply::Entries(_) | Reply::Look(_) => Step::List,
-        },
-        Step::ListNames => match reply {
-            Reply::Listed(listed) => machine.listed(listed),
-            Reply::Nothing | Reply::Entries(_) | Reply::Look(_) => Step::ListNames,
-        },
-        Step::Item(_) | Step::Done => machine.next(),
+    match reply {
+        Reply::Look(seen) => Answer::Look(Ok(seen)),
+        Reply::Listed(listed) => Answer::List(listed),
+        Reply::Nothing | Reply::Entries(_) => Answer::Nothing,
     }
 }
 

@@ -1,3 +1,4 @@
+-- The lines and records of a stream: where they are split, which match, and what copying them writes.
 pub mod CopiedRecords
 pub mod FilteredLines
 pub mod Filtering

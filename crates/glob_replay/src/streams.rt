@@ -37,7 +37,7 @@ pub struct Stream<'a> {
     pub flushes: u64,
     /// A clock that each write advances by one.
     pub clock: Option<&'a Cell<u64>>,
-    /// From when to when each write is due. If this is empty, writes may come at any time.
+    /// The first and the last time at which each write may come. If this is empty, writes may come at any time.
     pub due: Vec<(u64, u64)>,
 }
 

@@ -67,7 +67,7 @@ fn add_same<M: Memory>(
     add_memory(calls, tokens, requests)
 }
 
-/// Asks the pattern that another call parses, and a copy of it.
+/// Parses the pattern a second time, and asks the result and a copy of it.
 fn add_again<M: Memory>(
     calls: &mut Calls<M>,
     asked: Asked<'_>,

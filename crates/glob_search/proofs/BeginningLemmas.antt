@@ -1,3 +1,4 @@
+-- The tree of the beginnings of patterns: adding patterns to it, and which beginnings take the names on the way.
 pub mod Adding
 pub mod Fronts
 pub mod Gathering

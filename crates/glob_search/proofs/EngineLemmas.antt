@@ -1,3 +1,4 @@
+-- A search against the written gifts: directories on the way, listings, what is met in them, and each next item.
 pub mod Ending
 pub mod Entering
 pub mod Falling

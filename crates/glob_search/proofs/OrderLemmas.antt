@@ -1,3 +1,4 @@
+-- The written gifts: ascending, each at most once, complete, and none but what is found.
 pub mod Ascending
 pub mod Beginnings
 pub mod Complete

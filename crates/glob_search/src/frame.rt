@@ -36,7 +36,7 @@ pub struct Frame<A: Allocator> {
     pub entries: Vec<Entry<A>, A>,
     /// How many names of ignore files are done: the file was read, or is known to be missing.
     pub files: usize,
-    /// How many of the lists in `ActiveRules::files` come from above it.
+    /// How many lists of `ActiveRules::files` were there when it was entered.
     pub active: usize,
 }
 

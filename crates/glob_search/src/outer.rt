@@ -72,7 +72,7 @@ pub fn outer_said<A: Allocator + Copy>(
     Ok(last)
 }
 
-/// Whether the lists ignore the directory with this name in the start.
+/// Whether the lists ignore a directory of this name that is directly in the start.
 pub fn ignores_directory<A: Allocator + Copy>(
     alloc: A,
     lists: &[OuterRules<A>],

@@ -38,7 +38,7 @@ pub struct Frame<A: Allocator> {
     /// Its path.
     pub path: String<A>,
     /// The number of the component that it was listed for. A component with wildcards is matched against the entries;
-    /// for `**`, the component after it is.
+    /// for `**`, the component after it is matched.
     pub component: usize,
     /// Whether that component is `**`.
     pub recursive: bool,

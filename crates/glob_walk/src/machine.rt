@@ -1,15 +1,15 @@
 //! A walk that asks its caller, and reads nothing by itself.
-ghost use Rattle.std.specs.Prelude.{◌≡◌, ◌<◌, ◌≤◌, ◌+◌, ℕ, List, [], None, false, IsTrue, IfOk, IfErr, IsSome, string_bytes, if◌then◌else◌};
+ghost use Rattle.std.specs.Prelude.{◌≡◌, ◌<◌, ◌≤◌, ◌+◌, ℕ, List, None, false, IsTrue, IfOk, IfErr, IsSome, string_bytes, if◌then◌else◌};
 ghost use Rattle.std.specs.Path.{root_dir, cur_dir};
-ghost use Rattle.glob_tree.specs.Answers.{IsTold, entry_count};
+ghost use Rattle.glob_tree.specs.Answers.{IsTold};
 ghost use Rattle.glob_tree.specs.Content.{Content, is_content};
 ghost use Rattle.glob_walk.specs.Goal.{are_plain, is_plain};
-ghost use Rattle.glob_walk.specs.Walks.{levels, listing, NoMemory, RefusesWith};
-ghost use Rattle.glob_walk.specs.Machines.{Agrees, IsAskedAfter, IsFresh, Says, StepGoes, list_error_outcome, left_of, saying, listing_of};
+ghost use Rattle.glob_walk.specs.Walks.{levels, listing, RefusesWith};
+ghost use Rattle.glob_walk.specs.Machines.{Agrees, IsAskedAfter, IsFresh, Says, StepGoes, saying, listing_of};
 ghost use Rattle.glob_walk.specs.Components.{walk_fault};
 ghost use Rattle.glob_walk.specs.Private.Stacks.{aim_of};
 ghost use Rattle.glob_walk.specs.Answers.{IfFailed, IsAnswer, IsAnswered, answer_count};
-ghost use Rattle.glob_walk.specs.Questions.{IsLook, IsList, IsListedIn, IsSeenIn, IsSomeContent, question_path, question_units};
+ghost use Rattle.glob_walk.specs.Questions.{IsSomeContent, question_path, question_units};
 
 use crate::error::GlobResult;
 use crate::meter::Meter;
@@ -26,43 +26,40 @@ use std::marker::Model;
 /// What a walk does next.
 #[derive(Drop)]
 pub enum Step<A: Allocator = Global> {
-    /// It asks what [`path`](WalkMachine::path) leads to, and [`looked`](WalkMachine::looked) answers.
+    /// It asks what [`path`](WalkMachine::path) leads to. [`Answer::Look`] answers.
     Look,
-    /// It asks for the entries of the directory at [`path`](WalkMachine::path), and [`listed`](WalkMachine::listed)
-    /// answers.
+    /// It asks for the entries of the directory at [`path`](WalkMachine::path). [`Answer::List`] answers.
     List,
-    /// It asks for the same, but needs only the names: `is_dir` may be `false` for any entry.
-    /// [`listed`](WalkMachine::listed) answers.
+    /// It asks for the same, but needs only the names: `is_dir` may be `false` for any entry. [`Answer::List`] answers.
     ListNames,
     /// It gives an item: a path, or an error. After an error with the cause `Limit` or `Memory`, only `Done` follows.
     Item(GlobResult<A>),
-    /// Nothing is left: each further call of [`next`](WalkMachine::next) returns it again.
+    /// Nothing is left: each further call returns it again.
     Done,
 }
 
-/// The answer to the open question, as [`ask`](WalkMachine::ask) returns it. For a look at the directory `a` it is an
-/// `Answer::Look` with `Look::Dir`.
+/// An answer to the open question. For a look at the directory `a` it is `Answer::Look(Ok(Look::Dir))`.
 #[derive(Drop)]
 pub enum Answer<A: Allocator = Global> {
-    /// No question is open.
+    /// There is no answer, since no question is open.
     Nothing,
-    /// The answer to a look.
+    /// What a look found. `Err` means that memory ran out.
     Look(Result<Look, AllocError>),
-    /// The answer to a listing, of entries or of names.
+    /// The entries of a directory, or only their names, in any order; or why it could not be listed.
     List(Result<Vec<Entry<A>, A>, ListError>),
 }
 
 /// A walk without a tree: it asks one question after another, and its caller answers them from a file system, an
-/// archive or a network, at once or later. If a [`Tree`](glob_tree::Tree) answers, as in `Paths` of the crate `glob`,
-/// [`advance`](WalkMachine::advance) is the only call that is needed.
+/// archive or a network, at once or later, by [`resume`](WalkMachine::resume). If a [`Tree`](glob_tree::Tree) answers,
+/// as in `Paths` of the crate `glob`, [`advance`](WalkMachine::advance) is the only call that is needed.
 ///
 /// ```text
 /// let mut machine = WalkMachine::new(alloc, "*", MatchOptions::new(), 100)?;
-/// machine.next()                  // Step::Look; machine.path() is "."
-/// machine.looked(Ok(Look::Dir))   // Step::ListNames; machine.path() is "."
-/// machine.listed(Ok(entries))     // of files `y` and `x`: Step::Item(Ok("x"))
-/// machine.next()                  // Step::Item(Ok("y"))
-/// machine.next()                  // Step::Done; machine.spent() is 4
+/// machine.resume(Answer::Nothing)               // Step::Look; machine.path() is "."
+/// machine.resume(Answer::Look(Ok(Look::Dir)))   // Step::ListNames; machine.path() is "."
+/// machine.resume(Answer::List(Ok(entries)))     // of files `y` and `x`: Step::Item(Ok("x"))
+/// machine.resume(Answer::Nothing)               // Step::Item(Ok("y"))
+/// machine.resume(Answer::Nothing)               // Step::Done; machine.spent() is 4
 /// ```
 ///
 /// As long as all answers come from one content, its questions and items are those of the written listing, in order:
@@ -150,15 +147,6 @@ impl<A: Allocator + Copy> WalkMachine<A> {
         }
     }
 
-    /// The next step when no question is open: at first, and after an item. The first step of each walk is
-    /// `Step::Look`, at the path `.` or `/`; at a limit of 0 it is an error with the cause `Limit`.
-    pub fn next(&mut self) -> Step<A>
-        requires free { self.old.asked ≡ None }
-        ensures steps { StepGoes IsSomeContent 0 self.old (saying result) self.new }
-    {
-        self.resume(Answer::Nothing)
-    }
-
     /// The next step, with the open question, if there is one, answered by a tree. These calls are enough for a whole
     /// walk: for `*` over a file `x` they return `Look`, `ListNames`, the item `x`, and `Done`.
     ///
@@ -196,36 +184,15 @@ impl<A: Allocator + Copy> WalkMachine<A> {
         }
     }
 
-    /// Answers the open look, and returns the next step. If `*` looks at `.`, then `looked(Ok(Look::Dir))` returns
-    /// `Step::ListNames`, and `looked(Ok(Look::Missing))` returns `Step::Done`. `Err` means that memory ran out: the
-    /// step is then an error with the cause `Memory`, and the walk is over.
-    pub fn looked(&mut self, seen: Result<Look, AllocError>) -> Step<A>
-        requires asked { IsLook self.old.asked }
-        ensures failed { IfErr seen (λ _. saying result ≡ Says NoMemory) }
-        ensures steps { StepGoes (IsSeenIn self.old.asked seen) 0
-            self.old (saying result) self.new }
-    {
-        self.resume(Answer::Look(seen))
-    }
-
-    /// Answers the open listing, of entries or of names, with its entries in any order, and returns the next step. Each
-    /// entry costs one unit of work. If `*` lists `.`, `listed` with the files `y` and `x` returns the item `x`. After
+    /// Takes the answer to the open question, and returns the next step. If no question is open, as at first and after
+    /// an item, the answer does not matter: give `Answer::Nothing`. An answer to another question leaves the walk as it
+    /// is: the question is asked again, at no cost.
+    ///
+    /// The first step of each walk is `Step::Look`, at the path `.` or `/`; at a limit of 0 it is an error with the
+    /// cause `Limit`. If `*` has looked at `.`, `Answer::Look(Ok(Look::Dir))` leads to `Step::ListNames`, and
+    /// `Answer::Look(Ok(Look::Missing))` to `Step::Done`. Each entry of a listing costs one unit of work. After
     /// `Err(ListError::Read(e))` the step is an error with the path, the kind of `e` and the cause `Read`, and the walk
-    /// goes on; after `Err(ListError::Memory)` it is an error with the cause `Memory`, and the walk is over.
-    pub fn listed(&mut self, listed: Result<Vec<Entry<A>, A>, ListError>) -> Step<A>
-        requires asked { IsList self.old.asked }
-        ensures failed { IfErr listed
-            (λ e. saying result ≡ Says (list_error_outcome (question_path self.old.asked) e)) }
-        ensures steps { StepGoes (IsListedIn self.old.asked listed) (entry_count listed)
-            self.old (saying result) self.new }
-    {
-        self.resume(Answer::List(listed))
-    }
-
-    /// Takes the answer to the open question, if there is one, and returns the next step, like
-    /// [`looked`](WalkMachine::looked), [`listed`](WalkMachine::listed) and [`next`](WalkMachine::next):
-    /// `Answer::Look(seen)` has the effect of `looked(seen)`. If no question is open, the answer does not matter. An
-    /// answer to another question leaves the walk as it is: the question is asked again, at no cost.
+    /// goes on. If memory ran out, it is an error with the cause `Memory`, and the walk is over.
     pub fn resume(&mut self, answer: Answer<A>) -> Step<A>
         ensures failed { IsAnswer self.old.asked answer
             → IfFailed answer (question_path self.old.asked) (λ o. saying result ≡ Says o) }

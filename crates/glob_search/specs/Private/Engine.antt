@@ -61,7 +61,7 @@ pub record IsFrame {A : Type 0} (c : Content) (a : Aim) (b : Beginnings A) (f : 
   pub entries : All (IsEntry c (frame_names f) f.source) f.entries.items
   pub active : f.active ≡ length (lists_above a (frame_names f))
 
--- These are the directories on the way, the last one first. At least this many ignore files of each are done.
+-- The directories on the way, the last one first, each with at least this many ignore files done.
 abbrev pub AreFrames : {A : Type 0} → Content → Aim → Beginnings A → (files : ℕ) → List (Frame A) → Type 0
 AreFrames c a b files [] = ⊤
 AreFrames c a b files (f ∷ fs) = IsFrame c a b f fs × (files ≤ f.files) × AreFrames c a b files fs

@@ -148,7 +148,7 @@ impl<A: Allocator + Copy> Beginnings<A> {
         Ok(Component::Wild(Pattern::new(self.alloc, text)?))
     }
 
-    /// Adds a beginning that a component leads to.
+    /// Adds a beginning to which a component leads from the beginning `at`.
     fn lead(&mut self, at: usize, component: Component<A>) -> Result<usize, AllocError>
         requires { at < vec_len self.old.nodes }
         ensures options { self.new.options ≡ self.old.options }
