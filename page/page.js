@@ -2,7 +2,7 @@
 "use strict";
 const $ = (id) => document.getElementById(id);
 const FAULT = 2, YES = 1, NO = 0;
-const TROUBLE = { 3: "There is no memory left.", 4: "This is not UTF-8.", 5: "This is too long for the page.", 6: "This path is none." };
+const TROUBLE = { 3: "Memory ran out.", 4: "This is not UTF-8.", 5: "This is too long for the page.", 6: "This is not a path." };
 
 // ---- The heap: three functions that the code imports. What a call allocates is free again once the call has ended.
 const MOST = 1 << 28; // bytes
@@ -115,8 +115,8 @@ const IGNORE = 1, SEPARATOR = 2, DOT = 4;
 // Why a wildcard or a bracket does not take the character of a text there, by a rule; or nothing.
 function ruleAgainst(token, all, place, isLast) {
   const here = all[place], begins = place === 0 || all[place - 1] === "/";
-  if (here === "/" && flags() & SEPARATOR && token.kind !== "components") return "but by the separator rule no /";
-  if (here === "." && begins && flags() & DOT) return "but by the dot rule no . that begins a component";
+  if (here === "/" && flags() & SEPARATOR && token.kind !== "components") return "but no /, by the separator rule";
+  if (here === "." && begins && flags() & DOT) return "but no . at the start of a component, by the dot rule";
   return token.kind === "components" && !isLast && !all.slice(place).includes("/") ? "but there is no / after here" : "";
 }
 
@@ -124,7 +124,7 @@ function ruleAgainst(token, all, place, isLast) {
 function wantOf(token, all, place, isLast) {
   if (token.kind === "literal") {
     const here = all[place] || "";
-    return /^[A-Za-z]$/.test(here) && here.toLowerCase() === token.written.toLowerCase() ? "in upper or lower case as here" : "";
+    return /^[A-Za-z]$/.test(here) && here.toLowerCase() === token.written.toLowerCase() ? "in exactly this case" : "";
   }
   const inner = quoted(token.written.slice(token.isNone ? 2 : 1, -1));
   const words = {

@@ -93,7 +93,7 @@ join-next [] n h = refl
 join-next (m ∷ ms) n h =
     let path = join_with_byte slash (m ∷ ms) in
     join_open path n (some-joined m ms (IsName-from_proper m (and_parts (is_proper m) (list_all is_proper ms) h).0).some)
-        (joined-open m ms h)
+    (joined-open m ms h)
     ∙ append_assoc path (slash ∷ []) n
     ∙ sym (join-more m ms n)
 
