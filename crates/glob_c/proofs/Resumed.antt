@@ -1,19 +1,17 @@
 -- A step of the walk of a session: what it does with the answer that the reply gives.
-use Rattle.std.proofs.Common.{◌≡◌, ℕ, ◌⊎◌, inl, inr, ⊎_elim, Bool, List, Option, Some, None, Ok, Err, Result, Vec, IsSome, refl, sym, ap, subst, ◌∙◌, both_ways}
+use Rattle.std.proofs.Common.{◌≡◌, ◌⊎◌, inl, inr, ⊎_elim, Bool, List, Option, Some, None, Ok, IsSome, refl, sym, ap, subst, ◌∙◌}
+use Rattle.std.proofs.lemmas.Bool.{both_ways}
 use Rattle.std.specs.declared.alloc.Global.{Global}
 use Rattle.glob_tree.specs.Content.{Content, look_result}
-use Rattle.glob_tree.specs.declared.tree.Entry.{Entry}
-use Rattle.glob_tree.specs.declared.tree.ListError.{ListError}
-use Rattle.glob_tree.specs.declared.tree.ListError.TheVariants.{Read, Memory}
 use Rattle.glob_tree.specs.declared.tree.Look.{Look}
-use Rattle.glob_walk.specs.Answers.{IsAnswer, IfFailed, answer_count}
+use Rattle.glob_walk.specs.Answers.{IsAnswer, answer_count}
 use Rattle.glob_walk.specs.Answers as walks
 use Rattle.glob_walk.specs.declared.machine.Answer.{Answer}
 use Rattle.glob_walk.specs.Machines.{MachineState, Saying, AsksLook, AsksList, Says, Ends, IsAskedAfter, StepGoes, HasGiven, GivesNext}
 use Rattle.glob_walk.specs.Private.Walkers.{Walk}
 use Rattle.glob_walk.specs.Questions.{Question, LookAt, ListAt, IsLook, IsList, IsListWith, IsSomeContent, IsSeenIn, question_path}
 use Rattle.glob_walk.specs.Walks.{Item, Mark}
-use Rattle.glob_c.specs.Sessions.{answer_of, entries_said, Counts, IsAnswered, RepliesTo, SaysUnread}
+use Rattle.glob_c.specs.Sessions.{answer_of, entries_said, Counts, IsAnswered, RepliesTo}
 use Rattle.glob_c.specs.declared.session.Reply.{Reply}
 use Rattle.glob_c.specs.declared.session.Reply.TheVariants as reply
 
@@ -90,10 +88,16 @@ record GoesBy (said : Saying) (r : Reply) (old : MachineState (Walk Global)) (s 
 
 -- what `resume` does with an answer
 pub record Resumes (a : Answer Global) (old : MachineState (Walk Global)) (s : Saying) (new : MachineState (Walk Global)) : Type 0 where
-  pub failed : IsAnswer old.asked a → IfFailed a (question_path old.asked) (λ o. s ≡ Says o)
   pub steps : IsAnswer old.asked a → StepGoes (walks.IsAnswered old.asked a) (answer_count a) old s new
   pub free : old.asked ≡ None → StepGoes IsSomeContent 0 old s new
   pub waits : IsSome old.asked → ¬ (IsAnswer old.asked a) → IsAskedAfter s old.asked × (new ≡ old)
+
+pub resumed : {a : Answer Global} {old : MachineState (Walk Global)} {s : Saying} {new : MachineState (Walk Global)}
+    → (r : Reply) → a ≡ answer_of r → (IsAnswer old.asked a → StepGoes (walks.IsAnswered old.asked a) (answer_count a) old s new)
+    → (old.asked ≡ None → StepGoes IsSomeContent 0 old s new)
+    → (IsSome old.asked → ¬ (IsAnswer old.asked a) → IsAskedAfter s old.asked × (new ≡ old)) → Resumes (answer_of r) old s new
+resumed {old = old} {s = s} {new = new} r is steps free waits =
+    subst (λ a. Resumes a old s new) is (record { steps = steps; free = free; waits = waits })
 
 goes_by : (said : Saying) (r : Reply) (old : MachineState (Walk Global)) (s : Saying) (new : MachineState (Walk Global))
     → IsAskedAfter said old.asked → Resumes (answer_of r) old s new → IsAnswered said r → GoesBy said r old s new
@@ -148,16 +152,3 @@ module _ (said : Saying) (r : Reply) (old : MachineState (Walk Global)) (s : Say
       waiting (AsksList kinds) r none before = before
       waiting (Says o) r none before = absurd (none tt)
       waiting Ends r none before = absurd (none tt)
-
--- a step that reports a failed listing has the kind of error that was answered
-pub says_unread : (said : Saying) (r : Reply) (old : MachineState (Walk Global)) (s : Saying) (new : MachineState (Walk Global))
-    → IsAskedAfter said old.asked → Resumes (answer_of r) old s new → SaysUnread said r old s
-says_unread (AsksList kinds) (reply.Listed (Err (Read e))) old s new asked h = h.failed (is_list kinds old.asked asked)
-says_unread (AsksList kinds) (reply.Listed (Err Memory)) old s new asked h = tt
-says_unread (AsksList kinds) (reply.Listed (Ok v)) old s new asked h = tt
-says_unread (AsksList kinds) reply.Nothing old s new asked h = tt
-says_unread (AsksList kinds) (reply.Look seen) old s new asked h = tt
-says_unread (AsksList kinds) (reply.Entries es) old s new asked h = tt
-says_unread AsksLook r old s new asked h = tt
-says_unread (Says o) r old s new asked h = tt
-says_unread Ends r old s new asked h = tt
