@@ -1,4 +1,4 @@
-//! Made by `bin/rust_crate` from `crates/glob_search/src/frame.rt`, where its contracts are: sha256 edaa829ee0a7d9bc.
+//! Made by `bin/rust_crate` from `crates/glob_search/src/frame.rt`, where its contracts are: sha256 46ce2347f165b4f9.
 //!
 //! A directory that a search is in, or enters next.
 
@@ -32,7 +32,7 @@ pub struct Frame {
     pub entries: Vec<Entry>,
     /// How many names of ignore files are done: the file was read, or is known to be missing.
     pub files: usize,
-    /// How many of the lists in `ActiveRules::files` come from above it.
+    /// How many lists of `ActiveRules::files` were there when it was entered.
     pub active: usize,
 }
 

@@ -1,4 +1,4 @@
-//! Made by `bin/rust_crate` from `crates/glob_search/src/outer.rt`, where its contracts are: sha256 d12a24749e7962bf.
+//! Made by `bin/rust_crate` from `crates/glob_search/src/outer.rt`, where its contracts are: sha256 df111e39fda66860.
 //!
 //! Ignore rules from the start and the directories above it.
 
@@ -43,7 +43,7 @@ pub fn outer_said(lists: &[OuterRules], path: &str, is_dir: bool) -> Option<bool
     last
 }
 
-/// Whether the lists ignore the directory with this name in the start.
+/// Whether the lists ignore a directory of this name that is directly in the start.
 pub fn ignores_directory(lists: &[OuterRules], name: &str) -> bool {
     outer_said(lists, name, true).unwrap_or(false)
 }

@@ -1,4 +1,4 @@
-//! Made by `bin/rust_crate` from `crates/glob_walk/src/frame.rt`, where its contracts are: sha256 fdb6f9b2012c5fe7.
+//! Made by `bin/rust_crate` from `crates/glob_walk/src/frame.rt`, where its contracts are: sha256 b8412476a71c166e.
 //!
 //! A directory that a walk is going through.
 //!
@@ -33,7 +33,7 @@ pub struct Frame {
     /// Its path.
     pub path: String,
     /// The number of the component that it was listed for. A component with wildcards is matched against the entries;
-    /// for `**`, the component after it is.
+    /// for `**`, the component after it is matched.
     pub component: usize,
     /// Whether that component is `**`.
     pub recursive: bool,

@@ -1,4 +1,4 @@
-//! Made by `bin/rust_crate` from `crates/glob_walk/src/machine.rt`, where its contracts are: sha256 367a99293d16eaa9.
+//! Made by `bin/rust_crate` from `crates/glob_walk/src/machine.rt`, where its contracts are: sha256 9b86259b95c6af55.
 //!
 //! A walk that asks its caller, and reads nothing by itself.
 
@@ -31,22 +31,19 @@ use std::io;
 /// # Ok::<(), cadmiumdove::PatternError>(())
 /// ```
 pub enum Step {
-    /// It asks what [`path`](WalkMachine::path) leads to, and [`looked`](WalkMachine::looked) answers.
+    /// It asks what [`path`](WalkMachine::path) leads to. [`Answer::Look`] answers.
     Look,
-    /// It asks for the entries of the directory at [`path`](WalkMachine::path), and [`listed`](WalkMachine::listed)
-    /// answers.
+    /// It asks for the entries of the directory at [`path`](WalkMachine::path). [`Answer::List`] answers.
     List,
-    /// It asks for the same, but needs only the names: `is_dir` may be `false` for any entry.
-    /// [`listed`](WalkMachine::listed) answers.
+    /// It asks for the same, but needs only the names: `is_dir` may be `false` for any entry. [`Answer::List`] answers.
     ListNames,
     /// It gives an item: a path, or an error. After an error with the cause `Limit`, only `Done` follows.
     Item(GlobResult),
-    /// Nothing is left: each further call of [`next`](WalkMachine::next) returns it again.
+    /// Nothing is left: each further call returns it again.
     Done,
 }
 
-/// The answer to the open question, as [`ask`](WalkMachine::ask) returns it. For a look at the directory `a` it is an
-/// `Answer::Look` with `Look::Dir`.
+/// An answer to the open question. For a look at the directory `a` it is `Answer::Look(Look::Dir)`.
 ///
 /// ```
 /// use cadmiumdove::walk::{Answer, Look, Step, WalkMachine};
@@ -60,24 +57,24 @@ pub enum Step {
 /// # Ok::<(), cadmiumdove::PatternError>(())
 /// ```
 pub enum Answer {
-    /// No question is open.
+    /// There is no answer, since no question is open.
     Nothing,
-    /// The answer to a look.
+    /// What a look found.
     Look(Look),
-    /// The answer to a listing, of entries or of names.
+    /// The entries of a directory, or only their names, in any order; or why it could not be listed.
     List(Result<Vec<Entry>, io::Error>),
 }
 
 /// A walk without a tree: it asks one question after another, and its caller answers them from a file system, an
-/// archive or a network, at once or later.
+/// archive or a network, at once or later, by [`resume`](WalkMachine::resume).
 ///
 /// ```text
 /// let mut machine = WalkMachine::new("*", MatchOptions::new(), 100)?;
-/// machine.next()                  // Step::Look; machine.path() is "."
-/// machine.looked(Look::Dir)   // Step::ListNames; machine.path() is "."
-/// machine.listed(Ok(entries))     // of files `y` and `x`: Step::Item(Ok("x"))
-/// machine.next()                  // Step::Item(Ok("y"))
-/// machine.next()                  // Step::Done; machine.spent() is 4
+/// machine.resume(Answer::Nothing)               // Step::Look; machine.path() is "."
+/// machine.resume(Answer::Look(Look::Dir))   // Step::ListNames; machine.path() is "."
+/// machine.resume(Answer::List(Ok(entries)))     // of files `y` and `x`: Step::Item(Ok("x"))
+/// machine.resume(Answer::Nothing)               // Step::Item(Ok("y"))
+/// machine.resume(Answer::Nothing)               // Step::Done; machine.spent() is 4
 /// ```
 ///
 /// As long as all answers come from one content, its questions and items are those of the written listing, in order:
@@ -86,15 +83,15 @@ pub enum Answer {
 /// more item than it charged units. It never charges more than its limit, so it comes to an end.
 ///
 /// ```
-/// use cadmiumdove::walk::{Look, Step, WalkMachine};
+/// use cadmiumdove::walk::{Answer, Look, Step, WalkMachine};
 /// use cadmiumdove::MatchOptions;
 ///
 /// let mut machine = WalkMachine::new("a/b", MatchOptions::new(), 100)?;
-/// assert!(matches!(machine.next(), Step::Look) && machine.path() == ".");
-/// assert!(matches!(machine.looked(Look::Dir), Step::Look) && machine.path() == "a");
-/// assert!(matches!(machine.looked(Look::Dir), Step::Look) && machine.path() == "a/b");
-/// assert!(matches!(machine.looked(Look::Other), Step::Item(Ok(path)) if path.ends_with("b")));
-/// assert!(matches!(machine.next(), Step::Done));
+/// assert!(matches!(machine.resume(Answer::Nothing), Step::Look) && machine.path() == ".");
+/// assert!(matches!(machine.resume(Answer::Look(Look::Dir)), Step::Look) && machine.path() == "a");
+/// assert!(matches!(machine.resume(Answer::Look(Look::Dir)), Step::Look) && machine.path() == "a/b");
+/// assert!(matches!(machine.resume(Answer::Look(Look::Other)), Step::Item(Ok(path)) if path.ends_with("b")));
+/// assert!(matches!(machine.resume(Answer::Nothing), Step::Done));
 /// # Ok::<(), cadmiumdove::PatternError>(())
 /// ```
 pub struct WalkMachine {
@@ -139,21 +136,6 @@ impl WalkMachine {
         let stack = Stack { plan, next, frames };
         let meter = Meter { limit, spent: 0 };
         WalkMachine { walker: Walker { meter, query: None, stack }, given: 0, over: false }
-    }
-
-    /// The next step when no question is open: at first, and after an item. The first step of each walk is
-    /// `Step::Look`, at the path `.` or `/`; at a limit of 0 it is an error with the cause `Limit`.
-    ///
-    /// <details><summary>Contract</summary>
-    ///
-    /// ```text
-    /// requires free { self.old.asked ≡ None }
-    /// ensures steps { StepGoes IsSomeContent 0 self.old (saying result) self.new }
-    /// ```
-    ///
-    /// </details>
-    pub fn next(&mut self) -> Step {
-        self.resume(Answer::Nothing)
     }
 
     /// The next step, with the open question, if there is one, answered by a tree. These calls are enough for a whole
@@ -217,45 +199,14 @@ impl WalkMachine {
         }
     }
 
-    /// Answers the open look, and returns the next step. If `*` looks at `.`, then `looked(Look::Dir)` returns
-    /// `Step::ListNames`, and `looked(Look::Missing)` returns `Step::Done`.
+    /// Takes the answer to the open question, and returns the next step. If no question is open, as at first and after
+    /// an item, the answer does not matter: give `Answer::Nothing`. An answer to another question leaves the walk as it
+    /// is: the question is asked again, at no cost.
     ///
-    /// <details><summary>Contract</summary>
-    ///
-    /// ```text
-    /// requires asked { IsLook self.old.asked }
-    /// ensures steps { StepGoes (IsSeenIn self.old.asked seen) 0
-    ///     self.old (saying result) self.new }
-    /// ```
-    ///
-    /// </details>
-    pub fn looked(&mut self, seen: Look) -> Step {
-        self.resume(Answer::Look(seen))
-    }
-
-    /// Answers the open listing, of entries or of names, with its entries in any order, and returns the next step. Each
-    /// entry costs one unit of work. If `*` lists `.`, `listed` with the files `y` and `x` returns the item `x`. After
-    /// `Err(e)` the step is an error with the path, the kind of `e` and the cause `Read`, and the walk goes on.
-    ///
-    /// <details><summary>Contract</summary>
-    ///
-    /// ```text
-    /// requires asked { IsList self.old.asked }
-    /// ensures failed { IfErr listed
-    ///     (λ e. saying result ≡ Says (list_error_outcome (question_path self.old.asked) e)) }
-    /// ensures steps { StepGoes (IsListedIn self.old.asked listed) (entry_count listed)
-    ///     self.old (saying result) self.new }
-    /// ```
-    ///
-    /// </details>
-    pub fn listed(&mut self, listed: Result<Vec<Entry>, io::Error>) -> Step {
-        self.resume(Answer::List(listed))
-    }
-
-    /// Takes the answer to the open question, if there is one, and returns the next step, like
-    /// [`looked`](WalkMachine::looked), [`listed`](WalkMachine::listed) and [`next`](WalkMachine::next):
-    /// `Answer::Look(seen)` has the effect of `looked(seen)`. If no question is open, the answer does not matter. An
-    /// answer to another question leaves the walk as it is: the question is asked again, at no cost.
+    /// The first step of each walk is `Step::Look`, at the path `.` or `/`; at a limit of 0 it is an error with the
+    /// cause `Limit`. If `*` has looked at `.`, `Answer::Look(Look::Dir)` leads to `Step::ListNames`, and
+    /// `Answer::Look(Look::Missing)` to `Step::Done`. Each entry of a listing costs one unit of work. After `Err(e)`
+    /// the step is an error with the path, the kind of `e` and the cause `Read`, and the walk goes on.
     ///
     /// <details><summary>Contract</summary>
     ///

@@ -1,4 +1,4 @@
-//! Made by `bin/rust_crate` from `crates/glob_search/src/beginnings/growing.rt`, where its contracts are: sha256 c4538f25c14d0c21.
+//! Made by `bin/rust_crate` from `crates/glob_search/src/beginnings/growing.rt`, where its contracts are: sha256 472c0914107dd636.
 //!
 //! Adds patterns to the tree of beginnings.
 
@@ -75,7 +75,7 @@ impl Beginnings {
         Ok(Component::Wild(Pattern::new(text)?))
     }
 
-    /// Adds a beginning that a component leads to.
+    /// Adds a beginning to which a component leads from the beginning `at`.
     fn lead(&mut self, at: usize, component: Component) -> usize {
         let node = self.nodes.len();
         let is_deep = component.is_deep();
