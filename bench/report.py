@@ -17,8 +17,8 @@ MARK = "<!-- bench/report.py writes this table -->\n"
 HEADS = ["Report", "What", "Ratio", "Cases", "Least", "Median", "Most", "Commit"]
 CHART = 'alt="{} patterns: from {:.2g} to {:.2g}"'
 SENTENCE = """From Rust, parsing takes {:.2g} to {:.2g} times the [instructions](docs/PERFORMANCE.md#measured) of the
-crate 0.3.4, a copy {:.2g} to {:.2g} times, and a walk {:.2g} to {:.2g} of its time. From Rattle, the measured sets take
-at most {:.2g} of `globset`'s time.
+crate 0.3.4, copying a pattern {:.2g} to {:.2g} times, and a walk {:.2g} to {:.2g} times as long. From Rattle, the
+measured sets take at most {:.2g} of `globset`'s time.
 """
 PLOT = """
 set terminal svg size 720,{height} font "sans-serif,13"

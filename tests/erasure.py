@@ -64,6 +64,8 @@ ERASED = [
         "enum E { A, } fn f(e: E) -> u8 { match e { E::A => 1, } }"),
     ("adjacent impls", "impl S { fn a() {} } impl S { fn b() {} } impl T for S { fn c() {} } impl S { fn d() {} }",
         "impl S { fn a() {} fn b() {} } impl T for S { fn c() {} } impl S { fn d() {} }"),
+    ("an answer that a variant holds", "enum R { Seen(Result<u8, AllocError>) } fn g() -> R { R::Seen(Ok(1)) }",
+        "enum R { Seen(u8) } fn g() -> R { R::Seen(1) }"),
     ("a failure heard in another way", "fn g() -> Result<u8, AllocError> { Ok(1) } fn f() -> bool { g().is_ok() }", None),
     ("an error that is another or memory", "enum R { Syntax(E), Memory }\nimpl From<AllocError> for R { fn from(_e: AllocError) -> R { R::Memory } }\n"
         "fn f(r: R) -> u8 { match r { R::Syntax(e) => e.n, R::Memory => 0 } } fn g(e: E) -> Result<u8, R> { Err(R::Syntax(e)) }",

@@ -32,7 +32,7 @@ class Facts:
         self.fails["Box", "new"] = True
         self.memory_fields = set()  # fields that are allocators
         self.wrappers = {}  # errors that wrap an error or a failed allocation: that variant, and the wrapped type
-        self.hearers = set()  # functions whose arguments are results of such calls
+        self.hearers = set()  # functions and variants whose arguments are results of such calls
         self.copies = set()  # types that are copied
         self.stated = set()  # contracts that are in the documentation
         self.changing = set()  # methods, some of which change their receiver or an argument
@@ -54,6 +54,7 @@ class Facts:
             if len(others) == 1 < len(node.variants) and len(others[0].fields) == 1 \
                     and others[0].fields[0].type.kind == "path_type":
                 self.wrappers[node.name] = others[0].name, others[0].fields[0].type
+            self.hearers |= {variant.name for variant in node.variants if any(memory_result(it.type) for it in variant.fields)}
         if node.kind in ("struct", "enum") and any("Copy" in one.names for one in node.attributes):
             self.copies.add(node.name)
         for child in node.children():

@@ -54,17 +54,17 @@
 //! can wait for its answers. If an answer does not fit the question, the machine asks again.
 //!
 //! ```
-//! use cadmiumdove::walk::{Entry, Look, Name, Step, WalkMachine};
+//! use cadmiumdove::walk::{Answer, Entry, Look, Name, Step, WalkMachine};
 //! use cadmiumdove::MatchOptions;
 //!
 //! let mut machine = WalkMachine::new("*", MatchOptions::new(), 100).unwrap();
-//! assert!(matches!(machine.next(), Step::Look) && machine.path() == ".");
-//! assert!(matches!(machine.looked(Look::Dir), Step::ListNames));
+//! assert!(matches!(machine.resume(Answer::Nothing), Step::Look) && machine.path() == ".");
+//! assert!(matches!(machine.resume(Answer::Look(Look::Dir)), Step::ListNames));
 //! let names = ["y", "x"].map(|name| Name::new(name.to_owned()).unwrap());
-//! let step = machine.listed(Ok(names.map(|name| Entry { name, is_dir: false }).into()));
+//! let step = machine.resume(Answer::List(Ok(names.map(|name| Entry { name, is_dir: false }).into())));
 //! assert!(matches!(step, Step::Item(Ok(path)) if path == std::path::Path::new("x")));
-//! assert!(matches!(machine.next(), Step::Item(Ok(path)) if path == std::path::Path::new("y")));
-//! assert!(matches!(machine.next(), Step::Done));
+//! assert!(matches!(machine.resume(Answer::Nothing), Step::Item(Ok(path)) if path == std::path::Path::new("y")));
+//! assert!(matches!(machine.resume(Answer::Nothing), Step::Done));
 //! assert_eq!(machine.spent(), 4);
 //! ```
 

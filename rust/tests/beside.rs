@@ -143,18 +143,21 @@ fn limits() {
 #[test]
 fn a_machine_asks() {
     let mut machine = WalkMachine::new("*/x", NEW, 100).unwrap();
-    assert!(matches!(machine.next(), Step::Look));
+    assert!(matches!(machine.resume(Answer::Nothing), Step::Look));
     assert_eq!(machine.path(), ".");
-    assert!(matches!(machine.looked(Look::Dir), Step::List));
-    assert!(matches!(machine.listed(Ok(vec![entry("b", true), entry("f", false), entry("a", true)])), Step::Look));
+    assert!(matches!(machine.resume(Answer::Look(Look::Dir)), Step::List));
+    assert!(matches!(
+        machine.resume(Answer::List(Ok(vec![entry("b", true), entry("f", false), entry("a", true)]))),
+        Step::Look
+    ));
     assert_eq!(machine.path(), "a/x");
-    assert!(matches!(machine.looked(Look::Other), Step::Item(Ok(path)) if path == Path::new("a/x")));
-    assert!(matches!(machine.next(), Step::Look));
+    assert!(matches!(machine.resume(Answer::Look(Look::Other)), Step::Item(Ok(path)) if path == Path::new("a/x")));
+    assert!(matches!(machine.resume(Answer::Nothing), Step::Look));
     assert_eq!(machine.path(), "b/x");
-    assert!(matches!(machine.looked(Look::Missing), Step::Look));
+    assert!(matches!(machine.resume(Answer::Look(Look::Missing)), Step::Look));
     assert_eq!(machine.path(), "f/x");
-    assert!(matches!(machine.looked(Look::Missing), Step::Done));
-    assert!(matches!(machine.next(), Step::Done));
+    assert!(matches!(machine.resume(Answer::Look(Look::Missing)), Step::Done));
+    assert!(matches!(machine.resume(Answer::Nothing), Step::Done));
     assert_eq!((machine.spent(), machine.given()), (8, 1));
     let error = WalkMachine::new("x/a[/]b", NEW, 1).unwrap_err();
     assert_eq!((error.pos, error.msg), (1, "invalid range pattern"));
@@ -163,18 +166,20 @@ fn a_machine_asks() {
 #[test]
 fn what_is_no_answer_is_asked_again() {
     let mut machine = WalkMachine::new("*", NEW, 100).unwrap();
-    assert!(matches!(machine.next(), Step::Look));
-    assert!(matches!(machine.listed(Ok(Vec::new())), Step::Look));
-    assert!(matches!(machine.next(), Step::Look));
+    assert!(matches!(machine.resume(Answer::Nothing), Step::Look));
+    assert!(matches!(machine.resume(Answer::List(Ok(Vec::new()))), Step::Look));
+    assert!(matches!(machine.resume(Answer::Nothing), Step::Look));
     assert_eq!((machine.path(), machine.spent()), (".", 1));
-    assert!(matches!(machine.looked(Look::Dir), Step::ListNames));
-    assert!(matches!(machine.looked(Look::Missing), Step::ListNames));
+    assert!(matches!(machine.resume(Answer::Look(Look::Dir)), Step::ListNames));
+    assert!(matches!(machine.resume(Answer::Look(Look::Missing)), Step::ListNames));
     assert_eq!((machine.path(), machine.spent()), (".", 2));
-    assert!(matches!(machine.listed(Ok(vec![entry("x", false)])), Step::Item(Ok(path)) if path == Path::new("x")));
-    assert!(matches!(machine.looked(Look::Dir), Step::Done));
+    assert!(
+        matches!(machine.resume(Answer::List(Ok(vec![entry("x", false)]))), Step::Item(Ok(path)) if path == Path::new("x"))
+    );
+    assert!(matches!(machine.resume(Answer::Look(Look::Dir)), Step::Done));
     assert_eq!((machine.spent(), machine.given()), (3, 1));
     let mut unasked = WalkMachine::new("*", NEW, 100).unwrap();
-    assert!(matches!(unasked.looked(Look::Dir), Step::Look));
+    assert!(matches!(unasked.resume(Answer::Look(Look::Dir)), Step::Look));
 }
 
 #[test]
@@ -243,7 +248,7 @@ fn pieces() {
 fn what_debug_prints() {
     let mut machine = WalkMachine::new("*", NEW, 100).unwrap();
     assert_eq!(format!("{machine:?}"), r#"WalkMachine { path: "", spent: 0, .. }"#);
-    assert_eq!(format!("{:?}", machine.next()), "Look");
+    assert_eq!(format!("{:?}", machine.resume(Answer::Nothing)), "Look");
     assert_eq!(format!("{machine:?}"), r#"WalkMachine { path: ".", spent: 1, .. }"#);
     let steps = [Step::List, Step::ListNames, Step::Done, Step::Item(Ok(PathBuf::from("a")))];
     assert_eq!(format!("{steps:?}"), r#"[List, ListNames, Done, Item(Ok("a"))]"#);

@@ -47,7 +47,7 @@ module _ (P : Text → Type 0) where
       (λ later. AreKept-all texts kept k.1 text later is)
       (first_or_later first text texts has)
 
-  -- so a text is kept exactly if it is one of them and satisfies P
+  -- so a text is kept exactly when it is one of them and satisfies P
   pub AreKept-exact : (texts kept : List Text) → AreKept P texts kept → (text : Text) → Contains kept text ↔ (Contains texts text × P text)
   AreKept-exact texts kept keeps text = (AreKept-has texts kept keeps text, λ both. AreKept-all texts kept keeps text both.0 both.1)
 

@@ -37,7 +37,7 @@ AreWritten-push text f (t ∷ ts) [] m token written e before at piece = absurd 
 AreWritten-push text f (t ∷ ts) (w ∷ ws) m token written e before at piece =
     (before.0, before.1, before.2, AreWritten-push text before.0 ts ws m token written e before.3 at piece)
 
--- the first token is `**` exactly if the first unit is
+-- the first token is `**` exactly when the first unit is
 begins-same : (units : List Token) → begins_recursive (tokens_of_units units) ≡ begins_recursive units
 begins-same [] = refl
 begins-same (t ∷ []) = ap begins_recursive (folded_one t)

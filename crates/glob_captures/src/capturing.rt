@@ -16,7 +16,7 @@ use glob_pattern::{MatchOptions, Pattern, characters_of, opens, tokens_len};
 use std::alloc::{AllocError, Allocator};
 
 /// Splits the text into the pieces that the pattern's tokens take, and returns where they are, in bytes and in order;
-/// `None` exactly if the pattern does not match the text. If there are several splits, the first piece is as short as
+/// `None` exactly when the pattern does not match the text. If there are several splits, the first piece is as short as
 /// possible, then the second, and so on.
 ///
 /// For example, `*.*` splits `a.b.rs` into `a`, `.` and `b.rs`: from 0 up to 1, from 1 up to 2, and from 2 up to 6.

@@ -3,9 +3,9 @@ ghost use Rattle.std.specs.Prelude.{◌∷◌, option_map};
 
 use std::io::{self, Write};
 
-/// A writer behind a reference, for a call that takes a `&mut Borrowed`. Its contract does not rule out that the call
-/// replaces the reference, so `contents` begins with the reference's name. Calls only add at the end of `contents`, so
-/// an unchanged name shows that the writer is still the same.
+/// A writer behind a reference, which both programs pass to the functions that copy lines, as a `&mut Borrowed`. The
+/// contract of such a call does not rule out that it replaces the reference, so `contents` begins with the reference's
+/// name. Calls only add at the end of `contents`, so an unchanged name shows that the writer is still the same.
 #[derive(Drop)]
 pub struct Borrowed<'w, W> {
     pub writer: &'w mut W,

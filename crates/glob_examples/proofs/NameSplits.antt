@@ -130,7 +130,7 @@ NamesSplit-from_SplitsFrom table components names knows (component ∷ rest) n k
       NamesSplit-from_SplitsFrom table components names knows rest (n + 1) j (drop-at_drop components rest n component e) later,
     )
 
--- over such a table the shapes of the components split the names exactly if the components do
+-- over such a table the shapes of the components split the names exactly when the components do
 pub Splits-iff_NamesSplit : (table : Table) (components names : List (List ℕ)) → KnowsNames table components names →
     Splits table (map shape_of components) ↔ NamesSplit components names
 Splits-iff_NamesSplit table components names knows = (

@@ -1,4 +1,4 @@
--- The sources of a build.
+-- What `sources` returns: all paths that a plain pattern matches.
 use Rattle.std.specs.Prelude.{◌≡◌, List, Contains, ◌↔◌}
 use Rattle.glob.specs.Content.{Content}
 use Rattle.glob.specs.Goal.{goal, IsOrderly}

@@ -38,7 +38,7 @@ abbrev pub no_path : ℕ
 no_path = 6
 
 -- Yes and no are decided by the definition of a match, for a valid pattern. A fault is reported only for an invalid
--- pattern, and `not_utf8` exactly if some bytes are not UTF-8.
+-- pattern, and `not_utf8` exactly when some bytes are not UTF-8.
 pub record Decides (pattern text : List ℕ) (flags answer : ℕ) : Type 0 where
   pub range : answer ≤ too_large
   pub accepted : answer ≤ yes → IsAccepted (chars pattern)

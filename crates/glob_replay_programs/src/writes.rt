@@ -74,7 +74,7 @@ fn find<T: Tree, W: Write, E: Write>(
 
 /// Does a row's job. Adds the status and, for each writer, how many writes of many bytes there were, and what was
 /// written, or only how many bytes if its writes are due at given times. A writer that fails must not be flushed twice.
-pub fn add_run<M: Memory>(calls: &mut Calls<M>, row: &[&str]) -> io::Result<()> {
+pub fn add_writes<M: Memory>(calls: &mut Calls<M>, row: &[&str]) -> io::Result<()> {
     let counts = Counts::default();
     let ran = run(calls.alloc, row, &counts)?;
     write!(calls.words, "{}", ran.status)?;

@@ -24,7 +24,7 @@ holds spans c = c == slash || list_any (is_within c) spans
 unfoldable pub held : List BracketSpan → Text
 held spans = filter (holds spans) ORDER
 
--- what a step appends, where the bracket has these spans
+-- what a step appends, if the bracket has these spans
 abbrev pub written : List BracketSpan → Writing → Text
 written spans Nothing = []
 written spans (Byte c) = c ∷ []

@@ -17,7 +17,7 @@ use Rattle.glob_search.proofs.OrderLemmas.Beginnings.{takes-recursive, takes-oth
 abbrev pub matches : MatchOptions → (component name : Text) → Bool
 matches o t n = is_match o (chars t) (chars n)
 
--- `*` matches each of the names exactly if `**` may take it
+-- `*` matches each of the names exactly when `**` may take it
 abbrev pub AreStarred : MatchOptions → Key → Type 0
 AreStarred o [] = ⊤
 AreStarred o (n ∷ ns) = (matches o (star ∷ []) n ≡ is_open o n) × AreStarred o ns

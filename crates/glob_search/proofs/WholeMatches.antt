@@ -1,4 +1,4 @@
--- A pattern takes names by its components exactly if it matches their text as a whole.
+-- A pattern takes names by its components exactly when it matches their text as a whole.
 use Rattle.std.proofs.Common.{◌≡◌, ℕ, ◌<◌, ⊎_elim, Bool, true, false, cond, not, ◌&&◌, ◌||◌, ◌==◌, List, [], ◌∷◌}
 use Rattle.std.proofs.Common.{length, map, refl, sym, ap, ap₂, subst, ◌∙◌, arith}
 use Rattle.std.specs.Prelude.{codes, Result, Ok, Err}
@@ -85,7 +85,7 @@ flat-from (n ∷ ns) h =
     and_from (has_no_slash (chars n)) (list_all has_no_slash (map chars ns))
     (no_slash-chars n (IsUtf8-from_is_utf8 n here.0) ∙ here.1) (flat-from ns both.1)
 
--- `*` matches each such name exactly if `**` may take it
+-- `*` matches each such name exactly when `**` may take it
 starred : (o : MatchOptions) (ns : Key) → are_flat ns ≡ true → AreStarred o ns
 starred o [] h = tt
 starred o (n ∷ ns) h =
@@ -111,8 +111,8 @@ are_components (t ∷ ts) utf8 flat levels =
       are_components ts utf8.1 flats.1 (All-tail IsLevel t ts levels),
     )
 
--- A pattern of accepted, nonempty components takes one or more names exactly if it matches the text of the names under
--- the separator rule.
+-- A pattern of accepted, nonempty components takes one or more names exactly when it matches the text of the names
+-- under the separator rule.
 pub takes_whole : (o : MatchOptions) (p : Text) → IsUtf8 p → All IsLevel (pieces p) → (n : Text) (ns : Key) → are_flat (n ∷ ns) ≡ true
     → takes o (ended (pieces p)) (n ∷ ns) ≡ is_match (with_separator_rule o) (chars p) (chars (join_with_byte slash (n ∷ ns)))
 takes_whole o p utf8 levels n ns names =

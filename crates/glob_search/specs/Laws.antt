@@ -77,7 +77,7 @@ pub record HasOneFile (a : Aim) (list : Ignores) : Type 0 where
   pub below : (n : Text) (ns : Key) → a.rules_in (n ∷ ns) ≡ []
   pub last : a.last ≡ []
 
--- A path and the directories above it are not ignored by the search exactly if the file does not ignore the path.
+-- A path and the directories above it are not ignored by the search exactly when the file does not ignore the path.
 abbrev pub OneFileDecides : Type 0
 OneFileDecides =
     (a : Aim) (list : Ignores) → HasOneFile a list

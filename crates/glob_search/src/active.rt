@@ -60,8 +60,8 @@ impl<A: Allocator + Copy> ActiveRules<A> {
         !self.first.is_empty() || !self.files.is_empty() || !self.last.is_empty()
     }
 
-    /// Whether the rule that decides ignores the path. The directories above it are not checked: they were checked when
-    /// they were entered.
+    /// Whether the deciding rule ignores the path. The directories above it are not checked: they were checked when they
+    /// were entered.
     pub fn ignores(&self, alloc: A, path: &str, is_dir: bool) -> Result<bool, AllocError>
         ensures decides { (a : Aim) (directory : Key) (n : Text) → AreActive a directory self.now
             → IsTrue (list_all is_proper (directory ++ n ∷ []))

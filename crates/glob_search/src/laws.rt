@@ -38,7 +38,7 @@ pub fn paths_join_names()
     ensures { PathsJoinNames }
 {}
 
-/// If each component of the patterns is accepted and not empty, a search takes a path by its components exactly if a
+/// If each component of the patterns is accepted and not empty, a search takes a path by its components exactly when a
 /// pattern matches the whole path under the separator rule, whatever the other options: `src/**` takes `src/a/b`.
 pub fn search_takes_whole_matches()
     ensures { TakesWholeMatches }

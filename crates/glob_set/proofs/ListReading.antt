@@ -34,7 +34,7 @@ module _ (o : MatchOptions) (patterns : List Text) (text : Text) where
   unfolding FirstMatch
   AnyMatch-None none = none
 
-  -- the pattern at a number matches exactly if the definition says so
+  -- the pattern at a number matches exactly when the definition says so
   pub MatchesAt-iff : (number : ℕ) (pattern : Text) (b : Bool) → number < length patterns → pattern ≡ get_or patterns number pattern
       → IsTrue b ↔ Matches o (chars pattern) (chars text) → IsTrue b ↔ MatchesAt o patterns text number
   unfolding MatchesAt

@@ -120,7 +120,7 @@ impl<A: Allocator + Copy> Keyed<A> {
         self.find(component.hash, found);
     }
 
-    /// Adds the patterns whose key is this component, which ends before this byte, or this beginning of one.
+    /// Adds the patterns whose key is this component, if it ends before this byte, or is this beginning of a component.
     #[inline(always)]
     fn find_before(&self, byte: u8, component: Component, found: &mut Found<A>)
         requires { All (λ k. k < length self.now) found.old.items }

@@ -133,7 +133,7 @@ impl<A: Allocator + Copy> PatternSet<A> {
     }
 
     /// Parses all alternatives of all texts, such as `src/*.{c,h}`, and makes a set of the patterns: text by text, each
-    /// in the order of [`expand`](crate::braces::expand). The set matches a text exactly if an alternative of one of
+    /// in the order of [`expand`](crate::braces::expand). The set matches a text exactly when an alternative of one of
     /// the texts does.
     ///
     /// The error is [`Braces`](BraceSetRefusal::Braces) or [`Pattern`](BraceSetRefusal::Pattern) for the first text

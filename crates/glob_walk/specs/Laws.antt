@@ -28,7 +28,7 @@ abbrev pub are_names : List Text → Bool
 are_names names = list_all (λ name. is_utf8 name && is_proper name) names
 
 -- Case-sensitively and under the separator rule, a plain pattern without a separator at its end matches the text of
--- names below the start exactly if its components take the names.
+-- names below the start exactly when its components take the names.
 abbrev pub PlainMatchesLevels : Type 0
 PlainMatchesLevels =
     (o : MatchOptions) (pattern : Text) → IsUtf8 pattern → IsTrue (is_plain pattern) → IsTrue o.case_sensitive

@@ -43,7 +43,7 @@ pub enum Step<A: Allocator = Global> {
 pub enum Answer<A: Allocator = Global> {
     /// There is no answer, since no question is open.
     Nothing,
-    /// What a look found. `Err` means that memory ran out.
+    /// What a look found. `Err` means that an allocation failed.
     Look(Result<Look, AllocError>),
     /// The entries of a directory, or only their names, in any order; or why it could not be listed.
     List(Result<Vec<Entry<A>, A>, ListError>),

@@ -47,7 +47,7 @@ pub struct Task<A: Allocator> {
 }
 
 impl Accepted {
-    /// Which looks are accepted for a literal component below a path: `.` and `..` are there exactly if the path is a
+    /// Which looks are accepted for a literal component below a path: `.` and `..` are there exactly when the path is a
     /// directory, whatever the look returns.
     pub fn of_literal(is_current_or_parent: bool, is_dir: bool) -> Accepted
         ensures { (seen : LookOf) → is_accepted_look result seen

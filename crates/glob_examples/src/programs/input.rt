@@ -12,7 +12,7 @@ pub fn main(rt: HostRuntime) -> io::Result<()> {
         Ok(pattern) => pattern,
         Err(PatternRefusal::Syntax(fault)) => {
             println!(rt; "{word}: {fault}")?;
-            return Err(io::Error::other("no pattern"));
+            return Err(io::Error::other("not a pattern"));
         }
         Err(PatternRefusal::Memory) => return Err(io::Error::from(io::ErrorKind::OutOfMemory)),
     };

@@ -19,7 +19,7 @@ pub fn main(rt: HostRuntime) -> io::Result<()> {
         return Err(io::Error::other("the tree could not be made"));
     };
     let Ok(walk) = walk_in(rt.alloc(), tree, "src/**/*.rs", MatchOptions::new(), 1_000) else {
-        return Err(io::Error::other("it is no pattern"));
+        return Err(io::Error::other("it is not a pattern"));
     };
     for item in walk.items.iter() {
         match item {

@@ -137,7 +137,7 @@ pub ok-then : {T E : Type 0} {P Q : T → Type 0} (r : Result T E) → IfOk r P 
 ok-then (Ok x) h f = f x h
 ok-then (Err e) h f = h
 
--- an order of the same numbers, each once
+-- the same numbers in another order, and each only once
 pub Adds-sorted : {P : ℕ → Type 0} (old xs ys : List ℕ) → IsPermutation xs ys → Adds P old xs → Adds P old (dedup eqb ys)
 Adds-sorted old xs ys moved a = record {
   only = λ k in'. a.only k (Contains-permutation ys xs k (IsPermutation-sym xs ys moved) (Contains-from_dedup eqb ys k in'));

@@ -62,7 +62,7 @@ wildcard-ascii : IsOfAscii is_wildcard
 wildcard-ascii c h = or_from _ _ (or_from _ _ (ne_eqb c question_mark (λ e. omega arith)) (ne_eqb c star
     (λ e. omega arith))) (ne_eqb c open_bracket (λ e. omega arith))
 
--- a text has wildcards by its bytes exactly if it has by its characters
+-- a text has wildcards by its bytes exactly when it has by its characters
 wild-chars : (t : Text) → IsUtf8 t → list_any is_wildcard (chars t) ≡ list_any is_wildcard t
 wild-chars t utf8 = sym (any-encodes is_wildcard wildcard-ascii (chars t)) ∙ ap (list_any is_wildcard) (encodes-chars t utf8)
 
@@ -126,7 +126,7 @@ lower-any [] = refl
 lower-any (c ∷ cs) = ap₂ (λ x y. x || y) (lower-wild c) (lower-any cs)
 
 module _ (o : MatchOptions) where
-  -- a key has wildcards exactly if its component does
+  -- a key has wildcards exactly when its component does
   pub key-wild : (t : Text) → list_any is_wildcard (key_of o t) ≡ list_any is_wildcard t
   key-wild t = by_test (o.case_sensitive || list_any is_wildcard t)
     where

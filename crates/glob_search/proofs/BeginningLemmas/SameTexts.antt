@@ -68,7 +68,7 @@ lower-scalars (c ∷ cs) e =
 pub lowered : (text : Text) → IsUtf8 text → IsUtf8 (map to_ascii_lowercase text)
 lowered text u = (map to_ascii_lowercase u.0, (lower-scalars u.0 u.1.0, sym (encodes_lower u.0) ∙ ap (map to_ascii_lowercase) u.1.1))
 
--- characters are the same case-insensitively exactly if they are equal in lower case
+-- characters are the same case-insensitively exactly when they are equal in lower case
 small_from_same : (c x : ℕ) → IsTrue (is_same false c x) → to_ascii_lowercase c ≡ to_ascii_lowercase x
 small_from_same c x h =
     ⊎_elim (λ e. ap to_ascii_lowercase (eqb-true c x e))
@@ -121,7 +121,7 @@ lower-twice : (cs : Text) → map to_ascii_lowercase (map to_ascii_lowercase cs)
 lower-twice [] = refl
 lower-twice (c ∷ cs) = λ i. lowercase-lowercase c i ∷ lower-twice cs i
 
--- a text is the same as another exactly if it is the same as the other in lower case
+-- a text is the same as another exactly when it is the same as the other in lower case
 pub SameTexts-lower : (cs text : Text) → IsUtf8 text → SameTexts false cs (chars text) ↔ SameTexts false cs
     (chars (map to_ascii_lowercase text))
 SameTexts-lower cs text utf8 =

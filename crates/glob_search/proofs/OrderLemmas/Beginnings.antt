@@ -25,8 +25,8 @@ pub ends-cons : (t : Text) (ts : List Text) → ends_recursive ts ≡ true → e
 ends-cons t [] e = absurd (false≢true e)
 ends-cons t (u ∷ us) e = e
 
--- A beginning takes the first names if the components take all; it is a proper beginning if there are more names,
--- unless the components end in `**`.
+-- A beginning of the components that takes the first names. If more names follow, it is not all of the components,
+-- unless these end in `**`.
 pub record Begun (o : MatchOptions) (components : List Text) (names more : Key) : Type 0 where
   pub front : List Text
   pub rest : List Text

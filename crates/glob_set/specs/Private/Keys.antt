@@ -63,7 +63,7 @@ IsReadBack pattern number hash len =
     → (length (encode_utf8_all (concat (drop number pieces))) ≡ len)
     × (hash_back (encode_utf8_all (concat (drop number pieces))) ≡ hash)
 
--- a key of each pattern or none, in order
+-- for each pattern, in order, one of its keys or `None`
 pub record AreKeys (patterns : List Text) (keys : List (Option Key)) : Type 0 where
   pub same_length : length keys ≡ length patterns
   pub each : (k : ℕ) → k < length patterns → IfSome (slice_index_or keys k None) (HasKey (slice_index_or patterns k []))

@@ -1,4 +1,4 @@
--- Components joined by separators match names joined by separators exactly if the components take the names.
+-- Components joined by separators match names joined by separators exactly when the components take the names.
 use Rattle.std.proofs.Common.{◌≡◌, ◌≢◌, ℕ, zero, suc, ◌+◌, ◌-◌, ⊎_elim, Bool, true, false, not, ◌&&◌, ◌||◌, ◌==◌, List}
 use Rattle.std.proofs.Common.{[], ◌∷◌, length, slice_index, refl, sym, ap, ap₂, ◌∙◌, arith}
 use Rattle.std.specs.List.{list_all, join_with_byte}
@@ -177,7 +177,7 @@ has_parts o t (u ∷ us) (is, all) =
       takes = here.before u us next.first next.others next.takes;
     }
 
--- Components joined by separators match names joined by separators exactly if the components take the names.
+-- Components joined by separators match names joined by separators exactly when the components take the names.
 pub joined_takes : (o : MatchOptions) (t : Text) (ts : List Text) (n : Text) (ns : List Text) → AreComponents (t ∷ ts)
     → list_all has_no_slash (n ∷ ns) ≡ true
     → is_match (with_separator_rule o) (join_with_byte slash (t ∷ ts)) (join_with_byte slash (n ∷ ns)) ≡ takes_names o

@@ -1,4 +1,4 @@
--- The tokens of a whole pattern match joined names exactly if its components take the names.
+-- The tokens of a whole pattern match joined names exactly when its components take the names.
 use Rattle.std.proofs.Common.{◌≡◌, Bool, true, false, ◌&&◌, ◌||◌, List, [], ◌∷◌, ◌++◌, refl, sym, ap, ap₂, subst, ◌∙◌}
 use mathlib.Core.Bool.{and-true, and-false}
 use Rattle.std.specs.List.{list_all, join_with_byte}
@@ -80,7 +80,7 @@ inner-from_level : (ts : List Token) → is_level (Level ts) ≡ true → list_a
 inner-from_level [] h = refl
 inner-from_level (t ∷ ts) h = h
 
--- The tokens of a pattern match a text of names exactly if its components take the names.
+-- The tokens of a pattern match a text of names exactly when its components take the names.
 pub level_by_level : (o : MatchOptions) (p : Part) (ps : List Part) → list_all is_level (p ∷ ps) ≡ true → Reach o (p ∷ ps)
 level_by_level o Levels [] h = Reach-end o
 level_by_level o Levels (p ∷ ps) h = let both = and_parts (is_level p) (list_all is_level ps) h in Reach-run o p ps

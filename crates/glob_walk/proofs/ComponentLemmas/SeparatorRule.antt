@@ -67,7 +67,7 @@ alike o (Recursive ∷ t ∷ ts) = λ b cs h.
 alike o (OneOf entries ∷ ts) = Alike-one o (OneOf entries) (fits o ts) (fits (with_separator_rule o) ts) (alike o ts)
 alike o (NoneOf entries ∷ ts) = Alike-one o (NoneOf entries) (fits o ts) (fits (with_separator_rule o) ts) (alike o ts)
 
--- A text without separators is matched under the separator rule exactly if it is matched without it.
+-- A text without separators is matched under the separator rule exactly when it is matched without it.
 pub separator_rule_free : (o : MatchOptions) (pattern text : Text) → has_no_slash text ≡ true → is_match
     (with_separator_rule o) pattern text ≡ is_match o pattern text
 unfolding is_match

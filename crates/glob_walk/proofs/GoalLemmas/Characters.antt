@@ -38,7 +38,7 @@ any-encode p low c = ⊎_elim ascii wide (cases_lt c 128)
         (λ small. absurd (omega (arith, inside_one c [] (encode c) k (sym (append-nil (encode c))) in' small)))
         (λ big. big) (cases_lt (get_or (encode c) k 0) 128)) ∙ sym (low c l)
 
--- some byte passes such a test exactly if some character does
+-- some byte passes such a test exactly when some character does
 pub any-encodes : (p : ℕ → Bool) → IsOfAscii p → (cs : Text) → list_any p (encodes cs) ≡ list_any p cs
 any-encodes p low [] = refl
 any-encodes p low (c ∷ cs) = list_any-append p (encode c) (encodes cs) ∙ ap₂ (λ x y. x || y) (any-encode p low c) (any-encodes p low cs)

@@ -33,7 +33,7 @@ takes_some o pattern h = no_names (components pattern) (omega (
     no_names [] l g = omega arith
     no_names (t ∷ ts) l g = takes-none o false t ts g
 
--- these are the names of a key below the start that the components take, and its kind is wanted
+-- these names lead from the start to a key of a wanted kind, and the components take them
 abbrev pub IsTaken : Content → MatchOptions → (pattern : Text) → Key → Type 0
 IsTaken c o pattern names = IsTakenAt c o (ends_with slash pattern) (components pattern) (origin c pattern) names
 

@@ -1,4 +1,4 @@
--- The undivided pattern matches the text of names exactly if the components take the names.
+-- The undivided pattern matches the text of names exactly when the components take the names.
 use Rattle.std.proofs.Common.{◌≡◌, Bool, true, false, cond, not, ◌&&◌, ◌||◌, ◌==◌, List, [], ◌∷◌, length, drop, map}
 use Rattle.std.proofs.Common.{Option, Some, None, refl, sym, ap, ap₂, subst, ◌∙◌, arith}
 use Rattle.std.specs.Prelude.{Result, Ok, Err, is_none}
@@ -118,7 +118,7 @@ are_components after (t ∷ ts) utf8 flat plain none =
     some-chars [] e h = absurd (both_ways (is_empty t) h (nothing t (sym (encodes-chars t utf8.0) ∙ ap encodes e)))
     some-chars (c ∷ cs) e h = refl
 
--- The undivided pattern matches the text of names after the start exactly if the components take the names.
+-- The undivided pattern matches the text of names after the start exactly when the components take the names.
 pub undivided_takes : (o : MatchOptions) → o.case_sensitive ≡ true → (pattern : Text) → IsUtf8 pattern → is_plain
     pattern ≡ true → (n : Text) (ns : List Text) → AllUtf8 (n ∷ ns) → list_all has_no_slash (n ∷ ns) ≡ true
     → matches_undivided o pattern (text_below pattern (n ∷ ns)) ≡ takes_names o (matches_name o) (components pattern) (n ∷ ns)

@@ -114,7 +114,7 @@ all_utf8 : (ts : List Text) → AllUtf8 ts → list_all is_utf8 ts ≡ true
 all_utf8 [] all = refl
 all_utf8 (t ∷ ts) all = and_from (is_utf8 t) (list_all is_utf8 ts) (is_utf8-from_IsUtf8 t all.0) (all_utf8 ts all.1)
 
--- the pattern matches the text of names exactly if its components take them
+-- the pattern matches the text of names exactly when its components take them
 pub plain_matches_levels : (o : MatchOptions) (pattern : Text) → IsUtf8 pattern → is_plain pattern ≡ true
     → o.case_sensitive ≡ true → (n : Text) (ns : Key) → are_names (n ∷ ns) ≡ true
     → matches_undivided o pattern (text_below pattern (n ∷ ns)) ≡ walk_takes o false (components pattern) (n ∷ ns)

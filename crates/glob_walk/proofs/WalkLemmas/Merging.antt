@@ -67,7 +67,7 @@ list_all-merged p run (t ∷ ts) h =
     by_test one later true = later true
     by_test one later false = and_from (p t) (list_all p (merged_after (is_recursive t) ts)) one (later (is_recursive t))
 
--- and merged components are plain exactly if all are
+-- and merged components are plain exactly when all are
 pub plain-merged : (run : Bool) (ts : List Text) → are_plain run (merged_after run ts) ≡ are_plain run ts
 plain-merged run [] = refl
 plain-merged run (t ∷ ts) = by_test run (is_recursive t) refl (plain-merged (is_recursive t) ts)

@@ -55,7 +55,7 @@ encodes_lower (c ∷ cs) =
 bytes_lower : (text : Text) → IsUtf8 text → map to_ascii_lowercase text ≡ encodes (map to_ascii_lowercase (chars text))
 bytes_lower text utf8 = ap (map to_ascii_lowercase) (sym (encodes-chars text utf8)) ∙ encodes_lower (chars text)
 
--- characters are the same case-insensitively exactly if they are equal in lower case
+-- characters are the same case-insensitively exactly when they are equal in lower case
 small_from_same : (c x : ℕ) → IsTrue (is_same false c x) → to_ascii_lowercase c ≡ to_ascii_lowercase x
 small_from_same c x h =
     ⊎_elim (λ e. ap to_ascii_lowercase (eqb-true c x e))

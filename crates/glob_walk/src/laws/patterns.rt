@@ -7,14 +7,14 @@ ghost use Rattle.glob_pattern.specs.Grammar.Faults.{Fault, IsFault};
 ghost use Rattle.glob_pattern.specs.Computing.Reading.{reading_of};
 ghost use Rattle.glob_pattern.specs.Laws.{TokensLoosened, PatternsLoosened, PlainAccepted, PlainMatchesSame, PlainMatchesItself, FoldedMatchSame, EscapedAccepted, EscapedMatchesSame, EscapedMatchesItself, TokensDecided, PatternsDecided, SeparatorRuleSparesNames, JoinedMatchLevels, RootedMatchLevels, PlainTokensStand, OneCharacterEach};
 
-/// The computed reading of a text returns tokens exactly if they are the text's tokens. For `a?` they are the literal
+/// The computed reading of a text returns tokens exactly when they are the text's tokens. For `a?` they are the literal
 /// `a` and `?`.
 pub fn reading_answers_tokens()
     ensures { (text : Text) (tokens : List Token)
         → (reading_of text ≡ Ok tokens) ↔ HasTokens text tokens }
 {}
 
-/// The computed reading of a text returns a fault exactly if it is the text's fault. For `a[` it is at place 1.
+/// The computed reading of a text returns a fault exactly when it is the text's fault. For `a[` it is at place 1.
 pub fn reading_answers_fault()
     ensures { (text : Text) (fault : Fault)
         → (reading_of text ≡ Err fault) ↔ IsFault text fault }
@@ -92,10 +92,10 @@ pub fn separator_rule_spares_names()
     ensures { SeparatorRuleSparesNames }
 {}
 
-/// Under the separator rule, a pattern matches names joined by `/` exactly if its components take the names. `**` takes
-/// any number of names (at least one at the end of the pattern), but under the dot rule no name that begins with a dot;
-/// any other component takes one name. For example, `a/**/c` matches `a/b/c`, since `a` takes `a`, `**` takes `b` and
-/// `c` takes `c`.
+/// Under the separator rule, a pattern matches names joined by `/` exactly when its components take the names. `**`
+/// takes any number of names (at least one at the end of the pattern), but under the dot rule no name that begins with a
+/// dot; any other component takes one name. For example, `a/**/c` matches `a/b/c`, since `a` takes `a`, `**` takes `b`
+/// and `c` takes `c`.
 pub fn components_match_level_by_level()
     ensures joined { JoinedMatchLevels }
     ensures rooted { RootedMatchLevels }

@@ -5,9 +5,9 @@ ghost use Rattle.glob_walk.specs.Laws.{EnoughLevelsAgree, EntriesAscend, TakenGo
 
 use std::alloc::Allocator;
 
-/// Case-sensitively and under the separator rule, a plain pattern without a `/` at its end matches the path of a key
-/// below the start exactly if its components take the key's names: `a/**/c` matches `a/b/c`, since `a` takes `a`, `**`
-/// takes `b` and `c` takes `c`.
+/// If case matters, and under the separator rule, a plain pattern without a `/` at its end matches the path of a key
+/// below the start exactly when its components take the key's names: `a/**/c` matches `a/b/c`, since `a` takes `a`,
+/// `**` takes `b` and `c` takes `c`.
 pub fn plain_pattern_matches_level_by_level()
     ensures { PlainMatchesLevels }
 {}

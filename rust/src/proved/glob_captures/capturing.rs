@@ -1,4 +1,4 @@
-//! Made by `bin/rust_crate` from `crates/glob_captures/src/capturing.rt`, where its contracts are: sha256 596e4e33f7ef0b81.
+//! Made by `bin/rust_crate` from `crates/glob_captures/src/capturing.rt`, where its contracts are: sha256 3e21b940f7ec0c1d.
 //!
 //! The piece of a text that each token of a pattern takes.
 
@@ -10,7 +10,7 @@ use crate::proved::glob_captures::steps::{bytes_of, form_of, is_too_large};
 use crate::proved::glob_pattern::{characters_of, opens, tokens_len, MatchOptions, Pattern};
 
 /// Splits the text into the pieces that the pattern's tokens take, and returns where they are, in bytes and in order;
-/// `None` exactly if the pattern does not match the text. If there are several splits, the first piece is as short as
+/// `None` exactly when the pattern does not match the text. If there are several splits, the first piece is as short as
 /// possible, then the second, and so on.
 ///
 /// For example, `*.*` splits `a.b.rs` into `a`, `.` and `b.rs`: from 0 up to 1, from 1 up to 2, and from 2 up to 6.

@@ -1,4 +1,4 @@
-//! Made by `bin/rust_crate` from `crates/glob_search/src/active.rt`, where its contracts are: sha256 504dc0d9e3e3b14b.
+//! Made by `bin/rust_crate` from `crates/glob_search/src/active.rt`, where its contracts are: sha256 97c518bd4c8bc14b.
 //!
 //! The ignore rules that are active in a directory: those that may name a path in it.
 
@@ -33,8 +33,8 @@ impl ActiveRules {
         !self.first.is_empty() || !self.files.is_empty() || !self.last.is_empty()
     }
 
-    /// Whether the rule that decides ignores the path. The directories above it are not checked: they were checked when
-    /// they were entered.
+    /// Whether the deciding rule ignores the path. The directories above it are not checked: they were checked when they
+    /// were entered.
     pub fn ignores(&self, path: &str, is_dir: bool) -> bool {
         if let Some(ignored) = last_said(self.first.as_slice(), path, is_dir) {
             return ignored;

@@ -1,4 +1,4 @@
-//! Made by `bin/rust_crate` from `crates/glob_set/src/keyed.rt`, where its contracts are: sha256 a7887038d096d714.
+//! Made by `bin/rust_crate` from `crates/glob_set/src/keyed.rt`, where its contracts are: sha256 a1ee249b9d9f94c9.
 //! Not derived there: `Keyed`.
 //! `Vec::with_capacity` and `resize` are there `vec![x; n]`: memory that is asked for as zeros is never what was freed
 //! last, and costs more.
@@ -79,7 +79,7 @@ impl Keyed {
         self.find(component.hash, found);
     }
 
-    /// Adds the patterns whose key is this component, which ends before this byte, or this beginning of one.
+    /// Adds the patterns whose key is this component, if it ends before this byte, or is this beginning of a component.
     #[inline(always)]
     fn find_before(&self, byte: u8, component: Component, found: &mut Found) {
         let is_used = has_length(self.kinds.beginnings, component.len);

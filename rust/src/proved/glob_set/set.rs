@@ -1,4 +1,4 @@
-//! Made by `bin/rust_crate` from `crates/glob_set/src/set.rt`, where its contracts are: sha256 070253446daf11e4.
+//! Made by `bin/rust_crate` from `crates/glob_set/src/set.rt`, where its contracts are: sha256 f7aab1bfe8aa2df1.
 //! Not derived there: `PatternSet`.
 //! `of_texts` is there `from_texts`: by hand it takes all kinds of lists.
 //! `of_braces` is there `from_braces`: by hand it takes all kinds of lists.
@@ -146,7 +146,7 @@ impl PatternSet {
     }
 
     /// Parses all alternatives of all texts, such as `src/*.{c,h}`, and makes a set of the patterns: text by text, each
-    /// in the order of [`expand`](crate::proved::glob_set::braces::expand). The set matches a text exactly if an
+    /// in the order of [`expand`](crate::proved::glob_set::braces::expand). The set matches a text exactly when an
     /// alternative of one of the texts does.
     ///
     /// The error is [`Braces`](BraceSetRefusal::Braces) or [`Pattern`](BraceSetRefusal::Pattern) for the first text

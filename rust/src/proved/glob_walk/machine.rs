@@ -1,4 +1,4 @@
-//! Made by `bin/rust_crate` from `crates/glob_walk/src/machine.rt`, where its contracts are: sha256 1bc53274947c115b.
+//! Made by `bin/rust_crate` from `crates/glob_walk/src/machine.rt`, where its contracts are: sha256 9b86259b95c6af55.
 //!
 //! A walk that asks its caller, and reads nothing by itself.
 
@@ -43,7 +43,7 @@ pub enum Step {
     Done,
 }
 
-/// An answer to the open question. For a look at the directory `a` it is `Answer::Look(Ok(Look::Dir))`.
+/// An answer to the open question. For a look at the directory `a` it is `Answer::Look(Look::Dir)`.
 ///
 /// ```
 /// use cadmiumdove::walk::{Answer, Look, Step, WalkMachine};
@@ -59,7 +59,7 @@ pub enum Step {
 pub enum Answer {
     /// There is no answer, since no question is open.
     Nothing,
-    /// What a look found. `Err` means that memory ran out.
+    /// What a look found.
     Look(Look),
     /// The entries of a directory, or only their names, in any order; or why it could not be listed.
     List(Result<Vec<Entry>, io::Error>),
@@ -71,7 +71,7 @@ pub enum Answer {
 /// ```text
 /// let mut machine = WalkMachine::new("*", MatchOptions::new(), 100)?;
 /// machine.resume(Answer::Nothing)               // Step::Look; machine.path() is "."
-/// machine.resume(Answer::Look(Ok(Look::Dir)))   // Step::ListNames; machine.path() is "."
+/// machine.resume(Answer::Look(Look::Dir))   // Step::ListNames; machine.path() is "."
 /// machine.resume(Answer::List(Ok(entries)))     // of files `y` and `x`: Step::Item(Ok("x"))
 /// machine.resume(Answer::Nothing)               // Step::Item(Ok("y"))
 /// machine.resume(Answer::Nothing)               // Step::Done; machine.spent() is 4
@@ -83,15 +83,15 @@ pub enum Answer {
 /// more item than it charged units. It never charges more than its limit, so it comes to an end.
 ///
 /// ```
-/// use cadmiumdove::walk::{Look, Step, WalkMachine};
+/// use cadmiumdove::walk::{Answer, Look, Step, WalkMachine};
 /// use cadmiumdove::MatchOptions;
 ///
 /// let mut machine = WalkMachine::new("a/b", MatchOptions::new(), 100)?;
-/// assert!(matches!(machine.next(), Step::Look) && machine.path() == ".");
-/// assert!(matches!(machine.looked(Look::Dir), Step::Look) && machine.path() == "a");
-/// assert!(matches!(machine.looked(Look::Dir), Step::Look) && machine.path() == "a/b");
-/// assert!(matches!(machine.looked(Look::Other), Step::Item(Ok(path)) if path.ends_with("b")));
-/// assert!(matches!(machine.next(), Step::Done));
+/// assert!(matches!(machine.resume(Answer::Nothing), Step::Look) && machine.path() == ".");
+/// assert!(matches!(machine.resume(Answer::Look(Look::Dir)), Step::Look) && machine.path() == "a");
+/// assert!(matches!(machine.resume(Answer::Look(Look::Dir)), Step::Look) && machine.path() == "a/b");
+/// assert!(matches!(machine.resume(Answer::Look(Look::Other)), Step::Item(Ok(path)) if path.ends_with("b")));
+/// assert!(matches!(machine.resume(Answer::Nothing), Step::Done));
 /// # Ok::<(), cadmiumdove::PatternError>(())
 /// ```
 pub struct WalkMachine {
@@ -204,9 +204,9 @@ impl WalkMachine {
     /// is: the question is asked again, at no cost.
     ///
     /// The first step of each walk is `Step::Look`, at the path `.` or `/`; at a limit of 0 it is an error with the
-    /// cause `Limit`. If `*` has looked at `.`, `Answer::Look(Ok(Look::Dir))` leads to `Step::ListNames`, and
-    /// `Answer::Look(Ok(Look::Missing))` to `Step::Done`. Each entry of a listing costs one unit of work. After
-    /// `Err(e)` the step is an error with the path, the kind of `e` and the cause `Read`, and the walk goes on.
+    /// cause `Limit`. If `*` has looked at `.`, `Answer::Look(Look::Dir)` leads to `Step::ListNames`, and
+    /// `Answer::Look(Look::Missing)` to `Step::Done`. Each entry of a listing costs one unit of work. After `Err(e)`
+    /// the step is an error with the path, the kind of `e` and the cause `Read`, and the walk goes on.
     ///
     /// <details><summary>Contract</summary>
     ///

@@ -1,4 +1,4 @@
-//! Made by `bin/rust_crate` from `crates/glob_walk/src/task.rt`, where its contracts are: sha256 aafc03310f29e534.
+//! Made by `bin/rust_crate` from `crates/glob_walk/src/task.rt`, where its contracts are: sha256 e7581423fc426549.
 //!
 //! What a walk does next: a path, and the index of the component from which it goes on there.
 
@@ -37,7 +37,7 @@ pub struct Task {
 }
 
 impl Accepted {
-    /// Which looks are accepted for a literal component below a path: `.` and `..` are there exactly if the path is a
+    /// Which looks are accepted for a literal component below a path: `.` and `..` are there exactly when the path is a
     /// directory, whatever the look returns.
     pub fn of_literal(is_current_or_parent: bool, is_dir: bool) -> Accepted {
         if !is_current_or_parent {

@@ -13,7 +13,7 @@ computed : is_match new_options (chars (codes "*.rs")) (chars (codes "main.rs"))
 unfolding is_match tokens_match units_from chars
 computed = refl
 
--- the lemma makes a match of it, and the pattern has the text that it was made of
+-- by the lemma this is a match, and the pattern has the text from which it was made
 pub returns : goal.returns
 returns g c =
     let matches = match_by_computing new_options (chars (codes "*.rs")) (chars (codes "main.rs")) computed in
