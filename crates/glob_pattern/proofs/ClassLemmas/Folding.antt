@@ -78,7 +78,7 @@ pub held-none : (x y c : ℕ) → y < x → in_range x y c ≡ false
 held-none x y c less = grind (arith, nat_tests)
 
 -- a single character is held as the range from itself to itself
-single-held : (case : Bool) (c x : ℕ) → entry_holds case c (Range x x) ≡ is_same case c x
+pub single-held : (case : Bool) (c x : ℕ) → entry_holds case c (Range x x) ≡ is_same case c x
 single-held true c x = grind (arith, nat_tests)
 single-held false c x = grind (arith, nat_tests)
 
