@@ -1,4 +1,4 @@
-//! Made by `bin/rust_crate` from `crates/glob_set/src/buckets.rt`, where its contracts are: sha256 bfbeb0d9fe43b4de.
+//! Made by `bin/rust_crate` from `crates/glob_set/src/buckets.rt`, where its contracts are: sha256 0920eab2f3361576.
 //! Not derived there: `Bucket`, `Buckets`.
 //!
 //! The patterns without a key that may match a text, listed by the class of the text's last two bytes.
@@ -21,7 +21,7 @@ impl Bucket {
         Bucket { numbers: Vec::new() }
     }
 
-    /// The numbers, such as 1 and 4.
+    /// The numbers of the patterns in this bucket.
     #[inline(always)]
     pub fn numbers(&self) -> &[usize] {
         self.numbers.as_slice()
@@ -85,7 +85,7 @@ impl Buckets {
         self.rest.push(number)
     }
 
-    /// Lists the patterns without a key by what they need.
+    /// Sorts the patterns without a key into buckets, by what a text needs to match them.
     pub fn new(needs: &[Need], keys: &[Option<Key>]) -> Self {
         let mut buckets = Buckets::empty();
         for number in 0..needs.len() {

@@ -1,4 +1,4 @@
-//! Made by `bin/rust_crate` from `crates/glob_pattern/src/matcher/positions.rt`, where its contracts are: sha256 deb2ee25af11c459.
+//! Made by `bin/rust_crate` from `crates/glob_pattern/src/matcher/positions.rt`, where its contracts are: sha256 a85235734ce3e2e5.
 //! `Vec::with_capacity` and `resize` are there `vec![x; n]`: memory that is asked for as zeros is never what was freed
 //! last, and costs more.
 //!
@@ -78,7 +78,7 @@ fn run_words<J: Judge>(words: &[ShapeWord], alive: &mut [u64], span: Span, judge
 }
 
 /// Steps the first word, in a loop of its own, until a position in another word is alive: then it returns the live
-/// words. `None` if the characters end before, or nothing is alive: then the shapes do not split the characters.
+/// words. Returns `None` if the characters end first or nothing is alive: then the shapes do not split the characters.
 #[inline(always)]
 fn run_first<J: Judge>(words: &[ShapeWord], alive: &mut [u64], judge: &mut J) -> Option<Live> {
     let word = words[0];

@@ -1,4 +1,4 @@
-//! Made by `bin/rust_crate` from `crates/glob_set/src/braces/counting.rt`, where its contracts are: sha256 718271a4dd142c71.
+//! Made by `bin/rust_crate` from `crates/glob_set/src/braces/counting.rt`, where its contracts are: sha256 d07e8b23291168aa.
 //!
 //! The number of alternatives of lexemes, and whether their braces are balanced.
 
@@ -30,8 +30,8 @@ pub fn count_of(lexemes: &[Lexeme]) -> Result<usize, BraceError> {
     }
 }
 
-/// Reads one more lexeme. `count` is the number of alternatives since the last open `{` or its last comma; the result
-/// is the new one.
+/// Reads one more lexeme. `count` is the number of alternatives of the current branch, which began after the innermost
+/// open `{` or its last comma. Returns the new count.
 fn count_lexeme(opened: &mut Vec<Opened>, count: usize, place: usize, lexeme: Lexeme) -> Result<usize, BraceError> {
     match lexeme {
         Lexeme::Literal(_) => Ok(count),
