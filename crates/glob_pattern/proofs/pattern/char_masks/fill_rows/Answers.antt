@@ -61,7 +61,8 @@ loop-word-preserved g c =
     ) in
     let cut = length-take (2 * columns) (drop at old) in
     let rest = length-drop at old in
-    let long : length new ≡ 2 * columns = omega (arith, rw (whole, c.count-columns.ensures) at c.fill_word.ensures.long, cut, rest, within) in
+    let kept = rw (whole, c.count-columns.ensures) at c.fill_word.ensures.long in
+    let long : length new ≡ 2 * columns = omega (arith, kept, cut, rest, within) in
     rw (whole, c.count-columns.ensures) (record {
       long = length-written at (2 * columns) old new within long ∙ i.long;
       done = λ n case lt.

@@ -30,6 +30,7 @@ returns-clause-masks g c = λ case.
             let plain : is_plain t ≡ true = ⊎_elim
             (λ below. AllPass-from_list_all is_plain tokens all (0 + j) AnyChar below)
             (λ past. ap is_plain (get_or_past tokens (0 + j) AnyChar past)) (cases_lt (0 + j) (length tokens)) in
-            rw (takes-caseless o opening true d t plain) (c.fill.ensures.plain.takes (record o { case_sensitive = true }) opening d j refl short);
+            rw (takes-caseless o opening true d t plain)
+            (c.fill.ensures.plain.takes (record o { case_sensitive = true }) opening d j refl short);
       });
     }
