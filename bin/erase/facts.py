@@ -3,7 +3,7 @@ from .syntax import Node
 
 # What allocates in std: Rattle's returns a `Result`.
 ALLOCATES = {"append", "clone", "extend", "extend_from_slice", "from_slice", "from_str", "insert", "push", "push_str",
-    "to_ascii_lowercase", "to_lowercase", "with_capacity"}
+    "resize", "to_ascii_lowercase", "to_lowercase", "with_capacity"}
 
 # Expressions that change nothing, and calls that do not.
 PURE = {"path", "segment", "get", "literal", "borrow", "unary", "binary", "cast", "paren", "index"}

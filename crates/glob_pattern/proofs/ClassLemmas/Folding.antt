@@ -1,12 +1,12 @@
 -- Case-insensitively, a range holds the characters of three ranges.
-use Rattle.std.proofs.Common.{◌≡◌, ℕ, ◌+◌, ◌<◌, ◌≤◌, ◌⊎◌, Bool, true, false, not, ◌&&◌, ◌||◌, ◌==◌, refl, sym, ap, ◌∙◌, ⊎_elim, arith}
+use Rattle.std.proofs.Common.{◌≡◌, ℕ, ◌+◌, ◌<◌, ◌≤◌, ◌⊎◌, Bool, true, false, not, ◌&&◌, ◌||◌, refl, sym, ap, ◌∙◌, ⊎_elim, arith}
 use Rattle.std.proofs.Math.Bool.{or-false}
-use Rattle.std.proofs.lemmas.Bool.{cases_Bool, lt-ltb, le-ltb, cases_lt, false≢true}
+use Rattle.std.proofs.lemmas.Bool.{lt-ltb, le-ltb, cases_lt, false≢true}
 use Rattle.std.proofs.lemmas.Bool.Decides.{nat_tests}
 use Rattle.std.specs.Char.{to_ascii_lowercase, to_ascii_uppercase, is_ascii, is_ascii_lowercase, is_ascii_alphabetic}
 use Rattle.glob_pattern.specs.Grammar.Brackets.{is_same, in_range, in_folded_range, entry_holds}
 use Rattle.glob_pattern.specs.Private.Brackets.{first_of, last_of}
-use Rattle.glob_pattern.specs.Private.Classes.{are_letters, EachCase}
+use Rattle.glob_pattern.specs.Private.Classes.{are_letters}
 use Rattle.glob_pattern.specs.declared.token.bracket.Entry.{Entry}
 use Rattle.glob_pattern.specs.declared.token.bracket.Entry.TheVariants.{Single, Range}
 use Rattle.glob_pattern.proofs.MatchingLemmas.Case.{lower_cases}
@@ -78,25 +78,9 @@ pub held-none : (x y c : ℕ) → y < x → in_range x y c ≡ false
 held-none x y c less = grind (arith, nat_tests)
 
 -- a single character is held as the range from itself to itself
-single-held : (case : Bool) (c x : ℕ) → entry_holds case c (Range x x) ≡ is_same case c x
+pub single-held : (case : Bool) (c x : ℕ) → entry_holds case c (Range x x) ≡ is_same case c x
 single-held true c x = grind (arith, nat_tests)
 single-held false c x = grind (arith, nat_tests)
-
--- a character that is not a letter is its own lower-case and upper-case form
-other-case : (x : ℕ) → are_letters x x ≡ false → (to_ascii_lowercase x ≡ x) × (to_ascii_uppercase x ≡ x)
-other-case x none = grind (arith, nat_tests)
-
--- so what holds for a literal in each case holds for both forms
-pub EachCase-forms : (P : ℕ → ℕ → Type 0) (x : ℕ) → EachCase P x x
-    → P (to_ascii_lowercase x) (to_ascii_lowercase x) × P (to_ascii_uppercase x) (to_ascii_uppercase x)
-EachCase-forms P x each = ⊎_elim
-    (λ letter. (each.lower letter (omega arith), each.upper letter (omega arith)))
-    (λ other. let (lower, upper) = other-case x other in (rw lower (each.plain (omega arith)), rw upper (each.plain (omega arith))))
-    (cases_Bool (are_letters x x))
-
--- case-insensitively another is the same if it is one of the two
-pub either-same : (c x : ℕ) → (c == to_ascii_lowercase x || c == to_ascii_uppercase x) ≡ is_same false c x
-either-same c x = grind (arith, nat_tests)
 
 pub held-ends : (case : Bool) (c : ℕ) (e : Entry) → entry_holds case c (Range (first_of e) (last_of e)) ≡ entry_holds case c e
 held-ends case c (Single x) = single-held case c x

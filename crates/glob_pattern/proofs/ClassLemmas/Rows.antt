@@ -1,7 +1,7 @@
 -- Where rows of masks are in their list: one after another, two per word.
-use Rattle.std.proofs.Common.{◌≡◌, ℕ, ◌+◌, ◌*◌, ◌/◌, ◌%◌, ◌<◌, ◌≤◌, ◌==◌, Bool, true, false, List, ◌++◌, length, get_or}
-use Rattle.std.proofs.Common.{take, drop, eq-eqb, ap, ◌∙◌, ⊎_elim, arith, append-nil, min, sym}
-use Rattle.std.proofs.lemmas.Bool.{cases_lt, ne_eqb}
+use Rattle.std.proofs.Common.{◌≡◌, ℕ, ◌+◌, ◌*◌, ◌<◌, ◌≤◌, Bool, true, false, List, ◌++◌, length, get_or}
+use Rattle.std.proofs.Common.{take, drop, ap, ◌∙◌, ⊎_elim, arith, append-nil, min, sym}
+use Rattle.std.proofs.lemmas.Bool.{cases_lt}
 use Rattle.std.proofs.lemmas.List.{get_or-take, get_or-drop, get_or_past, length-take, take_all, drop_all}
 use Rattle.std.proofs.Math.Nat.{mul-le-mul_right}
 use Rattle.glob_pattern.specs.Private.CharMasks.{half_of}
@@ -23,11 +23,6 @@ part-zero a k xs zero r =
 pub written : (n : ℕ) (xs ys : List ℕ) → length ys ≤ length xs → length xs ≤ n → take n (xs ++ drop (length xs) ys) ≡ xs
 written n xs ys covers all = ap (λ rest. take n (xs ++ rest)) (drop_all (length xs) ys covers) ∙ ap (take n)
     (append-nil xs) ∙ take_all n xs all
-
--- the rows of a word
-pub row-word : (word : ℕ) (case : Bool) → ((2 * word + half_of case) / 2 ≡ word) × (((2 * word + half_of case) % 2 == 0) ≡ case)
-row-word word true = (omega arith, eq-eqb _ _ (omega arith))
-row-word word false = (omega arith, ne_eqb _ _ (λ e. omega arith))
 
 -- a word has two rows
 pub half-few : (case : Bool) → half_of case < 2

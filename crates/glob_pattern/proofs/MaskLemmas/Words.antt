@@ -162,26 +162,14 @@ module _ (a k : ℕ) (xs ys : List ℕ) (within : a + k ≤ length xs) (long : l
       let front : length (take a xs) ≡ a = length-take-le a xs (omega arith) in
       get_or_append_left (take a xs) (ys ++ post_of a k xs) 0 r (omega (arith, lt, front)) ∙ get_or-take a xs r 0 lt
 
-module _ (tokens : List Token) (start : ℕ) (p : Partition) (is : IsPartition p) (case : Bool) where
-  -- a row is where it is written
-  pub IsRow-placed : (a : ℕ) (xs ys : List ℕ) → a + columns_of p ≤ length xs → length ys ≡ columns_of p → IsRow tokens
-      start p case ys 0 → IsRow tokens start p case (put_mid a (columns_of p) xs ys) a
-  IsRow-placed a xs ys within long row = record {
-    takes = λ o opening c j same lt.
-        let at : 0 + class_of p o opening c ≡ class_of p o opening c = omega arith in
-        rw (placed a (columns_of p) xs ys within long (class_of p o opening c) (class-below o opening p is c), ← at)
-        (row.takes o opening c j same lt);
-  }
-
-  -- the rows before it stay
-  pub IsRow-before : (a at : ℕ) (xs ys : List ℕ) → a + columns_of p ≤ length xs → length ys ≡ columns_of p
-      → at + columns_of p ≤ a → IsRow tokens start p case xs at → IsRow tokens start p case
-      (put_mid a (columns_of p) xs ys) at
-  IsRow-before a at xs ys within long earlier row = record {
-    takes = λ o opening c j same lt.
-        rw (before a (columns_of p) xs ys within long (at + class_of p o opening c)
-        (omega (arith, earlier, class-below o opening p is c))) (row.takes o opening c j same lt);
-  }
+-- a row whose masks are in another list is a row there
+pub IsRow-moved : (tokens : List Token) (start : ℕ) (p : Partition) (is : IsPartition p) (case : Bool) (a b : ℕ) (xs ys : List ℕ)
+    → ((r : ℕ) → r < columns_of p → mask_at ys (b + r) ≡ mask_at xs (a + r)) → IsRow tokens start p case xs a
+    → IsRow tokens start p case ys b
+IsRow-moved tokens start p is case a b xs ys same row = record {
+  takes = λ o opening c j of lt.
+      rw (same (class_of p o opening c) (class-below o opening p is c)) (row.takes o opening c j of lt);
+}
 
 -- what is after a part that is written stays
 pub past : (a k : ℕ) (xs ys : List ℕ) → a + k ≤ length xs → length ys ≡ k → (r : ℕ) → a + k ≤ r → mask_at

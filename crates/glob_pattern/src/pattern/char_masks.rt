@@ -64,8 +64,8 @@ impl<A: Allocator + Copy> CharMasks<A> {
             let masks = rows_of(alloc, tokens, words, Classes::NONE)?;
             return Ok(CharMasks::PlainWords(masks));
         }
-        let mut masks = [0; 3];
-        fill(&mut masks, Classes::NONE, tokens, 0, true);
+        let (mut masks, mut folded) = ([0; 3], [0; 3]);
+        fill(&mut masks, &mut folded, Classes::NONE, tokens, 0);
         Ok(CharMasks::Plain(masks))
     }
 }
@@ -220,33 +220,54 @@ fn rows_of<A: Allocator + Copy>(
 {
     let rows = 2 * words;
     let mut masks = vec![in alloc; 0; rows.saturating_mul(classes.count())]?;
-    fill_rows(masks.as_mut_slice(), classes, tokens, rows);
+    fill_rows(masks.as_mut_slice(), classes, tokens, words);
     Ok(masks)
 }
 
-/// Turns zeros into `rows` rows of masks.
+/// Turns zeros into two rows of masks for each word.
 fn fill_rows<A: Allocator>(
     masks: &mut [u64],
     classes: Classes<'_>,
     tokens: &[Token<Bracket<A>>],
-    rows: usize,
+    words: usize,
 )
     requires partition { IsPartition (partition_of classes) }
     requires apart { EachInterval (Separates (partition_of classes)) tokens.now }
-    requires rows { (n : ℕ) → n < rows → 63 * (n / 2) ≤ length tokens.now }
-    requires long { length masks.old ≡ rows * columns_of (partition_of classes) }
+    requires words { 63 * words ≤ length tokens.now + 63 }
+    requires long { length masks.old ≡ words * (2 * columns_of (partition_of classes)) }
     requires empty { (r : ℕ) → mask_at masks.old r ≡ 0 }
     ensures long { length masks.new ≡ length masks.old }
-    ensures rows { (n : ℕ) → n < rows
-        → IsRow tokens.now (63 * (n / 2)) (partition_of classes.entry) (n % 2 == 0) masks.new
-        (n * columns_of (partition_of classes.entry)) }
+    ensures rows { (word : ℕ) (case : Bool) → word < words
+        → IsRow tokens.now (63 * word) (partition_of classes.entry) case masks.new
+        ((2 * word + half_of case) * columns_of (partition_of classes.entry)) }
 {
     let columns = classes.count();
-    for n in 0..rows {
-        let at = n * columns;
-        let row = &mut masks[at..at + columns];
-        fill(row, classes, tokens, WORD * (n / 2), n % 2 == 0);
+    for word in 0..words {
+        let long = 2 * columns;
+        let at = word * long;
+        let rows = &mut masks[at..at + long];
+        fill_word(rows, classes, tokens, WORD * word);
     }
+}
+
+/// Turns two rows of zeros into those of the word of tokens from `start` on.
+fn fill_word<A: Allocator>(
+    rows: &mut [u64],
+    classes: Classes<'_>,
+    tokens: &[Token<Bracket<A>>],
+    start: usize,
+)
+    requires partition { IsPartition (partition_of classes) }
+    requires apart { EachInterval (Separates (partition_of classes)) tokens.now }
+    requires start { start ≤ length tokens.now }
+    requires long { length rows.old ≡ 2 * columns_of (partition_of classes) }
+    requires empty { (r : ℕ) → mask_at rows.old r ≡ 0 }
+    ensures long { length rows.new ≡ length rows.old }
+    ensures rows { (case : Bool) → IsRow tokens.now start (partition_of classes.entry) case rows.new
+        (half_of case * columns_of (partition_of classes.entry)) }
+{
+    let (plain, folded) = rows.split_at_mut(classes.count());
+    fill(plain, folded, classes, tokens, start);
 }
 
 /// Whether no token lists a character.

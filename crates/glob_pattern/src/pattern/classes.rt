@@ -64,8 +64,8 @@ impl Classes<'_> {
     }
 }
 
-/// The number of boundaries up to `c`. It takes slices, since a struct would be passed in memory.
-#[inline(never)]
+/// The number of boundaries up to `c`.
+#[inline(always)]
 fn begun_at(boundaries: &[u32], counts: &[u8], c: char) -> usize
     requires rising { IsNonDecreasing boundaries.now }
     requires counts { AreCounts boundaries.now counts.now }
@@ -256,6 +256,7 @@ fn begun_by_search(boundaries: &[u32], c: u32) -> usize
 /// search. The list is empty if there is no boundary, or if there are too many for a byte. Fails only if allocation
 /// fails.
 pub fn counts_of<A: Allocator>(alloc: A, boundaries: &[u32]) -> Result<Vec<u8, A>, AllocError>
+    requires { IsNonDecreasing boundaries.now }
     ensures { IfOk result (λ counts. AreCounts boundaries.now counts.items) }
 {
     match boundaries.first() {
@@ -264,37 +265,27 @@ pub fn counts_of<A: Allocator>(alloc: A, boundaries: &[u32]) -> Result<Vec<u8, A
     }
 }
 
-/// The number of boundaries up to each of `COUNTED` characters, from `base` on.
+/// The number of boundaries up to each of `COUNTED` characters, from `base` on, which is the first boundary. It is `n`
+/// for those before boundary `n` and not before an earlier one.
 fn counts_from<A: Allocator>(
     alloc: A,
     boundaries: &[u32],
     base: u32,
 ) -> Result<Vec<u8, A>, AllocError>
-    requires { length boundaries.now < 256 }
+    requires few { length boundaries.now < 256 }
+    requires rising { IsNonDecreasing boundaries.now }
+    requires base { (i : ℕ) → i < length boundaries.now → base ≤ slice_index boundaries.now i }
     ensures { IfOk result (λ counts. (i : ℕ) → i < length counts.items
         → slice_index counts.items i
         ≡ prefix_len (λ first. nat_le first (base + i)) boundaries.now) }
 {
     let mut counts = Vec::with_capacity(alloc, COUNTED)?;
-    let mut count = 0;
-    for i in 0..COUNTED {
-        count = passed(boundaries, count, u64::from(base) + i as u64);
-        counts.push(count as u8)?;
+    for n in 0..boundaries.len() {
+        let end = (boundaries[n] - base) as usize;
+        counts.resize(end.min(COUNTED), n as u8)?;
     }
+    counts.resize(COUNTED, boundaries.len() as u8)?;
     Ok(counts)
-}
-
-/// The number of boundaries up to `c`, which must be at least `least`.
-fn passed(boundaries: &[u32], least: usize, c: u64) -> usize
-    requires within { least ≤ length boundaries.now }
-    requires least { (k : ℕ) → k < least → slice_index boundaries.now k ≤ c }
-    ensures { result ≡ prefix_len (λ first. nat_le first c) boundaries.now }
-{
-    let mut count = least;
-    while count < boundaries.len() && u64::from(boundaries[count]) <= c {
-        count += 1;
-    }
-    count
 }
 
 /// Whether both are ASCII letters.

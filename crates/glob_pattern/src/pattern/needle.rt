@@ -11,6 +11,9 @@ use std::simd::prelude::*;
 /// The number of offsets searched at once, and the greatest length of a needle in bytes.
 const LANES: usize = 16;
 
+/// A needle of so many bytes is long enough: there may be no room for another character, and few texts contain it.
+const ENOUGH: usize = LANES - 3;
+
 /// The one bit in which upper and lower case of an ASCII letter differ.
 const CASE: u8 = 0x20;
 
@@ -28,14 +31,17 @@ impl Needle {
         len: 0,
     };
 
-    /// The UTF-8 of the longest stretch of neighbouring literals. Stretches beyond 16 bytes are cut into pieces. A
-    /// needle of fewer than two bytes is useless, and is never searched for.
+    /// The UTF-8 of the longest stretch of neighbouring literals, or of the first one that is long enough. Stretches
+    /// beyond 16 bytes are cut into pieces. A needle of fewer than two bytes is useless, and is never searched for.
     pub fn of<A: Allocator>(tokens: &[Token<Bracket<A>>]) -> Needle
         ensures { IsNeedle tokens.now result }
     {
         let mut longest = Needle::NONE;
         let mut needle = Needle::NONE;
         for token in tokens {
+            if longest.len >= ENOUGH {
+                break;
+            }
             match token {
                 Token::Literal(c) => needle.add(*c),
                 _ => needle.len = 0,

@@ -1,5 +1,5 @@
 //! A row of masks: for each class of characters, which of 63 neighbouring tokens take them.
-ghost use Rattle.std.specs.Prelude.{◌≡◌, ℕ, ◌+◌, ◌<◌, ◌≤◌, ◌↔◌, ◌==◌, ◌&&◌, not, List, length, true, bit_xor};
+ghost use Rattle.std.specs.Prelude.{◌≡◌, ℕ, ◌+◌, ◌<◌, ◌≤◌, ◌↔◌, ◌==◌, ◌&&◌, not, List, length, true, false, bit_xor};
 ghost use Rattle.std.specs.List.{All};
 ghost use Rattle.glob_pattern.specs.Grammar.Brackets.{is_same, in_range, holds, entry_holds};
 ghost use Rattle.glob_pattern.specs.Grammar.Tokens.{Token as TokenOf, is_recursive};
@@ -39,26 +39,30 @@ impl Kinds {
     };
 }
 
-/// Turns a row of zeros into the row of the tokens from `start` on.
+/// Turns two rows of zeros into the case-sensitive and the case-insensitive row of the tokens from `start` on.
 pub fn fill<A: Allocator>(
-    row: &mut [u64],
+    plain: &mut [u64],
+    folded: &mut [u64],
     classes: Classes<'_>,
     tokens: &[Token<Bracket<A>>],
     start: usize,
-    case_sensitive: bool,
 )
     requires partition { IsPartition (partition_of classes) }
-    requires long { length row.old ≡ columns_of (partition_of classes) }
+    requires long { length plain.old ≡ columns_of (partition_of classes) }
+    requires long_folded { length folded.old ≡ columns_of (partition_of classes) }
     requires apart { EachInterval (Separates (partition_of classes)) tokens.now }
     requires start { start ≤ length tokens.now }
-    requires empty { (r : ℕ) → mask_at row.old r ≡ 0 }
-    ensures { IsRow tokens.now start (partition_of classes.entry) case_sensitive row.new 0 }
+    requires empty { (r : ℕ) → mask_at plain.old r ≡ 0 }
+    requires empty_folded { (r : ℕ) → mask_at folded.old r ≡ 0 }
+    ensures plain { IsRow tokens.now start (partition_of classes.entry) true plain.new 0 }
+    ensures folded { IsRow tokens.now start (partition_of classes.entry) false folded.new 0 }
 {
     let mut kinds = Kinds::NONE;
     for n in start..tokens.len().min(start.saturating_add(WORD)) {
-        kinds = list_token(row, classes, kinds, n - start, &tokens[n], case_sensitive);
+        kinds = list_token(plain, folded, classes, kinds, n - start, &tokens[n]);
     }
-    finish(row, classes, kinds, case_sensitive);
+    finish(plain, classes, kinds, true);
+    finish(folded, classes, kinds, false);
 }
 
 /// Turns the masks of tokens that list a character into those of tokens that take it.
@@ -92,27 +96,31 @@ fn invert(row: &mut [u64], bits: u64)
 /// kinds.
 #[inline(always)]
 fn list_token<A: Allocator>(
-    row: &mut [u64],
+    plain: &mut [u64],
+    folded: &mut [u64],
     classes: Classes<'_>,
     kinds: Kinds,
     bit: usize,
     token: &Token<Bracket<A>>,
-    case_sensitive: bool,
 ) -> Kinds
     requires partition { IsPartition (partition_of classes) }
     requires bit { bit < 63 }
-    requires long { length row.old ≡ columns_of (partition_of classes) }
+    requires long { length plain.old ≡ columns_of (partition_of classes) }
+    requires long_folded { length folded.old ≡ columns_of (partition_of classes) }
     requires apart { TokenIntervals (Separates (partition_of classes)) token.now }
-    ensures listed { (c : ℕ) → IsWith (mask_at row.old (class_in (partition_of classes.entry) c))
-        (mask_at row.new (class_in (partition_of classes.entry) c)) bit
-        (lists case_sensitive c token.now) }
+    ensures plain { (c : ℕ) → IsWith (mask_at plain.old (class_in (partition_of classes.entry) c))
+        (mask_at plain.new (class_in (partition_of classes.entry) c)) bit
+        (lists true c token.now) }
+    ensures folded { (c : ℕ) → IsWith (mask_at folded.old (class_in (partition_of classes.entry) c))
+        (mask_at folded.new (class_in (partition_of classes.entry) c)) bit
+        (lists false c token.now) }
     ensures others { IsWith kinds.others result.others bit (takes_all_but_listed token.now) }
     ensures brackets { IsWith kinds.brackets result.brackets bit (is_bracket token.now) }
     ensures recursive { IsWith kinds.recursive result.recursive bit (is_recursive token.now) }
 {
     match token {
         Token::Literal(c) => {
-            list_literal(row, classes, bit, *c, case_sensitive);
+            list_cases(plain, folded, classes, bit, *c, *c);
             kinds
         }
         Token::AnyChar | Token::AnySequence => Kinds {
@@ -125,14 +133,14 @@ fn list_token<A: Allocator>(
             ..kinds
         },
         Token::OneOf(bracket) => {
-            list_all(row, classes, bit, bracket.entries(), case_sensitive);
+            list_all(plain, folded, classes, bit, bracket.entries());
             Kinds {
                 brackets: with_bit(kinds.brackets, bit),
                 ..kinds
             }
         }
         Token::NoneOf(bracket) => {
-            list_all(row, classes, bit, bracket.entries(), case_sensitive);
+            list_all(plain, folded, classes, bit, bracket.entries());
             Kinds {
                 others: with_bit(kinds.others, bit),
                 brackets: with_bit(kinds.brackets, bit),
@@ -142,99 +150,106 @@ fn list_token<A: Allocator>(
     }
 }
 
-/// Sets the bit in the mask of the character, and case-insensitively also in the mask of its other case.
-#[inline(always)]
-fn list_literal(row: &mut [u64], classes: Classes<'_>, bit: usize, c: char, case_sensitive: bool)
-    requires partition { IsPartition (partition_of classes) }
-    requires bit { bit < 63 }
-    requires long { length row.old ≡ columns_of (partition_of classes) }
-    requires apart { EachCase (Separates (partition_of classes)) c c }
-    ensures { (d : ℕ) → IsWith (mask_at row.old (class_in (partition_of classes.entry) d))
-        (mask_at row.new (class_in (partition_of classes.entry) d)) bit
-        (is_same case_sensitive d c) }
-{
-    if case_sensitive {
-        list_char(row, classes, bit, c);
-        return;
-    }
-    let (lower, upper) = (c.to_ascii_lowercase(), c.to_ascii_uppercase());
-    list_char(row, classes, bit, lower);
-    if upper == lower {
-        return;
-    }
-    list_char(row, classes, bit, upper);
-}
-
-/// Sets the bit in the mask of the character.
-#[inline(always)]
-fn list_char(row: &mut [u64], classes: Classes<'_>, bit: usize, c: char)
-    requires partition { IsPartition (partition_of classes) }
-    requires bit { bit < 63 }
-    requires long { length row.old ≡ columns_of (partition_of classes) }
-    requires apart { Separates (partition_of classes) c c }
-    ensures { (d : ℕ) → IsWith (mask_at row.old (class_in (partition_of classes.entry) d))
-        (mask_at row.new (class_in (partition_of classes.entry) d)) bit (d == c) }
-{
-    list_class(row, bit, classes.class(c));
-}
-
 /// Sets the bit in the masks of the characters that an entry holds.
 fn list_all(
-    row: &mut [u64],
+    plain: &mut [u64],
+    folded: &mut [u64],
     classes: Classes<'_>,
     bit: usize,
     entries: &[Entry],
-    case_sensitive: bool,
 )
     requires partition { IsPartition (partition_of classes) }
     requires bit { bit < 63 }
-    requires long { length row.old ≡ columns_of (partition_of classes) }
+    requires long { length plain.old ≡ columns_of (partition_of classes) }
+    requires long_folded { length folded.old ≡ columns_of (partition_of classes) }
     requires apart { All (EntryIntervals (Separates (partition_of classes))) entries.now }
-    ensures { (c : ℕ) → IsWith (mask_at row.old (class_in (partition_of classes.entry) c))
-        (mask_at row.new (class_in (partition_of classes.entry) c)) bit
-        (holds case_sensitive c entries.now) }
+    ensures plain { (c : ℕ) → IsWith (mask_at plain.old (class_in (partition_of classes.entry) c))
+        (mask_at plain.new (class_in (partition_of classes.entry) c)) bit
+        (holds true c entries.now) }
+    ensures folded { (c : ℕ) → IsWith (mask_at folded.old (class_in (partition_of classes.entry) c))
+        (mask_at folded.new (class_in (partition_of classes.entry) c)) bit
+        (holds false c entries.now) }
 {
     for entry in entries {
         let (first, last) = entry.ends();
-        list_cases(row, classes, bit, first, last, case_sensitive);
+        list_cases(plain, folded, classes, bit, first, last);
     }
 }
 
-/// Sets the bit in the masks of the characters from `first` to `last`. Case-insensitively, if both are letters, also in
-/// the masks of the same letters in the other case.
+/// Sets the bit in the masks of the characters from `first` to `last`. If both are letters, also sets it in the
+/// case-insensitive masks of the same letters in the other case.
 #[inline(always)]
 fn list_cases(
-    row: &mut [u64],
+    plain: &mut [u64],
+    folded: &mut [u64],
     classes: Classes<'_>,
     bit: usize,
     first: char,
     last: char,
-    case_sensitive: bool,
 )
     requires partition { IsPartition (partition_of classes) }
     requires bit { bit < 63 }
-    requires long { length row.old ≡ columns_of (partition_of classes) }
+    requires long { length plain.old ≡ columns_of (partition_of classes) }
+    requires long_folded { length folded.old ≡ columns_of (partition_of classes) }
     requires apart { EachCase (Separates (partition_of classes)) first last }
-    ensures { (c : ℕ) → IsWith (mask_at row.old (class_in (partition_of classes.entry) c))
-        (mask_at row.new (class_in (partition_of classes.entry) c)) bit
-        (entry_holds case_sensitive c (Range first last)) }
+    ensures plain { (c : ℕ) → IsWith (mask_at plain.old (class_in (partition_of classes.entry) c))
+        (mask_at plain.new (class_in (partition_of classes.entry) c)) bit
+        (entry_holds true c (Range first last)) }
+    ensures folded { (c : ℕ) → IsWith (mask_at folded.old (class_in (partition_of classes.entry) c))
+        (mask_at folded.new (class_in (partition_of classes.entry) c)) bit
+        (entry_holds false c (Range first last)) }
 {
-    list_interval(row, classes, bit, first, last);
-    if !has_cases(case_sensitive, first, last) {
+    list_both(plain, folded, classes, bit, first, last);
+    if !are_letters(first, last) {
         return;
     }
     let (lower, last_lower) = (first.to_ascii_lowercase(), last.to_ascii_lowercase());
-    list_interval(row, classes, bit, lower, last_lower);
+    list_interval(folded, classes, bit, lower, last_lower);
     let (upper, last_upper) = (first.to_ascii_uppercase(), last.to_ascii_uppercase());
-    list_interval(row, classes, bit, upper, last_upper);
+    list_interval(folded, classes, bit, upper, last_upper);
 }
 
-/// Whether a range holds its letters in both cases: if matching is case-insensitive and both ends are letters.
+/// Sets the bit in the masks of the characters from `first` to `last`, in both rows.
 #[inline(always)]
-fn has_cases(case_sensitive: bool, first: char, last: char) -> bool
-    ensures { result ≡ (not case_sensitive && are_letters first last) }
+fn list_both(
+    plain: &mut [u64],
+    folded: &mut [u64],
+    classes: Classes<'_>,
+    bit: usize,
+    first: char,
+    last: char,
+)
+    requires partition { IsPartition (partition_of classes) }
+    requires bit { bit < 63 }
+    requires long { length plain.old ≡ columns_of (partition_of classes) }
+    requires long_folded { length folded.old ≡ columns_of (partition_of classes) }
+    requires apart { first ≤ last → Separates (partition_of classes) first last }
+    ensures plain { (c : ℕ) → IsWith (mask_at plain.old (class_in (partition_of classes.entry) c))
+        (mask_at plain.new (class_in (partition_of classes.entry) c)) bit
+        (in_range first last c) }
+    ensures folded { (c : ℕ) → IsWith (mask_at folded.old (class_in (partition_of classes.entry) c))
+        (mask_at folded.new (class_in (partition_of classes.entry) c)) bit
+        (in_range first last c) }
 {
-    !case_sensitive && are_letters(first, last)
+    if first <= last {
+        let (from, to) = classes_of(classes, first, last);
+        paint(plain, bit, from, to);
+        paint(folded, bit, from, to);
+    }
+}
+
+/// The classes of both characters. If they are equal, it is looked up once.
+#[inline(always)]
+fn classes_of(classes: Classes<'_>, first: char, last: char) -> (usize, usize)
+    requires { IsPartition (partition_of classes) }
+    ensures from { result.0 ≡ class_in (partition_of classes.entry) first }
+    ensures to { result.1 ≡ class_in (partition_of classes.entry) last }
+{
+    let from = classes.class(first);
+    if first == last {
+        return (from, from);
+    }
+    (from, classes.class(last))
 }
 
 /// Sets the bit in the masks of the characters from `first` to `last`.

@@ -1,4 +1,4 @@
-//! Made by `bin/rust_crate` from `crates/glob_pattern/src/pattern/char_masks.rt`, where its contracts are: sha256 121dca82f62811ff.
+//! Made by `bin/rust_crate` from `crates/glob_pattern/src/pattern/char_masks.rt`, where its contracts are: sha256 c26e0672ecf4c99f.
 //! `Vec::with_capacity` and `resize` are there `vec![x; n]`: memory that is asked for as zeros is never what was freed
 //! last, and costs more.
 //!
@@ -56,8 +56,8 @@ impl CharMasks {
             let masks = rows_of(tokens, words, Classes::NONE);
             return CharMasks::PlainWords(masks);
         }
-        let mut masks = [0; 3];
-        fill(&mut masks, Classes::NONE, tokens, 0, true);
+        let (mut masks, mut folded) = ([0; 3], [0; 3]);
+        fill(&mut masks, &mut folded, Classes::NONE, tokens, 0);
         CharMasks::Plain(masks)
     }
 }
@@ -146,18 +146,25 @@ fn rows_of(tokens: &[Token<Bracket>], words: usize, classes: Classes<'_>) -> Vec
     let rows = 2 * words;
     let mut masks = Vec::with_capacity(rows.saturating_mul(classes.count()));
     masks.resize(rows.saturating_mul(classes.count()), 0);
-    fill_rows(masks.as_mut_slice(), classes, tokens, rows);
+    fill_rows(masks.as_mut_slice(), classes, tokens, words);
     masks
 }
 
-/// Turns zeros into `rows` rows of masks.
-fn fill_rows(masks: &mut [u64], classes: Classes<'_>, tokens: &[Token<Bracket>], rows: usize) {
+/// Turns zeros into two rows of masks for each word.
+fn fill_rows(masks: &mut [u64], classes: Classes<'_>, tokens: &[Token<Bracket>], words: usize) {
     let columns = classes.count();
-    for n in 0..rows {
-        let at = n * columns;
-        let row = &mut masks[at..at + columns];
-        fill(row, classes, tokens, WORD * (n / 2), n % 2 == 0);
+    for word in 0..words {
+        let long = 2 * columns;
+        let at = word * long;
+        let rows = &mut masks[at..at + long];
+        fill_word(rows, classes, tokens, WORD * word);
     }
+}
+
+/// Turns two rows of zeros into those of the word of tokens from `start` on.
+fn fill_word(rows: &mut [u64], classes: Classes<'_>, tokens: &[Token<Bracket>], start: usize) {
+    let (plain, folded) = rows.split_at_mut(classes.count());
+    fill(plain, folded, classes, tokens, start);
 }
 
 /// Whether no token lists a character.

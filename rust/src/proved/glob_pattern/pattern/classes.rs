@@ -1,4 +1,4 @@
-//! Made by `bin/rust_crate` from `crates/glob_pattern/src/pattern/classes.rt`, where its contracts are: sha256 6f9655e2304c7ce1.
+//! Made by `bin/rust_crate` from `crates/glob_pattern/src/pattern/classes.rt`, where its contracts are: sha256 a7b9dadedac9835d.
 //!
 //! Classes of characters: all characters of a class are taken by the same tokens.
 //!
@@ -52,8 +52,8 @@ impl Classes<'_> {
     }
 }
 
-/// The number of boundaries up to `c`. It takes slices, since a struct would be passed in memory.
-#[inline(never)]
+/// The number of boundaries up to `c`.
+#[inline(always)]
 fn begun_at(boundaries: &[u32], counts: &[u8], c: char) -> usize {
     let c = c as u32;
     let Some(base) = boundaries.first() else {
@@ -193,24 +193,16 @@ pub fn counts_of(boundaries: &[u32]) -> Vec<u8> {
     }
 }
 
-/// The number of boundaries up to each of `COUNTED` characters, from `base` on.
+/// The number of boundaries up to each of `COUNTED` characters, from `base` on, which is the first boundary. It is `n`
+/// for those before boundary `n` and not before an earlier one.
 fn counts_from(boundaries: &[u32], base: u32) -> Vec<u8> {
     let mut counts = Vec::with_capacity(COUNTED);
-    let mut count = 0;
-    for i in 0..COUNTED {
-        count = passed(boundaries, count, u64::from(base) + i as u64);
-        counts.push(count as u8);
+    for n in 0..boundaries.len() {
+        let end = (boundaries[n] - base) as usize;
+        counts.resize(end.min(COUNTED), n as u8);
     }
+    counts.resize(COUNTED, boundaries.len() as u8);
     counts
-}
-
-/// The number of boundaries up to `c`, which must be at least `least`.
-fn passed(boundaries: &[u32], least: usize, c: u64) -> usize {
-    let mut count = least;
-    while count < boundaries.len() && u64::from(boundaries[count]) <= c {
-        count += 1;
-    }
-    count
 }
 
 /// Whether both are ASCII letters.

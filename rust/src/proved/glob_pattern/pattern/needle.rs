@@ -1,4 +1,4 @@
-//! Made by `bin/rust_crate` from `crates/glob_pattern/src/pattern/needle.rt`, where its contracts are: sha256 fe8ca1b213df8906.
+//! Made by `bin/rust_crate` from `crates/glob_pattern/src/pattern/needle.rt`, where its contracts are: sha256 4cab8b93d6385609.
 //! `use crate::lanes::u8x16` is there `use std::simd::prelude::*`: SIMD of std is not stable, so `crate::lanes` has the
 //! one type that is used.
 //!
@@ -10,6 +10,9 @@ use crate::proved::glob_pattern::token::Token;
 
 /// The number of offsets searched at once, and the greatest length of a needle in bytes.
 const LANES: usize = 16;
+
+/// A needle of so many bytes is long enough: there may be no room for another character, and few texts contain it.
+const ENOUGH: usize = LANES - 3;
 
 /// The one bit in which upper and lower case of an ASCII letter differ.
 const CASE: u8 = 0x20;
@@ -25,12 +28,15 @@ impl Needle {
     /// No bytes.
     pub const NONE: Needle = Needle { bytes: [0; LANES], len: 0 };
 
-    /// The UTF-8 of the longest stretch of neighbouring literals. Stretches beyond 16 bytes are cut into pieces. A
-    /// needle of fewer than two bytes is useless, and is never searched for.
+    /// The UTF-8 of the longest stretch of neighbouring literals, or of the first one that is long enough. Stretches
+    /// beyond 16 bytes are cut into pieces. A needle of fewer than two bytes is useless, and is never searched for.
     pub fn of(tokens: &[Token<Bracket>]) -> Needle {
         let mut longest = Needle::NONE;
         let mut needle = Needle::NONE;
         for token in tokens {
+            if longest.len >= ENOUGH {
+                break;
+            }
             match token {
                 Token::Literal(c) => needle.add(*c),
                 _ => needle.len = 0,

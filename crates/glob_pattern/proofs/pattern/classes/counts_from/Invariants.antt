@@ -2,10 +2,8 @@ use Rattle.std.proofs.Common.{◌≡◌, ℕ, ◌+◌, ◌<◌, ◌≤◌, lengt
 use Rattle.glob_pattern.proofs.ClassLemmas.Ranks.{rank}
 use Rattle.glob_pattern.proofs.pattern.classes.counts_from.Given as goal
 
-abbrev pub invariant-loop-i : goal.invariant-loop-i
-invariant-loop-i g l = record {
-  within : l.count ≤ length l.boundaries;
-  least : (k : ℕ) → k < l.count → get_or l.boundaries k 0 ≤ l.base + l.i;
-  long : length l.counts.items ≡ l.i;
+abbrev pub invariant-loop-n : goal.invariant-loop-n
+invariant-loop-n g l = record {
+  passed : (k : ℕ) → k < l.n → length l.counts.items < 128 → get_or l.boundaries k 0 ≤ l.base + length l.counts.items;
   counts : (j : ℕ) → j < length l.counts.items → get_or l.counts.items j 0 ≡ rank l.boundaries (l.base + j);
 }

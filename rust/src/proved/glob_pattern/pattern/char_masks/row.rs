@@ -1,4 +1,4 @@
-//! Made by `bin/rust_crate` from `crates/glob_pattern/src/pattern/char_masks/row.rt`, where its contracts are: sha256 c98ad0d923af2915.
+//! Made by `bin/rust_crate` from `crates/glob_pattern/src/pattern/char_masks/row.rt`, where its contracts are: sha256 4e2909c7637d3e24.
 //!
 //! A row of masks: for each class of characters, which of 63 neighbouring tokens take them.
 
@@ -29,13 +29,14 @@ impl Kinds {
     const NONE: Kinds = Kinds { others: 0, brackets: 0, recursive: 0 };
 }
 
-/// Turns a row of zeros into the row of the tokens from `start` on.
-pub fn fill(row: &mut [u64], classes: Classes<'_>, tokens: &[Token<Bracket>], start: usize, case_sensitive: bool) {
+/// Turns two rows of zeros into the case-sensitive and the case-insensitive row of the tokens from `start` on.
+pub fn fill(plain: &mut [u64], folded: &mut [u64], classes: Classes<'_>, tokens: &[Token<Bracket>], start: usize) {
     let mut kinds = Kinds::NONE;
     for n in start..tokens.len().min(start.saturating_add(WORD)) {
-        kinds = list_token(row, classes, kinds, n - start, &tokens[n], case_sensitive);
+        kinds = list_token(plain, folded, classes, kinds, n - start, &tokens[n]);
     }
-    finish(row, classes, kinds);
+    finish(plain, classes, kinds);
+    finish(folded, classes, kinds);
 }
 
 /// Turns the masks of tokens that list a character into those of tokens that take it.
@@ -59,16 +60,16 @@ fn invert(row: &mut [u64], bits: u64) {
 /// kinds.
 #[inline(always)]
 fn list_token(
-    row: &mut [u64],
+    plain: &mut [u64],
+    folded: &mut [u64],
     classes: Classes<'_>,
     kinds: Kinds,
     bit: usize,
     token: &Token<Bracket>,
-    case_sensitive: bool,
 ) -> Kinds {
     match token {
         Token::Literal(c) => {
-            list_literal(row, classes, bit, *c, case_sensitive);
+            list_cases(plain, folded, classes, bit, *c, *c);
             kinds
         }
         Token::AnyChar | Token::AnySequence => Kinds { others: with_bit(kinds.others, bit), ..kinds },
@@ -76,63 +77,56 @@ fn list_token(
             Kinds { others: with_bit(kinds.others, bit), recursive: with_bit(kinds.recursive, bit), ..kinds }
         }
         Token::OneOf(bracket) => {
-            list_all(row, classes, bit, bracket.entries(), case_sensitive);
+            list_all(plain, folded, classes, bit, bracket.entries());
             Kinds { brackets: with_bit(kinds.brackets, bit), ..kinds }
         }
         Token::NoneOf(bracket) => {
-            list_all(row, classes, bit, bracket.entries(), case_sensitive);
+            list_all(plain, folded, classes, bit, bracket.entries());
             Kinds { others: with_bit(kinds.others, bit), brackets: with_bit(kinds.brackets, bit), ..kinds }
         }
     }
 }
 
-/// Sets the bit in the mask of the character, and case-insensitively also in the mask of its other case.
-#[inline(always)]
-fn list_literal(row: &mut [u64], classes: Classes<'_>, bit: usize, c: char, case_sensitive: bool) {
-    if case_sensitive {
-        list_char(row, classes, bit, c);
-        return;
-    }
-    let (lower, upper) = (c.to_ascii_lowercase(), c.to_ascii_uppercase());
-    list_char(row, classes, bit, lower);
-    if upper == lower {
-        return;
-    }
-    list_char(row, classes, bit, upper);
-}
-
-/// Sets the bit in the mask of the character.
-#[inline(always)]
-fn list_char(row: &mut [u64], classes: Classes<'_>, bit: usize, c: char) {
-    list_class(row, bit, classes.class(c));
-}
-
 /// Sets the bit in the masks of the characters that an entry holds.
-fn list_all(row: &mut [u64], classes: Classes<'_>, bit: usize, entries: &[Entry], case_sensitive: bool) {
+fn list_all(plain: &mut [u64], folded: &mut [u64], classes: Classes<'_>, bit: usize, entries: &[Entry]) {
     for entry in entries {
         let (first, last) = entry.ends();
-        list_cases(row, classes, bit, first, last, case_sensitive);
+        list_cases(plain, folded, classes, bit, first, last);
     }
 }
 
-/// Sets the bit in the masks of the characters from `first` to `last`. Case-insensitively, if both are letters, also in
-/// the masks of the same letters in the other case.
+/// Sets the bit in the masks of the characters from `first` to `last`. If both are letters, also sets it in the
+/// case-insensitive masks of the same letters in the other case.
 #[inline(always)]
-fn list_cases(row: &mut [u64], classes: Classes<'_>, bit: usize, first: char, last: char, case_sensitive: bool) {
-    list_interval(row, classes, bit, first, last);
-    if !has_cases(case_sensitive, first, last) {
+fn list_cases(plain: &mut [u64], folded: &mut [u64], classes: Classes<'_>, bit: usize, first: char, last: char) {
+    list_both(plain, folded, classes, bit, first, last);
+    if !are_letters(first, last) {
         return;
     }
     let (lower, last_lower) = (first.to_ascii_lowercase(), last.to_ascii_lowercase());
-    list_interval(row, classes, bit, lower, last_lower);
+    list_interval(folded, classes, bit, lower, last_lower);
     let (upper, last_upper) = (first.to_ascii_uppercase(), last.to_ascii_uppercase());
-    list_interval(row, classes, bit, upper, last_upper);
+    list_interval(folded, classes, bit, upper, last_upper);
 }
 
-/// Whether a range holds its letters in both cases: if matching is case-insensitive and both ends are letters.
+/// Sets the bit in the masks of the characters from `first` to `last`, in both rows.
 #[inline(always)]
-fn has_cases(case_sensitive: bool, first: char, last: char) -> bool {
-    !case_sensitive && are_letters(first, last)
+fn list_both(plain: &mut [u64], folded: &mut [u64], classes: Classes<'_>, bit: usize, first: char, last: char) {
+    if first <= last {
+        let (from, to) = classes_of(classes, first, last);
+        paint(plain, bit, from, to);
+        paint(folded, bit, from, to);
+    }
+}
+
+/// The classes of both characters. If they are equal, it is looked up once.
+#[inline(always)]
+fn classes_of(classes: Classes<'_>, first: char, last: char) -> (usize, usize) {
+    let from = classes.class(first);
+    if first == last {
+        return (from, from);
+    }
+    (from, classes.class(last))
 }
 
 /// Sets the bit in the masks of the characters from `first` to `last`.

@@ -23,13 +23,14 @@ returns-clause-masks g c = λ case.
     let all = sym c.are_plain.ensures ∙ c.if-not-are_plain.false in
     record {
       partition = one-class;
-      within = λ word lt. let none : word ≡ 0 = omega (arith, lt, c.if-words-gt1.false) in rw none (omega (arith, c.fill.auto.row));
+      within = λ word lt. let none : word ≡ 0 = omega (arith, lt, c.if-words-gt1.false) in rw none (omega (arith, c.fill.auto.plain));
       row = λ word lt. let none : word ≡ 0 = omega (arith, lt, c.if-words-gt1.false) in rw none (record {
         takes = λ o opening d j same short.
             let t = get_or tokens (0 + j) AnyChar in
             let plain : is_plain t ≡ true = ⊎_elim
             (λ below. AllPass-from_list_all is_plain tokens all (0 + j) AnyChar below)
             (λ past. ap is_plain (get_or_past tokens (0 + j) AnyChar past)) (cases_lt (0 + j) (length tokens)) in
-            rw (takes-caseless o opening true d t plain) (c.fill.ensures.takes (record o { case_sensitive = true }) opening d j refl short);
+            rw (takes-caseless o opening true d t plain)
+            (c.fill.ensures.plain.takes (record o { case_sensitive = true }) opening d j refl short);
       });
     }
