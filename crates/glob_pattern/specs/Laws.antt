@@ -100,7 +100,7 @@ SeparatorRuleSparesNames =
     (o : MatchOptions) (pattern name : Text) → IsTrue (has_no_slash name)
     → is_match (with_separator_rule o) pattern name ≡ is_match o pattern name
 
--- Under the separator rule, components joined by `/` match names joined by `/` exactly if the components take the
+-- Under the separator rule, components joined by `/` match names joined by `/` exactly when the components take the
 -- names.
 abbrev pub JoinedMatchLevels : Type 0
 JoinedMatchLevels =

@@ -92,7 +92,7 @@ fn read_text<A: Allocator + Copy>(
     Ok(tokens)
 }
 
-/// Appends the token of stars. Neighbouring recursive wildcards become one.
+/// Appends the token that stars stand for. Neighbouring recursive wildcards become one.
 fn push_stars<A: Allocator>(
     tokens: &mut Vec<Token<Bracket<A>>, A>,
     token: Token<Bracket<A>>,

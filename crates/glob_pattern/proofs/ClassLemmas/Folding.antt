@@ -25,7 +25,7 @@ letter-forms : (x y : ℕ) → are_letters x y ≡ true
     (to_ascii_uppercase y + 32 ≡ to_ascii_lowercase y)
 letter-forms x y t = grind (arith, nat_tests)
 
--- the lower-case form of a character is between two lower-case letters exactly if the character is between them in
+-- the lower-case form of a character is between two lower-case letters exactly when the character is between them in
 -- either case
 forms : (c small first last upper_first upper_last : ℕ) → 97 ≤ first → last ≤ 122 → upper_first + 32 ≡ first → upper_last + 32 ≡ last
     → ((65 ≤ c) × (c ≤ 90) × (small ≡ c + 32)) ⊎ (((c < 65) ⊎ (90 < c)) × (small ≡ c))

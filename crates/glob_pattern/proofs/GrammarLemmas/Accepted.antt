@@ -11,11 +11,11 @@ use Rattle.glob_pattern.proofs.GrammarLemmas.Folding.{length-tokens_of_units}
 use Rattle.glob_pattern.proofs.GrammarLemmas.Reading.{UnitsBetween-within, units_from-Ok, tokens_by_reading}
 use Rattle.glob_pattern.proofs.GrammarLemmas.Reading.{reading_of-HasTokens, fault_by_reading, reading_of-IsFault}
 
--- The computation returns tokens exactly if they are the text's.
+-- The computation returns tokens exactly when they are the text's.
 pub reading_of-Ok : (text : Text) (tokens : List Token) → (reading_of text ≡ Ok tokens) ↔ HasTokens text tokens
 reading_of-Ok text tokens = (tokens_by_reading text tokens, reading_of-HasTokens text tokens)
 
--- The computation returns a fault exactly if it is the text's.
+-- The computation returns a fault exactly when it is the text's.
 pub reading_of-Err : (text : Text) (fault : Fault) → (reading_of text ≡ Err fault) ↔ IsFault text fault
 reading_of-Err text fault = (fault_by_reading text fault, reading_of-IsFault text fault)
 

@@ -29,7 +29,7 @@ ends_deep_after : (u : Token) (ts : List Token) → 0 < length ts → ends_recur
 ends_deep_after u [] some = absurd (omega arith)
 ends_deep_after u (t ∷ ts) some = refl
 
--- There is one `**`.
+-- The only recursive token is `Recursive`.
 pub deep_is_Deep : (t : Token) → is_recursive t ≡ true → t ≡ Recursive
 deep_is_Deep (Literal c) e = cc
 deep_is_Deep AnyChar e = cc

@@ -101,7 +101,7 @@ module _ (o : MatchOptions) (opening : Bool) where
         cases false true = omega (arith, is.least 127 (omega arith))
         cases false false = (class-bounds p is c).1
 
-    -- a token takes a character exactly if it takes the others of its class
+    -- a token takes a character exactly when it takes the others of its class
     pub class-cases : (c : ℕ) (t : Token)
         → ((class_of p o opening c ≡ 0) × (takes o opening c t ≡ takes_separator t))
         ⊎ ((class_of p o opening c ≡ 1) × (takes o opening c t ≡ takes_dot t))

@@ -1,4 +1,4 @@
--- The computed answer is yes exactly if the tokens match the text.
+-- The computed answer is yes exactly when the tokens match the text.
 use Rattle.std.proofs.Common.{◌≡◌, ℕ, suc, ◌+◌, ◌-◌, ◌≤◌, inl, ⊎_elim, Bool, true, false, ◌&&◌, ◌||◌, ◌==◌, List, []}
 use Rattle.std.proofs.Common.{◌∷◌, length, drop, map, IsTrue, Decides, slice_index, Result, Ok, Err, refl, sym, ap, ap₂}
 use Rattle.std.proofs.Common.{◌∙◌, arith}
@@ -31,7 +31,7 @@ use Rattle.glob_pattern.proofs.MatchingLemmas.Rests.{tokens_match_rest, first_an
 use Rattle.glob_pattern.proofs.MatchingLemmas.Rests.{first_answer-one_character_answers, first_answer-run_answers}
 use Rattle.glob_pattern.proofs.MatchingLemmas.Rests.{first_answer-component_answers}
 
--- a component begins after a character exactly if that is `/`
+-- a component begins after a character exactly when that is `/`
 pub opens-next : (text : Text) (k c : ℕ) (cs : Text) → drop k text ≡ c ∷ cs → (c == slash) ≡ opens text (k + 1)
 opens-next text k c cs e =
     let back : k + 1 - 1 ≡ k = omega arith in

@@ -27,11 +27,11 @@ use Rattle.glob_pattern.proofs.MatchingLemmas.Needles.{small-SameTexts}
 kept : (b : ℕ) → 128 ≤ b → to_ascii_lowercase b ≡ b
 kept b high = ⊎_elim (λ (from, to, e). absurd (omega arith)) (λ (apart, e). e) (lower_cases b)
 
--- and makes ASCII bytes ASCII
+-- lower case keeps ASCII bytes ASCII
 low : (b : ℕ) → b < 128 → to_ascii_lowercase b < 128
 low b lt = ⊎_elim (λ (from, to, e). omega (arith, e)) (λ (apart, e). omega (arith, e)) (lower_cases b)
 
--- a list of one element is that element
+-- an element of a list of one is that one
 one-of : (front back : Text) (c b : ℕ) → c ∷ [] ≡ front ++ b ∷ back → c ≡ b
 one-of [] back c b e = cc
 one-of (x ∷ front) back c b e = absurd (omega (arith, ap length e, length-append front (b ∷ back)))

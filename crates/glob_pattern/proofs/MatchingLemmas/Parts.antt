@@ -193,7 +193,7 @@ same-whole_text o tokens text m k = record {
   opens = λ j le. opens-whole text j;
 }
 
--- tokens match a text exactly if all of them split it
+-- tokens match a text exactly when all of them split it
 pub TokensMatch-iff_part : (o : MatchOptions) (tokens : List Token) (text : Text) → TokensMatch o tokens text ↔
     SplitsPart o true tokens (length tokens) text
 unfolding SplitsPart table_of

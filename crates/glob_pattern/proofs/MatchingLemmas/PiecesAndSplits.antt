@@ -1,4 +1,4 @@
--- A text is a concatenation of allowed pieces exactly if it splits over the table of the tokens and the text.
+-- A text is a concatenation of allowed pieces exactly when it splits over the table of the tokens and the text.
 use Rattle.std.proofs.Common.{◌≡◌, ℕ, ◌+◌, ◌-◌, ◌<◌, ◌≤◌, ◌⊎◌, inl, inr, ⊎_elim, ◌==◌, List, [], ◌∷◌, ◌++◌, length}
 use Rattle.std.proofs.Common.{take, drop, map, IsTrue, slice_index, refl, sym, ap, subst, ◌∙◌, arith}
 use Rattle.std.proofs.lemmas.List.{take-append-drop, drop-drop, take_more, take_all, length-take-le, length-drop}

@@ -104,7 +104,7 @@ module _ (table : Table) (shapes : List Shape) (span : Span) (first k count : �
     monotone = run.monotone;
   }
 
-  -- a run in which a position is alive that takes all that is left
+  -- a run has decided, with yes, once a position is alive from which all that is left is taken
   pub HasDecided-accepting : word_before span.end < length alive → get_or alive (word_before span.end) 0 < 2 ^ 64
       → 0 < bit_and (get_or alive (word_before span.end) 0) span.accepting
       → ((j : ℕ) → IsBitSet span.accepting j → TakesRest table shapes span.end (63 * word_before span.end + j))

@@ -1,4 +1,4 @@
-//! Made by `bin/rust_crate` from `crates/glob_pattern/src/grammar.rt`, where its contracts are: sha256 e312486bc1b7f377.
+//! Made by `bin/rust_crate` from `crates/glob_pattern/src/grammar.rt`, where its contracts are: sha256 b0a9d3e364693408.
 //! `Vec::with_capacity` and `resize` are there `vec![x; n]`: memory that is asked for as zeros is never what was freed
 //! last, and costs more.
 //!
@@ -69,7 +69,7 @@ fn read_text(text: &[char]) -> Result<Vec<Token<Bracket>>, PatternError> {
     Ok(tokens)
 }
 
-/// Appends the token of stars. Neighbouring recursive wildcards become one.
+/// Appends the token that stars stand for. Neighbouring recursive wildcards become one.
 fn push_stars(tokens: &mut Vec<Token<Bracket>>, token: Token<Bracket>) {
     if token.is_recursive() && ends_recursive(tokens.as_slice()) {
         return;
