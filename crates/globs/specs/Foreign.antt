@@ -150,25 +150,34 @@ first_words (c ∷ rest) =
     if c == 45 then codes "; a command comes before its options"
     else (if c == 42 || (c == 46 || c == 47) then codes "; use globs find" else [])
 
+-- instead of a word that somebody may guess to be a command
+unfoldable pub guess_words : (word : Text) → Text
+guess_words word =
+    if is_one_of word (codes "glob" ∷ codes "locate" ∷ codes "walk" ∷ codes "tree" ∷ [])
+    then codes "; use globs find"
+    else (if bytes_eq word (codes "fnmatch")
+    then codes "; use globs match"
+    else (if bytes_eq word (codes "exclude")
+    then codes "; use globs ignore"
+    else (if is_one_of word (codes "why" ∷ codes "test" ∷ codes "check" ∷ [])
+    then codes "; use globs explain"
+    else (if is_one_of word (codes "man" ∷ codes "usage" ∷ codes "-?" ∷ [])
+    then codes "; use globs help" else first_words word))))
+
 -- instead of a word in the place of a command
 unfoldable pub habit_words : (word : Text) → Text
 habit_words word =
     if is_one_of word (codes "Find" ∷ codes "fnd" ∷ codes "finds" ∷ codes "search" ∷ codes "ls" ∷ codes "ls-files" ∷
-    codes "list" ∷ codes "fd" ∷ codes "files" ∷ codes "--files" ∷ codes "glob" ∷ codes "locate" ∷ codes "walk" ∷
-    codes "tree" ∷ [])
+    codes "list" ∷ codes "fd" ∷ codes "files" ∷ codes "--files" ∷ [])
     then codes "; use globs find"
-    else (if is_one_of word (codes "Match" ∷ codes "matches" ∷ codes "filter" ∷ codes "grep" ∷ codes "rg" ∷ codes "fnmatch" ∷ [])
+    else (if is_one_of word (codes "Match" ∷ codes "matches" ∷ codes "filter" ∷ codes "grep" ∷ codes "rg" ∷ [])
     then codes "; use globs match"
-    else (if is_one_of word (codes "check-ignore" ∷ codes "ignores" ∷ codes "gitignore" ∷ codes "exclude" ∷ [])
+    else (if is_one_of word (codes "check-ignore" ∷ codes "ignores" ∷ codes "gitignore" ∷ [])
     then codes "; use globs ignore"
-    else (if is_one_of word (codes "why" ∷ codes "test" ∷ codes "check" ∷ [])
-    then codes "; use globs explain"
     else (if bytes_eq word (codes "quote")
     then codes "; use globs escape"
     else (if is_one_of word (codes "-v" ∷ codes "-V" ∷ codes "version" ∷ [])
-    then codes "; use globs --version"
-    else (if is_one_of word (codes "man" ∷ codes "usage" ∷ codes "-?" ∷ [])
-    then codes "; use globs help" else first_words word))))))
+    then codes "; use globs --version" else guess_words word))))
 
 -- instead of any word where texts are taken that may begin with a hyphen
 abbrev pub text_words : Text

@@ -1,6 +1,6 @@
 //! What to write instead of the options and commands of other tools, as lines about wrong words say.
 ghost use Rattle.std.specs.Prelude.{◌≡◌};
-ghost use Rattle.globs.specs.Foreign.{find_output_words, find_pattern_words, find_rule_words, first_words};
+ghost use Rattle.globs.specs.Foreign.{find_output_words, find_pattern_words, find_rule_words, first_words, guess_words};
 ghost use Rattle.globs.specs.Foreign.{foreign_words, habit_words, ignore_words, joined_words, match_words};
 ghost use Rattle.globs.specs.Foreign.{option_part};
 
@@ -113,6 +113,7 @@ fn of_output(word: &str) -> &'static str
 }
 
 /// What to write instead of `-C` or `-x` with a value in the same word.
+#[tactic(auto, unfolding(crate::specs::Foreign::joined_words))]
 fn of_joined(word: &str) -> &'static str
     ensures { result.now ≡ joined_words word.now }
 {
@@ -176,22 +177,32 @@ pub fn habit(word: &str) -> &'static str
         | "list"
         | "fd"
         | "files"
-        | "--files"
-        | "glob"
-        | "locate"
-        | "walk"
-        | "tree" => "; use globs find",
-        "Match" | "matches" | "filter" | "grep" | "rg" | "fnmatch" => "; use globs match",
-        "check-ignore" | "ignores" | "gitignore" | "exclude" => "; use globs ignore",
-        "why" | "test" | "check" => "; use globs explain",
+        | "--files" => "; use globs find",
+        "Match" | "matches" | "filter" | "grep" | "rg" => "; use globs match",
+        "check-ignore" | "ignores" | "gitignore" => "; use globs ignore",
         "quote" => "; use globs escape",
         "-v" | "-V" | "version" => "; use globs --version",
+        _ => of_guess(word),
+    }
+}
+
+/// What to write instead of a word that somebody may guess to be a command.
+#[tactic(auto, unfolding(crate::specs::Foreign::guess_words))]
+fn of_guess(word: &str) -> &'static str
+    ensures { result.now ≡ guess_words word.now }
+{
+    match word {
+        "glob" | "locate" | "walk" | "tree" => "; use globs find",
+        "fnmatch" => "; use globs match",
+        "exclude" => "; use globs ignore",
+        "why" | "test" | "check" => "; use globs explain",
         "man" | "usage" | "-?" => "; use globs help",
         _ => of_first(word),
     }
 }
 
 /// What to write instead of a word that is no command, but an option, a pattern or a path.
+#[tactic(auto, unfolding(crate::specs::Foreign::first_words))]
 fn of_first(word: &str) -> &'static str
     ensures { result.now ≡ first_words word.now }
 {
