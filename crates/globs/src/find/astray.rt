@@ -76,13 +76,17 @@ impl Display for ShorterLine<'_> {
     fn fmt<W: fmt::Write>(&self, f: &mut fmt::Formatter<W>) -> fmt::Result {
         let lead = self.lead;
         write!(f, "write instead: '{lead}")?;
-        let mut between = "";
+        let mut is_first = true;
         for name in self.below.split('/') {
-            if !(name.is_empty() || name == ".") {
-                let name = Visible { text: name };
-                write!(f, "{between}{name}")?;
-                between = "/";
+            if name.is_empty() || name == "." {
+                continue;
             }
+            if !is_first {
+                f.write_str("/")?;
+            }
+            is_first = false;
+            let name = Visible { text: name };
+            write!(f, "{name}")?;
         }
         f.write_str("'")
     }
