@@ -27,7 +27,8 @@ GIT = {"GIT_CONFIG_NOSYSTEM": "1", "GIT_CONFIG_GLOBAL": "/dev/null"}
 
 # Lines about words that may have been meant otherwise.
 HINT = re.compile(
-    r"globs: (`.*` (is a directory|matches (one path|only names at the start))|\[\^ lists a \^ here|the start is ignored by )"
+    r"globs: (`.*` (is a directory|is a symbolic link|is not (there|a directory),|matches (one path|only names at the start))"
+    r"|\[\^ lists a \^ here|the start is ignored by )"
 )
 
 # Patterns, and how many directories are listed in a tree with src/{a.c,b.c,deep/c.c}, lib/{a.h,b.h} and doc/x. If the

@@ -20,11 +20,13 @@ pub mod kinds;
 pub mod leads;
 mod lines;
 mod missing;
+mod names;
 pub mod places;
 mod rule_hints;
 mod searching;
 pub mod slips;
 mod strays;
+mod way;
 
 use crate::braces::{Reported, expand_words};
 use crate::command::Asked;
@@ -49,6 +51,7 @@ use kinds::{PathKinds, Sieve};
 use leads::{leads_of, led_patterns, place_at};
 use missing::note_missing;
 use places::{NoDirectory, Place, Places, is_directory};
+use rule_hints::report_rules;
 use searching::{Findings, run_search};
 use slips::{note_names, note_refused};
 use std::alloc::{AllocError, Allocator};
@@ -97,7 +100,7 @@ where
             output,
             errors,
         ),
-        Err(rules_fault) => errors.fault(rules_fault),
+        Err(rules_fault) => report_rules(rules_fault, errors),
     }
 }
 

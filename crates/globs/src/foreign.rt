@@ -1,7 +1,8 @@
 //! What to write instead of the options and commands of other tools, as lines about wrong words say.
 ghost use Rattle.std.specs.Prelude.{◌≡◌};
-ghost use Rattle.globs.specs.Foreign.{find_output_words, find_pattern_words, find_rule_words};
-ghost use Rattle.globs.specs.Foreign.{foreign_words, habit_words, ignore_words, match_words, option_part};
+ghost use Rattle.globs.specs.Foreign.{find_output_words, find_pattern_words, find_rule_words, first_words, guess_words};
+ghost use Rattle.globs.specs.Foreign.{foreign_words, habit_words, ignore_words, joined_words, match_words};
+ghost use Rattle.globs.specs.Foreign.{option_part};
 
 use crate::name::Name;
 
@@ -55,11 +56,22 @@ fn of_rules(word: &str) -> &'static str
 {
     match word {
         "-not" | "-prune" | "-E" | "--exclude" | "-T" | "--type-not" => "; use -x RULE",
-        "-H" | "--hidden" | "-u" | "-uu" | "-uuu" | "-I" | "--no-ignore" | "--no-git" =>
-            "; nothing is hidden or ignored by default",
+        "-H"
+        | "--hidden"
+        | "-u"
+        | "-uu"
+        | "-uuu"
+        | "-I"
+        | "-HI"
+        | "-a"
+        | "-A"
+        | "--all"
+        | "--no-ignore"
+        | "--no-git" => "; nothing is hidden or ignored by default",
         "--ignore-file" | "-X" | "--exclude-from" => "; use --ignore FILE",
         "--exclude-per-directory" => "; use --ignore-files NAME",
-        "--exclude-standard" | "--gitignore" | "--others" | "--cached" | "-co" => "; use --git",
+        "--exclude-standard" | "--gitignore" | "-git" | "--others" | "--cached" | "-co" =>
+            "; use --git",
         "-follow" | "--follow" => "; use -L",
         "--base-directory" | "--search-path" | "--" => "; use -C DIR to search DIR",
         "--files" => "; use -t f '**'",
@@ -93,8 +105,20 @@ fn of_output(word: &str) -> &'static str
         | "-empty"
         | "-perm"
         | "-user"
-        | "-xdev" => "; find(1) has such a test",
+        | "-xdev"
+        | "-xtype" => "; find(1) has such a test",
         "-V" | "--version" => "; use globs --version",
+        _ => of_joined(word),
+    }
+}
+
+/// What to write instead of `-C` or `-x` with a value in the same word.
+#[tactic(auto, unfolding(crate::specs::Foreign::joined_words))]
+fn of_joined(word: &str) -> &'static str
+    ensures { result.now ≡ joined_words word.now }
+{
+    match word.as_bytes() {
+        [b'-', b'C' | b'x', _, ..] => "; a value is the next word, or follows =",
         _ => "",
     }
 }
@@ -110,6 +134,10 @@ fn of_match(word: &str) -> &'static str
         "--ignore-case" => "; use -i",
         "-e" | "--regexp" => "; give several patterns",
         "-E" | "-P" | "-G" => "; a pattern is not a regular expression",
+        "-F" | "--fixed-strings" => "; globs escape writes a pattern for a text",
+        "-r" | "-R" | "--recursive" => "; globs find searches directories",
+        "-" => "; lines are always read from standard input",
+        "-V" | "--version" => "; use globs --version",
         "-x" | "--line-regexp" => "; a pattern matches a whole line",
         "-c" | "--count" => "; pipe the lines to wc -l",
         "-q" | "--quiet" => "; redirect the output to /dev/null",
@@ -125,7 +153,11 @@ fn of_ignore(word: &str) -> &'static str
 {
     match word {
         "-z" | "--null" => "; use -0",
-        "--stdin" => "; paths are always read from standard input",
+        "--stdin" | "-" => "; paths are always read from standard input",
+        "-x" | "-e" | "--exclude" => "; write the rule into a FILE",
+        "-q" | "--quiet" => "; redirect the output to /dev/null",
+        "--verbose" => "; use -v",
+        "--no-index" => "; it is not needed",
         _ => "",
     }
 }
@@ -150,6 +182,33 @@ pub fn habit(word: &str) -> &'static str
         "check-ignore" | "ignores" | "gitignore" => "; use globs ignore",
         "quote" => "; use globs escape",
         "-v" | "-V" | "version" => "; use globs --version",
+        _ => of_guess(word),
+    }
+}
+
+/// What to write instead of a word that somebody may guess to be a command.
+#[tactic(auto, unfolding(crate::specs::Foreign::guess_words))]
+fn of_guess(word: &str) -> &'static str
+    ensures { result.now ≡ guess_words word.now }
+{
+    match word {
+        "glob" | "locate" | "walk" | "tree" => "; use globs find",
+        "fnmatch" => "; use globs match",
+        "exclude" => "; use globs ignore",
+        "why" | "test" | "check" => "; use globs explain",
+        "man" | "usage" | "-?" => "; use globs help",
+        _ => of_first(word),
+    }
+}
+
+/// What to write instead of a word that is no command, but an option, a pattern or a path.
+#[tactic(auto, unfolding(crate::specs::Foreign::first_words))]
+fn of_first(word: &str) -> &'static str
+    ensures { result.now ≡ first_words word.now }
+{
+    match word.as_bytes() {
+        [b'-', ..] => "; a command comes before its options",
+        [b'*' | b'.' | b'/', ..] => "; use globs find",
         _ => "",
     }
 }

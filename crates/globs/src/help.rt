@@ -122,7 +122,8 @@ not change the status. There are hints about
   * directories as the first or last words, if nothing else was found
   * a last word that is only the beginning of a path, as src/main is of src/main.rs
   * if nothing was found: ~/, part of a name, quotes, spaces and \\ in a pattern, upper-case
-    extensions, patterns that match no names below the start, and the word help
+    extensions, patterns that match no names below the start, a beginning such as src in src/*.rs
+    that is not there, differs in case or is a symbolic link, and the word help
 
 Status:
   0         a path was written
@@ -154,8 +155,8 @@ matches a line that is not UTF-8. No file is opened: write globs match '*.rs' <F
 
 Hints on standard error do not change the status. There are hints about
 
-  * a form of another tool, such as ~/ or [^a], and the word help, if a single pattern matches
-    nothing
+  * if a single pattern matches nothing: a form of another tool, such as ~/ or [^a], quotes, a ./
+    at the start of the first line or a carriage return at its end, and the word help
   * standard input, if it is a terminal, or if no line came and the last of several patterns may be
     a FILE
   * -0, if the first line has a NUL

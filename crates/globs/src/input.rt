@@ -11,11 +11,15 @@ use std::cell::Cell;
 use std::fmt::{self, Display};
 use std::io::Write;
 
-/// The first record of the input: whether there is one, and whether it has a NUL, which shows that NULs separate what
-/// is read as lines.
+/// The first record of the input: whether there is one, whether it has a NUL, which shows that NULs separate what is
+/// read as lines, and how it begins and ends.
 #[derive(Drop)]
 pub struct FirstRecord {
     has_nul: Cell<Option<bool>>,
+    /// Whether it begins with `./`.
+    is_dotted: Cell<bool>,
+    /// Whether it ends in a carriage return.
+    is_returned: Cell<bool>,
 }
 
 impl FirstRecord {
@@ -23,6 +27,8 @@ impl FirstRecord {
     pub fn new() -> Self {
         FirstRecord {
             has_nul: Cell::new(None),
+            is_dotted: Cell::new(false),
+            is_returned: Cell::new(false),
         }
     }
 
@@ -30,6 +36,8 @@ impl FirstRecord {
     pub fn note(&self, bytes: &[u8]) {
         if self.has_nul.get().is_none() {
             self.has_nul.set(Some(bytes.contains(&0)));
+            self.is_dotted.set(bytes.starts_with(b"./"));
+            self.is_returned.set(bytes.ends_with(b"\r"));
         }
     }
 
@@ -43,11 +51,71 @@ impl FirstRecord {
         self.has_nul.get() == Some(true)
     }
 
+    /// Writes a line about the beginning or the end of the first record, if a pattern that matched nothing may lack it,
+    /// and returns whether it does.
+    pub fn note_ends<A: Allocator + Copy, E: Write>(
+        &self,
+        pattern: &str,
+        errors: &mut ErrorLines<'_, A, E>,
+    ) -> bool {
+        let is_dotted = self.is_dotted.get();
+        if is_dotted && !pattern.starts_with(['.', '*', '?', '['].as_slice()) {
+            errors.write(&HereLine { pattern });
+            return true;
+        }
+        match pattern.strip_prefix("./") {
+            Some(bare) if !is_dotted => {
+                errors.write(&BareLine { bare });
+                return true;
+            }
+            Some(_) | None => {}
+        }
+        if self.is_returned.get() {
+            errors.write(
+                &"lines end in a carriage return, which belongs to them: tr -d '\\r' takes it away",
+            );
+        }
+        self.is_returned.get()
+    }
+
     /// Writes a line that names `-0`, if the first record has a NUL.
     pub fn report<A: Allocator + Copy, E: Write>(&self, errors: &mut ErrorLines<'_, A, E>) {
         if self.has_nul() {
             errors.write(&"the input has NULs: with -0 they end its records");
         }
+    }
+}
+
+/// The line about a pattern that begins with `./`, for paths that do not.
+#[derive(Clone, Copy)]
+struct BareLine<'a> {
+    /// The pattern without its `./`.
+    bare: &'a str,
+}
+
+impl Display for BareLine<'_> {
+    fn fmt<W: fmt::Write>(&self, f: &mut fmt::Formatter<W>) -> fmt::Result {
+        let bare = Visible { text: self.bare };
+        write!(
+            f,
+            "./ is not skipped, and lines do not begin with it: write '{bare}'"
+        )
+    }
+}
+
+/// The line about a pattern for paths that begin with `./`.
+#[derive(Clone, Copy)]
+struct HereLine<'a> {
+    pattern: &'a str,
+}
+
+impl Display for HereLine<'_> {
+    fn fmt<W: fmt::Write>(&self, f: &mut fmt::Formatter<W>) -> fmt::Result {
+        let pattern = Visible { text: self.pattern };
+        write!(
+            f,
+            "lines begin with ./, which belongs to them: write './{pattern}'"
+        )
     }
 }
 

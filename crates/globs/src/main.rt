@@ -30,6 +30,7 @@ mod name;
 mod options;
 mod patterns;
 mod place;
+mod quoting;
 mod spelling;
 mod usage;
 mod visible;

@@ -11,7 +11,7 @@ use crate::name::Name;
 use crate::options::Settings;
 use crate::patterns::{FaultLines, is_any_match, read_set};
 use crate::usage::HelpWord;
-use crate::whole::note_unmatched;
+use crate::whole::{note_invalid, note_unmatched};
 use glob_console::{ErrorLines, FAULT, UNFOUND, as_strs};
 use glob_lines::{Selection, Watch};
 use glob_set::PatternSet;
@@ -38,7 +38,10 @@ pub fn match_words<A: Allocator + Copy, R: Read, W: Write, E: Write>(
 {
     let texts = match expand_words(alloc, Name::Match, words, errors) {
         Ok(texts) => texts,
-        Err(Reported) => return FAULT,
+        Err(Reported) => {
+            note_invalid(alloc, settings.options, words, errors);
+            return FAULT;
+        }
     };
     let Ok(patterns) = as_strs(alloc, texts.as_slice()) else {
         return errors.memory_fault();
@@ -59,7 +62,7 @@ pub fn match_words<A: Allocator + Copy, R: Read, W: Write, E: Write>(
     } else if status == UNFOUND && first.is_missing() {
         note_file(words, errors);
     } else if status == UNFOUND && !settings.inverts && !first.has_nul() {
-        note_unmatched(alloc, patterns.as_slice(), errors);
+        note_unmatched(alloc, &first, patterns.as_slice(), errors);
     }
     status
 }

@@ -3,10 +3,14 @@ ghost use Rattle.std.specs.Prelude.{◌≡◌, ◌++◌, Some, codes};
 ghost use Rattle.globs.specs.Faults.{quoted};
 ghost use Rattle.globs.specs.Visible.{visible};
 
-use crate::find::slips::note_escaped;
+use crate::explain::foreign::native_forms;
+use crate::find::slips::line::Slip;
+use crate::find::slips::{is_foreign, note_escaped, note_valid, unquoted};
 use crate::forms::note_form;
+use crate::input::FirstRecord;
 use crate::visible::Visible;
 use glob_console::ErrorLines;
+use glob_pattern::{MatchOptions, Pattern};
 use std::alloc::Allocator;
 use std::fmt::{self, Display};
 use std::io::Write;
@@ -14,20 +18,67 @@ use std::io::Write;
 /// The characters that are special here or in another tool.
 const SPECIAL: &str = "*?[]{}\\|^$()!~";
 
-/// Writes what the only pattern of a command that found no line was probably meant to say: syntax of another tool, or a
-/// text that lines contain.
+/// Writes what to write instead of the first refused word, if it has a `**` that is not a whole component.
+pub fn note_invalid<A: Allocator + Copy, E: Write>(
+    alloc: A,
+    options: MatchOptions,
+    words: &[&str],
+    errors: &mut ErrorLines<'_, A, E>,
+) {
+    for word in words {
+        if word.contains('{') {
+            return;
+        }
+        if Pattern::new(alloc, word).is_err() {
+            note_valid(alloc, options, word, errors);
+            return;
+        }
+    }
+}
+
+/// Writes what the only pattern of a command that found no line was probably meant to say: the ends of the lines, whose
+/// first is given, quotes, syntax of another tool, or a text that lines contain.
 pub fn note_unmatched<A: Allocator + Copy, E: Write>(
     alloc: A,
+    first: &FirstRecord,
     patterns: &[&str],
     errors: &mut ErrorLines<'_, A, E>,
 ) {
-    if let [pattern] = patterns {
-        if is_plain(pattern) {
-            errors.write(&WholeLine { pattern });
-        } else if !note_escaped(alloc, pattern, errors) {
-            note_form(alloc, patterns, errors);
+    let [pattern] = patterns else {
+        return;
+    };
+    if first.note_ends(pattern, errors) {
+        return;
+    }
+    if let Some(bare) = unquoted(pattern) {
+        errors.write(&Slip::Quoted(pattern, bare));
+    } else if is_plain(pattern) {
+        errors.write(&WholeLine { pattern });
+    } else if !note_escaped(alloc, "", pattern, errors) && !note_anchor(alloc, pattern, errors) {
+        note_form(alloc, patterns, errors);
+    }
+}
+
+/// Writes what to write instead of a pattern that begins with `^` or ends in `$`, and returns whether it does.
+fn note_anchor<A: Allocator + Copy, E: Write>(
+    alloc: A,
+    pattern: &str,
+    errors: &mut ErrorLines<'_, A, E>,
+) -> bool {
+    if !(pattern.starts_with('^') || pattern.ends_with('$')) {
+        return false;
+    }
+    if let Ok(forms) = native_forms(alloc, pattern) {
+        match forms.as_slice() {
+            [form, ..] if !is_foreign(form.as_str()) => {
+                errors.write(&Slip::Anchored(form.as_str()));
+            }
+            _ => errors.write(
+                &"^ and $ are ordinary characters here, not anchors: a pattern matches a whole line",
+            ),
         }
     }
+    true
 }
 
 /// Whether a pattern is only a text.

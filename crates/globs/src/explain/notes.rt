@@ -7,14 +7,12 @@ use glob_pattern::{MatchOptions, Pattern};
 use std::alloc::{AllocError, Allocator};
 
 /// What a parenthesis means here.
-const GROUPLESS: &str = "opens a group in bash. Here ( is an ordinary character";
+const GROUPLESS: &str =
+    "opens a group in bash. Here ( is an ordinary character: write {a,b} for a or b";
 
 /// Syntax of shells and other tools, and what each means here.
 static FORMS: &[(&str, &str)] = &[
-    (
-        "|",
-        "is an ordinary character here. find and match accept several patterns",
-    ),
+    ("|", "is an ordinary character here: write {a,b} for a or b"),
     (
         "\\",
         "is an ordinary character here, and escapes nothing: write [*] for a literal *",
@@ -28,7 +26,10 @@ static FORMS: &[(&str, &str)] = &[
     ("@(", GROUPLESS),
     ("*(", GROUPLESS),
     ("?(", GROUPLESS),
-    ("!(", GROUPLESS),
+    (
+        "!(",
+        "opens a group in bash. Here ( is an ordinary character: use match -v or find -x",
+    ),
 ];
 
 /// The same for syntax that other tools know only at the start of a pattern.

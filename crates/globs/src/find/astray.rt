@@ -1,6 +1,7 @@
 //! What to write instead of a word that `find` refuses.
 use crate::find::below::is_below;
 use crate::find::leads::split_lead;
+use crate::find::missing::is_plain;
 use crate::visible::Visible;
 use glob_console::ErrorLines;
 use glob_pattern::Pattern;
@@ -20,6 +21,8 @@ pub fn note_astray<A: Allocator + Copy, E: Write>(
             if words.len() > 1 && (*word == "." || *word == "./") {
                 errors.write(&HereLine { word });
             } else if let Some(line) = InsteadLine::new(word) {
+                errors.write(&line);
+            } else if let Some(line) = ShorterLine::new(word) {
                 errors.write(&line);
             }
             return;
@@ -43,6 +46,49 @@ impl Display for HereLine<'_> {
             f,
             "leave out `{word}`: a search begins in the current directory, or with -C DIR in another"
         )
+    }
+}
+
+/// The line that says what to write instead of a word with an empty component or a `.` inside: the word without it.
+#[derive(Clone, Copy)]
+struct ShorterLine<'a> {
+    lead: &'a str,
+    /// The pattern after the lead.
+    below: &'a str,
+}
+
+impl<'a> ShorterLine<'a> {
+    /// The line about a refused word; `None` if it has no such component, or ends in one, or has a `..` after its lead.
+    fn new(word: &'a str) -> Option<Self> {
+        let (lead, below) = split_lead(word);
+        let is_inside = below.contains("//") || below.contains("/./");
+        let is_last = below.ends_with('/') || below.ends_with("/.");
+        let is_other = below.contains(['{', '\'', ':'].as_slice()) || below.contains("..");
+        if is_inside && !is_last && !is_other {
+            Some(ShorterLine { lead, below })
+        } else {
+            None
+        }
+    }
+}
+
+impl Display for ShorterLine<'_> {
+    fn fmt<W: fmt::Write>(&self, f: &mut fmt::Formatter<W>) -> fmt::Result {
+        let lead = self.lead;
+        write!(f, "write instead: '{lead}")?;
+        let mut is_first = true;
+        for name in self.below.split('/') {
+            if name.is_empty() || name == "." {
+                continue;
+            }
+            if !is_first {
+                f.write_str("/")?;
+            }
+            is_first = false;
+            let name = Visible { text: name };
+            write!(f, "{name}")?;
+        }
+        f.write_str("'")
     }
 }
 
@@ -96,6 +142,10 @@ impl Display for InsteadLine<'_> {
             self.below
         };
         let below = Visible { text: below };
-        write!(f, "'{lead}{last}{join}{below}'")
+        write!(f, "'{lead}{last}{join}{below}'")?;
+        if self.is_directory && is_plain(self.below) {
+            write!(f, ", or for what is in it '{lead}{below}/**'")?;
+        }
+        Ok(())
     }
 }

@@ -2,6 +2,7 @@
 use crate::find::kinds::{PathKind, PathKinds};
 use crate::find::leads::place_at;
 use crate::options::Options;
+use crate::quoting::ShellWord;
 use crate::visible::Visible;
 use glob_console::ErrorLines;
 use std::alloc::Allocator;
@@ -158,10 +159,11 @@ struct DirectoryLine<'a> {
 
 impl Display for DirectoryLine<'_> {
     fn fmt<W: fmt::Write>(&self, f: &mut fmt::Formatter<W>) -> fmt::Result {
+        let typed = ShellWord { text: self.word };
         let word = Visible { text: self.word };
         write!(
             f,
-            "`{word}` is a directory, but was read as a pattern: use -C {word} to search it"
+            "`{word}` is a directory, but was read as a pattern: use -C {typed} to search it"
         )
     }
 }

@@ -82,7 +82,7 @@ pub fn report_search<A: Allocator + Copy, E: Write>(
         }
         SearchFault::Limit => {
             errors.write(
-                &"the limit of -n is reached, which counts units, not paths: the output is incomplete",
+                &"the limit of -n is reached, so paths may be missing. It counts units: for a number of paths, pipe them to head",
             );
             true
         }

@@ -12,6 +12,10 @@ use std::alloc::{AllocError, Allocator};
 use std::fmt::{self, Display};
 use std::io::Write;
 
+/// What `^` and `$` are here.
+const ANCHOR: &str =
+    "is an ordinary character here, not an anchor: leave it out, as a pattern matches a whole path";
+
 /// Beginnings of patterns that mean something in other tools, and what each means here.
 static STARTS: &[(&str, &str)] = &[
     (":(", "is git's syntax, and means nothing here"),
@@ -19,10 +23,7 @@ static STARTS: &[(&str, &str)] = &[
         "$",
         "is an ordinary character here. A shell expands $HOME except in single quotes: use -C \"$HOME\"",
     ),
-    (
-        "^",
-        "is an ordinary character here, not an anchor: a pattern matches a whole path",
-    ),
+    ("^", ANCHOR),
 ];
 
 /// A line about some words of the command line.
@@ -34,6 +35,8 @@ enum Hint<'a> {
     Numbers,
     /// This word is a number after `-d`.
     Dots(&'a str),
+    /// A `$` inside a pattern.
+    Variable,
 }
 
 impl Display for Hint<'_> {
@@ -49,6 +52,9 @@ impl Display for Hint<'_> {
             Hint::Numbers => {
                 f.write_str("{1..3} is not a range here: write {1,2,3}, or [1-3] for a character")
             }
+            Hint::Variable => f.write_str(
+                "$ is an ordinary character here. A shell expands it except in single quotes",
+            ),
             Hint::Dots(word) => write!(
                 f,
                 "`{word}` was read as a pattern, as -d has no value: use --max-depth {word}"
@@ -114,6 +120,25 @@ fn note_start<A: Allocator + Copy, E: Write>(pattern: &str, errors: &mut ErrorLi
         if pattern.starts_with(*form) {
             errors.write(&FormLine { form, words });
         }
+    }
+    if pattern.ends_with('$') {
+        errors.write(&FormLine {
+            form: "$",
+            words: ANCHOR,
+        });
+    }
+    if has_variable(pattern) {
+        errors.write(&Hint::Variable);
+    }
+}
+
+/// Whether a pattern has a `$` and a letter after its first character.
+fn has_variable(pattern: &str) -> bool {
+    match pattern.split_once('$') {
+        Some((before, after)) => {
+            !before.is_empty() && after.starts_with(|c: char| c.is_ascii_alphabetic())
+        }
+        None => false,
     }
 }
 

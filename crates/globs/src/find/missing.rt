@@ -1,15 +1,16 @@
 //! Lines about words of a search that name nothing, but part of a name. No clause speaks of them.
 use crate::find::kinds::{PathKind, PathKinds};
 use crate::find::leads::{place_at, split_lead};
-use crate::find::places::{Place, Places};
+use crate::find::names::{Wanted, least_name};
+use crate::find::places::Places;
 use crate::find::slips::is_dashed;
+use crate::find::way::note_way;
 use crate::input::is_help;
 use crate::name::Name;
 use crate::options::Options;
 use crate::usage::HelpWord;
 use crate::visible::Visible;
 use glob_console::ErrorLines;
-use glob_tree::{Entry, Tree};
 use std::alloc::Allocator;
 use std::fmt::{self, Display};
 use std::io::Write;
@@ -69,6 +70,11 @@ pub fn note_missing<P: Places, F: PathKinds, E: Write>(
         errors.write(&HelpWord { name: Name::Find });
         return;
     }
+    if let [pattern, ..] = patterns {
+        if note_way(alloc, places, files, options, pattern, errors) {
+            return;
+        }
+    }
     if let [word, ..] = words {
         let (_, below) = split_lead(word);
         if below.contains('/') {
@@ -80,8 +86,8 @@ pub fn note_missing<P: Places, F: PathKinds, E: Write>(
     }
 }
 
-/// Writes how to find names that have a text in them, if a pattern is only a text, perhaps between `^` and `$`, and
-/// nothing has that name.
+/// Writes how to find names that have a text in them, if a pattern is only a text, perhaps between `^` and `$` or white
+/// space, and nothing has that name.
 fn note_name<A: Allocator + Copy, F: PathKinds, E: Write>(
     alloc: A,
     files: &F,
@@ -91,7 +97,7 @@ fn note_name<A: Allocator + Copy, F: PathKinds, E: Write>(
 ) {
     let (lead, below) = split_lead(pattern);
     let name = below.strip_prefix('^').unwrap_or(below);
-    let name = name.strip_suffix('$').unwrap_or(name);
+    let name = name.strip_suffix('$').unwrap_or(name).trim_ascii();
     let is_name = is_plain(name) && !name.contains('/');
     if is_name && is_missing(alloc, files, options, pattern) {
         errors.write(&Missing::Name(lead, below, name));
@@ -99,7 +105,7 @@ fn note_name<A: Allocator + Copy, F: PathKinds, E: Write>(
 }
 
 /// Whether a text has only characters of plain paths.
-fn is_plain(text: &str) -> bool {
+pub fn is_plain(text: &str) -> bool {
     let is_special = |c: char| SPECIAL.contains(c);
     !text.is_empty() && !text.contains("..") && !is_dashed(text) && !text.chars().any(is_special)
 }
@@ -111,11 +117,24 @@ fn is_missing<A: Allocator + Copy, F: PathKinds>(
     options: &Options<'_, A>,
     path: &str,
 ) -> bool {
-    let Ok(path) = place_at(alloc, options.directory, path) else {
-        return false;
-    };
-    let kind = files.kind(alloc, false, "", path.as_str());
-    kind.is_ok_and(|kind| kind == PathKind::Other)
+    kind_at(alloc, files, options, path).is_some_and(|kind| kind == PathKind::Other)
+}
+
+/// What is at a path from the directory of the options on; `None` if memory runs out. A link to something other than a
+/// directory is what it leads to.
+pub fn kind_at<A: Allocator + Copy, F: PathKinds>(
+    alloc: A,
+    files: &F,
+    options: &Options<'_, A>,
+    path: &str,
+) -> Option<PathKind> {
+    let path = place_at(alloc, options.directory, path).ok()?;
+    let kind = files.kind(alloc, true, "", path.as_str()).ok()?;
+    if kind == PathKind::Directory && !options.settings.follows {
+        files.kind(alloc, false, "", path.as_str()).ok()
+    } else {
+        Some(kind)
+    }
 }
 
 /// Writes what a word is the beginning of, if nothing is at its path.
@@ -140,48 +159,7 @@ fn note_beginning<P: Places, F: PathKinds, E: Write>(
     let Ok(path) = place_at(alloc, options.directory, directory) else {
         return;
     };
-    if let Some(name) = first_name(alloc, places, path.as_str(), start) {
+    if let Some(name) = least_name(alloc, places, path.as_str(), Wanted::Beginning(start)) {
         errors.write(&Missing::Beginning(word, directory, name.as_str()));
-    }
-}
-
-/// The least name in a directory, which has this path, that begins with a text.
-fn first_name<P: Places>(
-    alloc: P::Alloc,
-    places: &P,
-    path: &str,
-    start: &str,
-) -> Option<String<P::Alloc>> {
-    let place = Place {
-        path,
-        lead: "",
-        follows: false,
-        is_utf8_only: true,
-        rules: "",
-    };
-    let mut tree = places.tree(place).ok()?;
-    let entries = tree.list_names(".").ok()?;
-    let mut least = 0usize;
-    let mut has_any = false;
-    for (number, entry) in entries.iter().enumerate() {
-        let name = entry.name.as_str();
-        if name.starts_with(start) && !(has_any && is_from(entries.as_slice(), least, name)) {
-            least = number;
-            has_any = true;
-        }
-    }
-    let entry = entries.get(least)?;
-    if has_any {
-        String::from_str(alloc, entry.name.as_str()).ok()
-    } else {
-        None
-    }
-}
-
-/// Whether a name is the same as that of the entry of this number, or comes after it.
-fn is_from<A: Allocator>(entries: &[Entry<A>], number: usize, name: &str) -> bool {
-    match entries.get(number) {
-        Some(entry) => entry.name.as_str() <= name,
-        None => false,
     }
 }

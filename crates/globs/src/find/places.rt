@@ -73,7 +73,7 @@ pub fn is_directory<T: Tree>(tree: &mut T, path: &str) -> Result<bool, AllocErro
     Ok(tree.look(".")?.is_dir())
 }
 
-/// The line about a directory of the options that is none.
+/// The line about a `-C` that is no directory.
 #[derive(Clone, Copy)]
 pub struct NoDirectory<'a> {
     directory: &'a str,

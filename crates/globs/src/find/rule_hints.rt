@@ -1,5 +1,9 @@
-//! Lines about rules of the command line that ignore nothing. No clause is about these lines.
+//! Lines about rules of the command line that ignore nothing or cannot be read. No clause is about these lines.
+ghost use Rattle.std.specs.Prelude.{◌≡◌};
+
+use crate::ignoring::RulesFault;
 use crate::options::Options;
+use crate::quoting::ShellWord;
 use crate::visible::Visible;
 use glob_console::ErrorLines;
 use std::alloc::Allocator;
@@ -17,6 +21,8 @@ enum RuleHint<'a> {
     Negative(&'a str),
     /// This name of ignore files has wildcards.
     Wild(&'a str),
+    /// This name of an ignore file looks like a rule.
+    Rule(&'a str),
 }
 
 impl Display for RuleHint<'_> {
@@ -48,6 +54,11 @@ impl Display for RuleHint<'_> {
                     "--ignore-files {name} looks for that exact name: it is not a pattern"
                 )
             }
+            RuleHint::Rule(rule) => {
+                let typed = ShellWord { text: *rule };
+                let rule = Visible { text: *rule };
+                write!(f, "`{rule}` was taken for a file of rules: use -x {typed}")
+            }
         }
     }
 }
@@ -56,6 +67,30 @@ impl Display for RuleHint<'_> {
 fn write_rule<W: fmt::Write>(f: &mut fmt::Formatter<W>, rule: &str, words: &str) -> fmt::Result {
     let rule = Visible { text: rule };
     write!(f, "-x {rule} {words}")
+}
+
+/// Reports why rules could not be read, and that --ignore takes no rule. Returns the status of a fault.
+pub fn report_rules<A: Allocator + Copy, E: Write>(
+    fault: RulesFault<'_>,
+    errors: &mut ErrorLines<'_, A, E>,
+) -> u8
+    ensures { result ≡ 2 }
+{
+    let file = match &fault {
+        RulesFault::NoText(file) | RulesFault::Unread(file, _) => Some(*file),
+        RulesFault::Refused(_, _, _) | RulesFault::Rule(_, _) | RulesFault::Memory => None,
+    };
+    let status = errors.fault(fault);
+    match file {
+        Some(file) if is_wild(file) => errors.write(&RuleHint::Rule(file)),
+        Some(_) | None => {}
+    }
+    status
+}
+
+/// Whether a name has wildcards.
+fn is_wild(name: &str) -> bool {
+    name.contains(['*', '?', '['].as_slice())
 }
 
 /// Writes the lines about rules of the command line that ignore nothing.
@@ -77,7 +112,7 @@ pub fn note_rules<A: Allocator + Copy, E: Write>(
         }
     }
     for name in options.rule_files.as_slice() {
-        if name.contains(['*', '?', '['].as_slice()) {
+        if is_wild(name) {
             errors.write(&RuleHint::Wild(name));
         }
     }

@@ -1,11 +1,12 @@
 //! Lines about slips in the words of a search: exclusions as in other tools, dashes and quotes as in printed texts,
 //! several patterns in one word, and patterns that do not mean what they look like. No clause is about these lines.
-mod line;
+pub mod line;
 
 use crate::explain::foreign::native_forms;
 use crate::explain::instead::{is_accepted, valid_forms};
 use crate::find::below::is_below;
 use crate::find::kinds::{PathKind, PathKinds};
+use crate::find::leads::split_lead;
 use crate::options::{Kinds, Options};
 use glob_console::{ErrorLines, UNFOUND};
 use glob_pattern::{MatchOptions, Pattern};
@@ -21,6 +22,17 @@ static PROGRAMS: &[&str] = &[
     "rm", "cat", "cp", "mv", "ls", "echo", "chmod", "chown", "grep", "rg", "sed", "awk", "wc",
     "head", "tail", "touch", "stat", "du", "vim", "vi", "less", "bash", "sh",
 ];
+
+/// What separates patterns in other tools, and its name.
+static BETWEEN: &[(char, &str)] = &[
+    (' ', "a space"),
+    (',', "a comma"),
+    (';', "a semicolon"),
+    ('|', "a |"),
+];
+
+/// Parts of regular expressions that are hardly parts of names.
+static REGEX: &[&str] = &["\\.", "\\w", "\\d", "\\b", "\\s", "(?"];
 
 /// Characters that look like `-`.
 const DASHES: &str = "\u{2010}\u{2011}\u{2012}\u{2013}\u{2014}\u{2015}\u{2212}";
@@ -118,8 +130,8 @@ fn note_pattern<A: Allocator + Copy, E: Write>(
 ) -> bool {
     if let Some(bare) = unquoted(pattern) {
         errors.write(&Slip::Quoted(pattern, bare));
-    } else if has_several(pattern) {
-        errors.write(&Slip::Several(pattern));
+    } else if let Some(between) = several(pattern) {
+        errors.write(&Slip::Several(pattern, between));
     } else if let Some(path) = pattern.strip_prefix(":/") {
         errors.write(&Slip::Top(path));
     } else if pattern.contains('\\') {
@@ -133,7 +145,7 @@ fn note_pattern<A: Allocator + Copy, E: Write>(
 }
 
 /// What is between the quotes around a text, if there are any.
-fn unquoted(text: &str) -> Option<&str> {
+pub fn unquoted(text: &str) -> Option<&str> {
     let inner = text.trim_start_matches(|c: char| QUOTES.contains(c));
     let bare = inner.trim_end_matches(|c: char| QUOTES.contains(c));
     let has_both = inner.len() < text.len() && bare.len() < inner.len();
@@ -144,12 +156,16 @@ fn unquoted(text: &str) -> Option<&str> {
     }
 }
 
-/// Whether a pattern has a space, and wildcards before and after it.
-fn has_several(pattern: &str) -> bool {
-    match pattern.split_once(' ') {
-        Some((before, after)) => before.contains('*') && after.contains('*'),
-        None => false,
+/// What separates the patterns in a word: it has wildcards before and after it.
+fn several(word: &str) -> Option<&'static str> {
+    for (mark, between) in BETWEEN {
+        if let Some((before, after)) = word.split_once(*mark) {
+            if before.contains('*') && after.contains('*') {
+                return Some(between);
+            }
+        }
     }
+    None
 }
 
 /// Whether a pattern with a wildcard ends in a `.` and upper-case letters.
@@ -164,7 +180,7 @@ fn is_upper(pattern: &str) -> bool {
     }
 }
 
-/// Writes what to write instead of a pattern with a `\`, unless the `\` is in a bracket.
+/// Writes what to write instead of a pattern with a `\`, unless the `\` is in a bracket or in a regular expression.
 fn note_backslash<A: Allocator + Copy, E: Write>(
     alloc: A,
     pattern: &str,
@@ -173,16 +189,22 @@ fn note_backslash<A: Allocator + Copy, E: Write>(
     if pattern.contains('[') {
         return false;
     }
-    if !note_escaped(alloc, pattern, errors) {
+    let beginning = if pattern.contains('/') { "" } else { "**/" };
+    if note_escaped(alloc, beginning, pattern, errors) {
+        return true;
+    }
+    let is_regex = REGEX.iter().any(|sign| pattern.contains(*sign));
+    if !is_regex {
         errors.write(&Slip::Backslash(pattern));
     }
-    true
+    !is_regex
 }
 
 /// Writes what to write instead of a pattern in which a `\` escapes characters, if that is certain, and returns whether
-/// it is.
+/// it is. `beginning` comes before it.
 pub fn note_escaped<A: Allocator + Copy, E: Write>(
     alloc: A,
+    beginning: &'static str,
     pattern: &str,
     errors: &mut ErrorLines<'_, A, E>,
 ) -> bool {
@@ -193,12 +215,17 @@ pub fn note_escaped<A: Allocator + Copy, E: Write>(
         return false;
     };
     match forms.as_slice() {
-        [form, ..] => {
-            errors.write(&Slip::Escaped(form.as_str()));
+        [form, ..] if !is_foreign(form.as_str()) => {
+            errors.write(&Slip::Escaped(beginning, form.as_str()));
             true
         }
-        [] => false,
+        _ => false,
     }
+}
+
+/// Whether a pattern still has a part of a regular expression, and so is no advice.
+pub fn is_foreign(form: &str) -> bool {
+    form.contains('|') || form.contains("(?") || form.starts_with('^') || form.ends_with('$')
 }
 
 /// Writes what to write instead of the first refused word, if it has a `**` that is not a whole component.
@@ -207,33 +234,36 @@ pub fn note_refused<A: Allocator + Copy, E: Write>(
     words: &[&str],
     errors: &mut ErrorLines<'_, A, E>,
 ) {
+    let options = MatchOptions {
+        require_literal_separator: true,
+        ..MatchOptions::new()
+    };
     for word in words {
         if !is_below(word) || word.contains('{') {
             return;
         }
         if Pattern::new(alloc, word).is_err() {
-            note_valid(alloc, word, errors);
+            note_valid(alloc, options, word, errors);
             return;
         }
     }
 }
 
-/// Writes the pattern made from a refused one, if it is accepted.
-fn note_valid<A: Allocator + Copy, E: Write>(
+/// Writes the pattern made from a refused one under these options, if it is accepted.
+pub fn note_valid<A: Allocator + Copy, E: Write>(
     alloc: A,
+    options: MatchOptions,
     word: &str,
     errors: &mut ErrorLines<'_, A, E>,
 ) {
-    let options = MatchOptions {
-        require_literal_separator: true,
-        ..MatchOptions::new()
-    };
     let Ok(forms) = valid_forms(alloc, word, options) else {
         return;
     };
     if let [form, ..] = forms.as_slice() {
         let is_valid = is_accepted(alloc, form.as_str()).unwrap_or(false);
-        if word.contains("**") && is_valid {
+        if let Some(between) = several(word) {
+            errors.write(&Slip::Several(word, between));
+        } else if word.contains("**") && is_valid {
             errors.write(&Slip::Instead(form.as_str()));
         }
     }
@@ -250,8 +280,9 @@ pub fn note_shallow<A: Allocator + Copy, E: Write>(
         return;
     }
     for pattern in patterns {
-        if is_shallow(pattern) {
-            errors.write(&Slip::Shallow(pattern));
+        let (lead, below) = split_lead(pattern);
+        if is_shallow(below) && lead != "/" {
+            errors.write(&Slip::Shallow(lead, below));
             return;
         }
     }

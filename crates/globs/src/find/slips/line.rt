@@ -1,4 +1,5 @@
 //! The lines about slips in the words of a search.
+use crate::quoting::ShellWord;
 use crate::visible::Visible;
 use std::fmt::{self, Display};
 
@@ -13,20 +14,22 @@ pub enum Slip<'a> {
     Kind(&'a str),
     /// This pattern is this other pattern in quotes.
     Quoted(&'a str, &'a str),
-    /// This word has several patterns.
-    Several(&'a str),
+    /// This word has several patterns, separated by this.
+    Several(&'a str, &'static str),
     /// This path is from the top of a repository.
     Top(&'a str),
-    /// Another tool's pattern with a `\` means this pattern here.
-    Escaped(&'a str),
+    /// Another tool's pattern with a `\` means this pattern here, after this beginning.
+    Escaped(&'static str, &'a str),
+    /// A regular expression means this pattern here.
+    Anchored(&'a str),
     /// A refused pattern was probably meant as this one.
     Instead(&'a str),
     /// This pattern has a `\` between names.
     Backslash(&'a str),
     /// This pattern matches upper-case letters only.
     Upper(&'a str),
-    /// This pattern matches only names directly in the start.
-    Shallow(&'a str),
+    /// This pattern, after this lead, matches only names directly in the start.
+    Shallow(&'a str, &'a str),
     /// This word is the name of an entry, but does not match it.
     Unmatched(&'a str),
     /// This rule is the name of a program.
@@ -39,7 +42,7 @@ impl Display for Slip<'_> {
     fn fmt<W: fmt::Write>(&self, f: &mut fmt::Formatter<W>) -> fmt::Result {
         match self {
             Slip::Excluding(word, rule) => {
-                let (word, rule) = (Visible { text: *word }, Visible { text: *rule });
+                let (word, rule) = (Visible { text: *word }, ShellWord { text: *rule });
                 write!(f, "`{word}` does not exclude: use -x {rule}")
             }
             Slip::Dash(word, name) => write_dash(f, word, name),
@@ -56,11 +59,11 @@ impl Display for Slip<'_> {
                     "`{word}` has quotes in it, which belong to the pattern: write '{bare}'"
                 )
             }
-            Slip::Several(word) => {
+            Slip::Several(word, between) => {
                 let word = Visible { text: *word };
                 write!(
                     f,
-                    "`{word}` is one pattern, with a space in it: quote each pattern separately"
+                    "`{word}` is one pattern, with {between} in it: quote each pattern separately"
                 )
             }
             Slip::Top(path) => {
@@ -70,11 +73,18 @@ impl Display for Slip<'_> {
                     "`:/` is git's syntax: write '{path}', from the start of the search"
                 )
             }
-            Slip::Escaped(form) => {
+            Slip::Escaped(beginning, form) => {
                 let form = Visible { text: *form };
                 write!(
                     f,
-                    "\\ is an ordinary character here, and escapes nothing: write '{form}'"
+                    "\\ is an ordinary character here, and escapes nothing: write '{beginning}{form}'"
+                )
+            }
+            Slip::Anchored(form) => {
+                let form = Visible { text: *form };
+                write!(
+                    f,
+                    "^ and $ are ordinary characters here, not anchors: write '{form}'"
                 )
             }
             Slip::Instead(form) => {
@@ -95,11 +105,11 @@ impl Display for Slip<'_> {
                     "`{pattern}` matches upper-case letters only: use -i for both cases"
                 )
             }
-            Slip::Shallow(pattern) => {
+            Slip::Shallow(lead, pattern) => {
                 let pattern = Visible { text: *pattern };
                 write!(
                     f,
-                    "`{pattern}` matches only names at the start: '**/{pattern}' also matches those below"
+                    "`{lead}{pattern}` matches only names at the start: '{lead}**/{pattern}' also matches those below"
                 )
             }
             Slip::Unmatched(name) => {

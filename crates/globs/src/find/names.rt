@@ -1,0 +1,60 @@
+//! Names in a directory of the disk, for lines about words. No clause speaks of them.
+use crate::find::places::{Place, Places};
+use glob_tree::{Entry, Tree};
+use std::alloc::Allocator;
+
+/// Which names are looked for.
+#[derive(Clone, Copy)]
+pub enum Wanted<'a> {
+    /// Those that begin with this text.
+    Beginning(&'a str),
+    /// Those that differ from this text only in the case of ASCII letters.
+    AnyCase(&'a str),
+}
+
+impl Wanted<'_> {
+    /// Whether a name is looked for.
+    fn is(self, name: &str) -> bool {
+        match self {
+            Wanted::Beginning(start) => name.starts_with(start),
+            Wanted::AnyCase(text) => name.eq_ignore_ascii_case(text),
+        }
+    }
+}
+
+/// The least name that is looked for, in the directory with this path.
+pub fn least_name<P: Places>(
+    alloc: P::Alloc,
+    places: &P,
+    path: &str,
+    wanted: Wanted<'_>,
+) -> Option<String<P::Alloc>> {
+    let place = Place {
+        path,
+        lead: "",
+        follows: false,
+        is_utf8_only: true,
+        rules: "",
+    };
+    let mut tree = places.tree(place).ok()?;
+    let entries = tree.list_names(".").ok()?;
+    let mut least: Option<usize> = None;
+    for (number, entry) in entries.iter().enumerate() {
+        let name = entry.name.as_str();
+        if wanted.is(name) && is_before(name, entries.as_slice(), least) {
+            least = Some(number);
+        }
+    }
+    let entry = entries.get(least?)?;
+    String::from_str(alloc, entry.name.as_str()).ok()
+}
+
+/// Whether a name comes before that of the entry of this number. True without a number.
+fn is_before<A: Allocator>(name: &str, entries: &[Entry<A>], number: Option<usize>) -> bool {
+    match number {
+        Some(number) => entries
+            .get(number)
+            .is_some_and(|entry| name < entry.name.as_str()),
+        None => true,
+    }
+}

@@ -1,0 +1,124 @@
+//! Lines about the plain names at the beginning of a pattern of a search that found nothing: where the disk has nothing
+//! at their path, or something below which nothing is searched. No clause speaks of them.
+use crate::find::kinds::{PathKind, PathKinds};
+use crate::find::leads::{place_at, split_lead};
+use crate::find::missing::{is_plain, kind_at};
+use crate::find::names::{Wanted, least_name};
+use crate::find::places::Places;
+use crate::options::Options;
+use crate::visible::Visible;
+use glob_console::ErrorLines;
+use std::alloc::Allocator;
+use std::fmt::{self, Display};
+use std::io::Write;
+
+/// A line about a path at the beginning of a pattern.
+#[derive(Clone, Copy)]
+enum Way<'a> {
+    /// Nothing has this path.
+    Absent(&'a str),
+    /// Nothing has this path, but in this directory is this name, which differs from the path's last only in case.
+    Cased(&'a str, &'a str, &'a str),
+    /// This path is a symbolic link to a directory.
+    Link(&'a str),
+    /// This path is not a directory.
+    File(&'a str),
+}
+
+impl Display for Way<'_> {
+    fn fmt<W: fmt::Write>(&self, f: &mut fmt::Formatter<W>) -> fmt::Result {
+        match self {
+            Way::Absent(path) => {
+                let path = Visible { text: *path };
+                write!(f, "`{path}` is not there, so nothing is found below it")
+            }
+            Way::Cased(path, directory, name) => {
+                let (path, directory) = (Visible { text: *path }, Visible { text: *directory });
+                let name = Visible { text: *name };
+                write!(
+                    f,
+                    "`{path}` is not there, but '{directory}{name}' is: use -i for both cases"
+                )
+            }
+            Way::Link(path) => {
+                let path = Visible { text: *path };
+                write!(f, "`{path}` is a symbolic link: use -L to search below it")
+            }
+            Way::File(path) => {
+                let path = Visible { text: *path };
+                write!(
+                    f,
+                    "`{path}` is not a directory, so nothing is found below it"
+                )
+            }
+        }
+    }
+}
+
+/// Writes what is in the way of a pattern, if its beginning has only plain names, and returns whether something is.
+pub fn note_way<P: Places, F: PathKinds, E: Write>(
+    alloc: P::Alloc,
+    places: &P,
+    files: &F,
+    options: &Options<'_, P::Alloc>,
+    pattern: &str,
+    errors: &mut ErrorLines<'_, P::Alloc, E>,
+) -> bool {
+    if !options.settings.options.case_sensitive || pattern.starts_with('~') {
+        return false;
+    }
+    let (lead, below) = split_lead(pattern);
+    for (end, _) in below.match_indices('/') {
+        let start = lead.len().saturating_add(end);
+        let path = pattern.get(..start).unwrap_or("");
+        if !is_plain(below.get(..end).unwrap_or("")) {
+            return false;
+        }
+        match kind_at(alloc, files, options, path) {
+            Some(PathKind::Directory) => {}
+            Some(PathKind::Other) => {
+                if !note_cased(alloc, places, options, path, errors) {
+                    errors.write(&Way::Absent(path));
+                }
+                return true;
+            }
+            Some(PathKind::Link) => {
+                errors.write(&Way::Link(path));
+                return true;
+            }
+            Some(PathKind::File) => {
+                errors.write(&Way::File(path));
+                return true;
+            }
+            None => return false,
+        }
+    }
+    let is_absent = is_plain(below)
+        && kind_at(alloc, files, options, pattern).is_some_and(|kind| kind == PathKind::Other);
+    is_absent && note_cased(alloc, places, options, pattern, errors)
+}
+
+/// Writes which name is there instead of the last name of a path, if it differs only in case.
+fn note_cased<P: Places, E: Write>(
+    alloc: P::Alloc,
+    places: &P,
+    options: &Options<'_, P::Alloc>,
+    path: &str,
+    errors: &mut ErrorLines<'_, P::Alloc, E>,
+) -> bool {
+    let last = match path.rsplit_once('/') {
+        Some((_, last)) => last,
+        None => path,
+    };
+    let directory = path.strip_suffix(last).unwrap_or("");
+    let Ok(place) = place_at(alloc, options.directory, directory) else {
+        return false;
+    };
+    match least_name(alloc, places, place.as_str(), Wanted::AnyCase(last)) {
+        Some(name) => {
+            errors.write(&Way::Cased(path, directory, name.as_str()));
+            true
+        }
+        None => false,
+    }
+}
