@@ -2,11 +2,13 @@
 """Compares ignore lists with git. First, questions with recorded answers in tests/rows/git.answers, in the format of
 `glob_vectors rules`: answers of git 2.39 and, at the end and marked R, lists that are refused according to
 docs/IGNORE.md. Then random lists and trees, and which line decides for each path: for some of them by `globs ignore -v`.
+Then random repositories with ignore files at any depth, and paths asked about from any directory in them: which of them
+`globs ignore --git` copies, and which file and line decides.
 
-    tests/ignore.py [--seed N] [--lists N]
+    tests/ignore.py [--seed N] [--lists N] [--repositories N]
 
-Prints each difference, except for those that docs/IGNORE.md lists. The last line counts recorded answers and lists: 'N
-passed, M failed'."""
+Prints each difference, except for those that docs/IGNORE.md lists. The last line counts recorded answers, lists and
+questions about repositories: 'N passed, M failed'."""
 
 import argparse
 import itertools
@@ -151,6 +153,52 @@ def compare_named(count, folder, text, paths, expected):
     count.same(f"list {text!r}, -v", (status, output.decode()), wanted)
 
 
+def plain_name(rng):
+    return rng.choice(NAMES[:12])
+
+
+def check_ignore(start, asked, *words):
+    """The fields that git writes about paths below a directory."""
+    env = {**os.environ, "GIT_CONFIG_NOSYSTEM": "1", "GIT_CONFIG_GLOBAL": "/dev/null"}
+    words = ["git", "check-ignore", "--no-index", "-z", "--stdin", *words]
+    status, output, errors = run(words, input="\0".join(asked).encode(), cwd=start, env=env, text=False)
+    if status > 1:
+        sys.exit(f"git: {errors.decode()}")
+    return output.decode().split("\0")[:-1]
+
+
+def compare_repository(count, rng, top):
+    """`globs ignore --git` copies the paths of a random repository that git does not ignore, and with -v it names the
+    rules that git does. Each directory is asked about with a `/` at its end, which git does not need."""
+    tree = grown(rng, rng.randint(1, 30), plain_name, 0.6)
+    files = [path for path in [".", *(it for it in tree if tree[it])] if rng.random() < 0.5]
+    run(["git", "init", "-q", "--template=", top])
+    place(top, [path + "/" * is_dir for path, is_dir in tree.items()])
+    rules = [f"{path}/.gitignore" for path in files] + [".git/info/exclude"]
+    place(top, [f"{path}=" + "\n".join(rng.choices(REAL, k=rng.randint(0, 5))) for path in rules])
+    for start in {".", rng.choice([".", *(path for path in tree if tree[path])])}:
+        compare_start(count, rng, top, start, {os.path.relpath(path, start): tree[path] for path in tree})
+
+
+def compare_start(count, rng, top, start, tree):
+    """The same for paths from one directory on."""
+    place_of = os.path.join(top, start)
+    asked = [path for path in tree if not path.startswith("..") and path != "."]
+    asked += [f"{path}/{plain_name(rng)}" for path in asked if rng.random() < 0.3]
+    rng.shuffle(asked)
+    ours = [path + "/" * tree.get(path, False) for path in asked]
+    fields = check_ignore(place_of, asked, "-v", "-n")
+    says = list(zip(fields[::4], fields[1::4], fields[2::4], ours))
+    ignored = set(check_ignore(place_of, asked))
+    kept = [our for path, our in zip(asked, ours) if path not in ignored]
+    named = [(os.path.relpath(file, start), *others) for file, *others in says if file]
+    what = f"repository {top} {start} {ours}"
+    for words, wanted in (([], kept), (["-v"], [field for fields in named for field in fields])):
+        words = [built("globs"), "ignore", "--git", "-0", *words]
+        status, output, _ = run(words, input="\0".join(ours).encode(), cwd=place_of, text=False)
+        count.same(f"{what} {words[4:]}", (status, output.decode().split("\0")[:-1]), (0 if wanted else 1, wanted))
+
+
 def compare_kept(count):
     kept = (ROOT / "tests/rows/git.answers").read_text(encoding="utf-8").splitlines()
     found = answers((ROOT / "tests/rows/git.questions").read_bytes())
@@ -162,6 +210,7 @@ def main():
     options = argparse.ArgumentParser()
     options.add_argument("--seed", type=int, default=random.randrange(10**6))
     options.add_argument("--lists", type=int, default=2000)
+    options.add_argument("--repositories", type=int, default=80)
     options = options.parse_args()
     print(f"--seed {options.seed}")
     source, count = random.Random(options.seed), Count()
@@ -169,6 +218,9 @@ def main():
     for _ in range(options.lists // BATCH if has("git", "random ignore lists") else 0):
         trees = [grown(source, source.randint(8, 30), name, 0.6) for _ in range(BATCH)]
         compare_batch(count, [(file_of(source), sorted(tree.items())) for tree in trees])
+    for _ in range(options.repositories if has("git", "random repositories") else 0):
+        with tempfile.TemporaryDirectory() as top:
+            compare_repository(count, source, top)
     count.end()
 
 

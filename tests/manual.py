@@ -36,7 +36,7 @@ COMPLETIONS = [
     ("globs find --ignore fo", "folder"),
     ("globs find --ignore-files .i", ".ignore"),
     ("globs find -C fo", "folder"),
-    ("globs ignore -", "-- -0 -v"),
+    ("globs ignore -", "-- --git -0 -v"),
     ("globs ignore -0 fo", "folder"),
     ("globs help f", "find"),
     ("globs help find f", ""),

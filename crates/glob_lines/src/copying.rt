@@ -1,5 +1,5 @@
 //! The selected records of a reader, copied or rewritten as they come.
-ghost use Rattle.std.specs.Prelude.{◌≡◌, ◌↔◌, ◌≤◌, ◌-◌, false, length, take, drop, vec_len, IsTrue, IsErrAnd, IfOk, OnOk};
+ghost use Rattle.std.specs.Prelude.{◌≡◌, ◌↔◌, ◌≤◌, ◌-◌, Bool, List, ℕ, false, length, take, drop, vec_len, IsTrue, IsErrAnd, IfOk, OnOk};
 ghost use Rattle.std.specs.Io.KnownBytes.{IsAtEnd};
 ghost use Rattle.glob_lines.specs.LineFaults.{IsRead, IsMemory, IsWrite};
 ghost use Rattle.glob_lines.specs.Lines.{AreWhole, HasNoEnd, CopiesSelected, CopiesSomeSelected, CopiesSelectedBytes, CopiesWholeSelected};
@@ -53,7 +53,7 @@ pub fn copy_selected<A: Allocator + Copy, S: Selection, R: Read, W: Write>(
     ensures write_fault { IsErrAnd result IsWrite → CopiesSelectedBytes end (S.selects selection.now)
         (R.remaining reader.old.inner) (W.contents writer.old.inner) (W.contents writer.new.inner) }
 {
-    rewrite_selected(alloc, &Copied { selection, end }, end, reader, writer)
+    rewrite_selected(alloc, &mut Copied { selection, end }, end, reader, writer)
 }
 
 /// Writes to `writer` what `rewrite` gives for each record of `reader` that it selects, in order, and returns the
@@ -68,28 +68,34 @@ pub fn copy_selected<A: Allocator + Copy, S: Selection, R: Read, W: Write>(
 #[tactic(auto, unfolding(crate::specs::Lines::Rewrites))]
 pub fn rewrite_selected<A: Allocator + Copy, S: Rewrite, R: Read, W: Write>(
     alloc: A,
-    rewrite: &S,
+    rewrite: &mut S,
     end: u8,
     reader: &mut Watch<R>,
     writer: &mut Watch<W>,
 ) -> Result<u64, LineFault>
     requires reader { reader.old.failed ≡ false }
     requires writer { writer.old.failed ≡ false }
-    ensures records { IfOk result (Rewrites end (S.selects rewrite.now) (S.written rewrite.now)
+    ensures keeps { (selects : List ℕ → Bool) (write : List ℕ → List ℕ)
+        → S.gives rewrite.old selects write → S.gives rewrite.new selects write }
+    ensures records { (selects : List ℕ → Bool) (write : List ℕ → List ℕ)
+        → S.gives rewrite.old selects write → IfOk result (Rewrites end selects write
         (R.remaining reader.old.inner)
         (W.contents writer.old.inner) (W.contents writer.new.inner)) }
     ensures end { OnOk result (IsAtEnd (R.remaining reader.new.inner)) }
     ensures read_failed { IsTrue reader.new.failed ↔ IsErrAnd result IsRead }
     ensures write_failed { IsTrue writer.new.failed ↔ IsErrAnd result IsWrite }
-    ensures read_fault { IsErrAnd result IsRead
-        → RewritesWhole end (S.selects rewrite.now) (S.written rewrite.now)
+    ensures read_fault { (selects : List ℕ → Bool) (write : List ℕ → List ℕ)
+        → S.gives rewrite.old selects write → IsErrAnd result IsRead
+        → RewritesWhole end selects write
         (R.remaining reader.old.inner) (R.remaining reader.new.inner)
         (W.contents writer.old.inner) (W.contents writer.new.inner) }
-    ensures memory { IsErrAnd result IsMemory
-        → RewritesSome end (S.selects rewrite.now) (S.written rewrite.now)
+    ensures memory { (selects : List ℕ → Bool) (write : List ℕ → List ℕ)
+        → S.gives rewrite.old selects write → IsErrAnd result IsMemory
+        → RewritesSome end selects write
         (R.remaining reader.old.inner) (W.contents writer.old.inner) (W.contents writer.new.inner) }
-    ensures write_fault { IsErrAnd result IsWrite
-        → RewritesBytes end (S.selects rewrite.now) (S.written rewrite.now)
+    ensures write_fault { (selects : List ℕ → Bool) (write : List ℕ → List ℕ)
+        → S.gives rewrite.old selects write → IsErrAnd result IsWrite
+        → RewritesBytes end selects write
         (R.remaining reader.old.inner) (W.contents writer.old.inner) (W.contents writer.new.inner) }
 {
     let mut input = Vec::new(alloc);

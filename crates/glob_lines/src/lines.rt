@@ -1,5 +1,5 @@
 //! Copies matching records in the order in which they are read.
-ghost use Rattle.std.specs.Prelude.{◌≡◌, ◌↔◌, ◌<◌, ◌≤◌, ◌+◌, ◌∷◌, ◌++◌, false, length, take, drop, vec_len, IsTrue};
+ghost use Rattle.std.specs.Prelude.{◌≡◌, ◌↔◌, ◌<◌, ◌≤◌, ◌+◌, ◌∷◌, ◌++◌, Bool, List, ℕ, false, length, take, drop, vec_len, IsTrue};
 ghost use Rattle.std.specs.Prelude.{IsErr, IsErrAnd, IfOk, OnOk, OnErr};
 ghost use Rattle.std.specs.Io.KnownBytes.{Keeps, Appends, Consumes, IsAtEnd};
 ghost use Rattle.glob_lines.specs.LineFaults.{IsRead, IsMemory, IsWrite};
@@ -95,11 +95,11 @@ pub fn filter_records<A: Allocator + Copy, B: Allocator + Copy, R: Read, W: Writ
     let input = read_all(alloc, reader)?;
     let mut output = Vec::new(alloc);
     let matching = Matching { pattern, options };
-    let copied = Copied {
+    let mut copied = Copied {
         selection: &matching,
         end,
     };
-    write_records(&copied, end, &input, &mut output, writer)
+    write_records(&mut copied, end, &input, &mut output, writer)
 }
 
 /// Reads all bytes that are left in the reader.
@@ -155,23 +155,28 @@ pub(crate) fn read_piece<A: Allocator, R: Read>(
 /// Writes what `rewrite` gives for each record of the input that it selects, and returns the number of these records.
 /// `output` is a scratch buffer: its bytes before and after the call mean nothing.
 pub(crate) fn write_records<A: Allocator, S: Rewrite, W: Write>(
-    rewrite: &S,
+    rewrite: &mut S,
     end: u8,
     input: &[u8],
     output: &mut Vec<u8, A>,
     writer: &mut Watch<W>,
 ) -> Result<u64, LineFault>
     requires { writer.old.failed ≡ false }
-    ensures records { IfOk result (WritesEach end (S.written rewrite.now)
-        (Selected (S.selects rewrite.now)) input.now
+    ensures keeps { (selects : List ℕ → Bool) (write : List ℕ → List ℕ)
+        → S.gives rewrite.old selects write → S.gives rewrite.new selects write }
+    ensures records { (selects : List ℕ → Bool) (write : List ℕ → List ℕ)
+        → S.gives rewrite.old selects write
+        → IfOk result (WritesEach end write (Selected selects) input.now
         (W.contents writer.old.inner) (W.contents writer.new.inner)) }
     ensures failed { IsTrue writer.new.failed ↔ IsErrAnd result IsWrite }
     ensures no_read { ¬ (IsErrAnd result IsRead) }
-    ensures memory { IsErrAnd result IsMemory → WritesFrontRecords end (S.written rewrite.now)
-        (Selected (S.selects rewrite.now)) input.now
+    ensures memory { (selects : List ℕ → Bool) (write : List ℕ → List ℕ)
+        → S.gives rewrite.old selects write → IsErrAnd result IsMemory
+        → WritesFrontRecords end write (Selected selects) input.now
         (W.contents writer.old.inner) (W.contents writer.new.inner) }
-    ensures write_fault { IsErrAnd result IsWrite → WritesFrontBytes end (S.written rewrite.now)
-        (Selected (S.selects rewrite.now)) input.now
+    ensures write_fault { (selects : List ℕ → Bool) (write : List ℕ → List ℕ)
+        → S.gives rewrite.old selects write → IsErrAnd result IsWrite
+        → WritesFrontBytes end write (Selected selects) input.now
         (W.contents writer.old.inner) (W.contents writer.new.inner) }
 {
     output.clear();

@@ -6,17 +6,20 @@ use crate::selection::Selection;
 use std::alloc::{AllocError, Allocator};
 
 /// Decides from a record's bytes whether anything is written for it, and what. The same bytes always give the same
-/// result.
+/// result, although a rewrite may change, for example to keep what it has read.
+///
+/// `gives` says which records a rewrite selects, and what it writes for each. It may say so of several functions, or of
+/// none, if what the rewrite reads is not known.
 ///
 /// ```text
 /// struct Dashed;
 ///
 /// impl Rewrite for Dashed {
-///     ghost selects = { λ r bytes. true };
-///     ghost written = { λ r bytes. codes "- " ++ bytes ++ 10 ∷ [] };
+///     ghost gives = { λ r selects write.
+///         (selects ≡ λ bytes. true) × (write ≡ λ bytes. codes "- " ++ bytes ++ 10 ∷ []) };
 ///
 ///     fn rewrite<A: Allocator>(
-///         &self,
+///         &mut self,
 ///         bytes: &[u8],
 ///         output: &mut Vec<u8, A>,
 ///     ) -> Result<bool, AllocError> {
@@ -28,20 +31,22 @@ use std::alloc::{AllocError, Allocator};
 /// }
 /// ```
 pub trait Rewrite {
-    ghost selects: { Self → List ℕ → Bool };
-
-    ghost written: { Self → List ℕ → List ℕ };
+    ghost gives: { Self → (selects : List ℕ → Bool) → (write : List ℕ → List ℕ) → Type 0 };
 
     /// Appends to `output` what is written for the record `bytes`, given without its end, and returns whether anything
     /// is written. The error is a failed allocation, after which `output` may hold any bytes.
     fn rewrite<A: Allocator>(
-        &self,
+        &mut self,
         bytes: &[u8],
         output: &mut Vec<u8, A>,
     ) -> Result<bool, AllocError>
-        ensures answer { IfOk result (λ yes. yes ≡ selects self.now bytes.now) }
-        ensures bytes { IfOk result (λ yes. output.new.items
-            ≡ output.old.items ++ (if yes then written self.now bytes.now else [])) };
+        ensures keeps { (selects : List ℕ → Bool) (write : List ℕ → List ℕ)
+            → gives self.old selects write → gives self.new selects write }
+        ensures answer { (selects : List ℕ → Bool) (write : List ℕ → List ℕ)
+            → gives self.old selects write → IfOk result (λ yes. yes ≡ selects bytes.now) }
+        ensures bytes { (selects : List ℕ → Bool) (write : List ℕ → List ℕ)
+            → gives self.old selects write → IfOk result (λ yes. output.new.items
+            ≡ output.old.items ++ (if yes then write bytes.now else [])) };
 }
 
 /// The selected records as they are, each with its end.
@@ -52,12 +57,11 @@ pub struct Copied<'s, S> {
 }
 
 impl<S: Selection> Rewrite for Copied<'_, S> {
-    ghost selects = { λ c bytes. S.selects c.selection.now bytes };
-
-    ghost written = { λ c bytes. ended_record c.end bytes };
+    ghost gives = { λ c selects write.
+        (selects ≡ S.selects c.selection.now) × (write ≡ ended_record c.end) };
 
     fn rewrite<A: Allocator>(
-        &self,
+        &mut self,
         bytes: &[u8],
         output: &mut Vec<u8, A>,
     ) -> Result<bool, AllocError> {

@@ -135,10 +135,10 @@ module _ (bytes : Text) where
   pub path_no_text : (found : Text) → found ≡ path_of bytes → ¬ (IsUtf8 found) → None ≡ text_path bytes
   path_no_text found is fails = sym (cond-false (is_utf8 (path_of bytes)) _ _ (ap is_utf8 (sym is) ∙ no_text found fails))
 
-  path_is : (path : Text) → Some path ≡ text_path bytes → (is_utf8 (path_of bytes) ≡ true) × (path ≡ path_of bytes)
+  pub path_is : (path : Text) → Some path ≡ text_path bytes → (is_utf8 (path_of bytes) ≡ true) × (path ≡ path_of bytes)
   path_is path e = let (text, is) = cond_some (is_utf8 (path_of bytes)) (path_of bytes) path (sym e) in (text, sym is)
 
-  no_path : None ≡ text_path bytes → is_utf8 (path_of bytes) ≡ false
+  pub no_path : None ≡ text_path bytes → is_utf8 (path_of bytes) ≡ false
   no_path e = by (is_utf8 (path_of bytes)) (path_of bytes) e
     where
       by : (b : Bool) (found : Text) → None ≡ (if b then Some found else None) → b ≡ false

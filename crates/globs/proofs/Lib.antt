@@ -5,6 +5,7 @@ pub mod EachLemmas
 pub mod EscapeLemmas
 pub mod FilterLemmas
 pub mod FulfilLemmas
+pub mod GitLemmas
 pub mod LeadLemmas
 pub mod ListLemmas
 pub mod NamingLemmas

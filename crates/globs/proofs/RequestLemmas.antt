@@ -1,12 +1,12 @@
 -- What words ask for, once the first word is read.
-use Rattle.std.proofs.Common.{◌≡◌, ℕ, ◌-◌, ◌≤◌, ◌≢◌, ◌||◌, false, List, [], ◌∷◌, Some, None, Ok, length, get_or, take}
+use Rattle.std.proofs.Common.{◌≡◌, ℕ, ◌-◌, ◌<◌, ◌≤◌, ◌≢◌, ◌||◌, false, List, [], ◌∷◌, Some, None, Ok, length, get_or, take}
 use Rattle.std.proofs.Common.{drop, map, refl, sym, subst, ap, Bor, arith}
 use Rattle.std.proofs.lemmas.List.{take_rest}
 use Rattle.std.proofs.lemmas.Bool.{false_from_ne_true}
 use Rattle.std.proofs.lemmas.Slice.Eq.{bytes_eq-Decides}
 use Rattle.std.specs.Prelude.{bytes_eq, codes}
 use Rattle.globs.specs.Chosen.{Chosen}
-use Rattle.globs.specs.CommandLine.{command_asked, is_help, name_of, reading, request_asked, request_of_reading}
+use Rattle.globs.specs.CommandLine.{command_asked, is_help, name_of, operands_asked, reading, request_asked, request_of_reading}
 use Rattle.globs.specs.Reading.{Reading}
 use Rattle.globs.specs.Requests.{IsWrong, IsWrongRequest}
 use Rattle.globs.specs.Options.{new_options, value_taken, valued_of}
@@ -70,6 +70,12 @@ module _ (name : Name) (o : Chosen) where
       reading name o (map (λ w. w.now) (word ∷ next ∷ third ∷ words)) ≡ reading name taken (map (λ w. w.now) (behind l)))
       (sym rest) (λ value. rw (take_rest (next ∷ third ∷ words) 1)
       (rw (reading, page) (rw (reading, valued) (rw (reading, value) refl)))) value
+
+  -- after the last option, the operands follow, if there are any
+  pub reading_none : (words : List (Bor (List ℕ))) → length words < 1
+      → reading name o (map (λ w. w.now) words) ≡ operands_asked name o (map (λ w. w.now) words)
+  reading_none [] none = refl
+  reading_none (word ∷ words) none = absurd (omega (arith, none))
 
 other : (word literal : List ℕ) → word ≢ literal → bytes_eq word literal ≡ false
 other word literal apart = false_from_ne_true (bytes_eq word literal) (λ same. apart ((bytes_eq-Decides word literal).0 same))

@@ -4,11 +4,12 @@ use Rattle.std.specs.Prelude.{if◌then◌else◌, codes, bytes_eq, option_map, 
 use Rattle.glob_text.specs.Text.{Text}
 use Rattle.glob_console.specs.Words.{is_option}
 use Rattle.globs.specs.Chosen.{Chosen}
-use Rattle.globs.specs.Options.{new_options, new_settings, value_taken, valued_of}
+use Rattle.globs.specs.Options.{is_ignore, new_options, new_settings, value_taken, valued_of}
 use Rattle.globs.specs.Reading.{Reading, Asks, Page, Wrong, Request, Runs, Helps, VersionLine, Refused}
 use Rattle.globs.specs.Spelling.{attached, with_flags}
 use Rattle.globs.specs.declared.name.Name.{Name}
 use Rattle.globs.specs.declared.name.Name.TheVariants.{Find, Match, Ignore, Explain, Escape}
+use Rattle.globs.specs.declared.options.Settings.{Settings}
 use Rattle.globs.specs.declared.usage.Why.{Why}
 use Rattle.globs.specs.declared.usage.Why.TheVariants as why
 
@@ -52,11 +53,15 @@ late_why name word =
     || (is_some (attached name word) || is_some (with_flags name word (new_settings name)))))
     then why.Late else why.Unknown
 
+-- the command needs an operand; with git's rules `ignore` does not
+abbrev pub needs_operand : Name → Settings → Bool
+needs_operand name s = not (is_ignore name && s.is_git)
+
 -- the operands, which all come after the options; after `--` they may begin with a hyphen
 abbrev pub operands_asked : Name → Chosen → List Text → Reading
-operands_asked name o [] = Wrong why.Bare []
+operands_asked name o [] = if needs_operand name o.settings then Wrong why.Bare [] else Asks o []
 operands_asked name o (word ∷ []) =
-    if bytes_eq word (codes "--") then Wrong why.Bare []
+    if bytes_eq word (codes "--") then operands_asked name o []
     else (if is_option word then Wrong why.Unknown word else Asks o (word ∷ []))
 operands_asked name o (word ∷ next ∷ words) =
     if bytes_eq word (codes "--") then Asks o (next ∷ words)
@@ -72,13 +77,16 @@ is_last (word ∷ words) = false
 -- The remaining words of a command, after the options in `o`. An option with a value takes the word after it, unless
 -- its own word has one. Words after one that asks for help are ignored.
 abbrev pub reading : Name → Chosen → List Text → Reading
-reading name o [] = Wrong why.Bare []
+reading name o [] = operands_asked name o []
 reading name o (word ∷ []) =
     if is_help word then Page
     else (if is_some (valued_of name word) then Wrong why.Valueless word
     else elim (attached name word) [
-      | Some it ↦ elim (value_taken it.0 it.1 o) [ Ok taken ↦ Wrong why.Bare [] | Err w ↦ Wrong w it.1 ]
-      | None ↦ if is_some (with_flags name word o.settings) then Wrong why.Bare [] else operands_asked name o (word ∷ [])
+      | Some it ↦ elim (value_taken it.0 it.1 o) [ Ok taken ↦ reading name taken [] | Err w ↦ Wrong w it.1 ]
+      | None ↦ elim (with_flags name word o.settings) [
+        | Some settings ↦ reading name (record o { settings = settings }) []
+        | None ↦ operands_asked name o (word ∷ [])
+      ]
     ])
 reading name o (word ∷ next ∷ words) =
     if is_help word then Page

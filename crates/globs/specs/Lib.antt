@@ -1,3 +1,4 @@
+pub mod ByGit
 pub mod Chosen
 pub mod CommandLine
 pub mod Copying
@@ -6,8 +7,10 @@ pub mod Explain
 pub mod Faults
 pub mod Find
 pub mod Foreign
+pub mod GitNaming
 pub mod Help
 pub mod Ignoring
+pub mod IgnoringPaths
 pub mod Matching
 pub mod Naming
 pub mod Options

@@ -100,9 +100,9 @@ NamesRules contents holds end names input old new status =
     × NamesList end (files_of names texts) (rules_of (with_ends line_feed texts)) input
     (contents old) (contents new) status)
 
--- what `globs ignore` does: it names rules if the settings ask for that, and copies paths if they do not
-unfoldable pub IgnoresPaths : {W : Type 0} → (contents : W → Option (List ℕ)) → (holds : Text → Option Text) → Settings
+-- without `--git`, `ignore` names rules if the settings ask for that, and copies paths if they do not
+unfoldable pub IgnoresByFiles : {W : Type 0} → (contents : W → Option (List ℕ)) → (holds : Text → Option Text) → Settings
     → (names : List Text) → Input → (old new : W) → (status : ℕ) → Type 0
-IgnoresPaths contents holds settings names input old new status =
+IgnoresByFiles contents holds settings names input old new status =
     (settings.names_rules ≡ true → NamesRules contents holds settings.end names input old new status)
     × (settings.names_rules ≡ false → CopiesUnignored contents holds settings.end names input old new status)

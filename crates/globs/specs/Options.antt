@@ -92,6 +92,14 @@ is_ignore Ignore = true
 is_ignore Explain = false
 is_ignore Escape = false
 
+-- the command can read the ignore files of git
+abbrev pub has_git : Name → Bool
+has_git Find = true
+has_git Match = false
+has_git Ignore = true
+has_git Explain = false
+has_git Escape = false
+
 -- the settings with a flag set, if the word is a flag of the command: an option without a value
 abbrev pub with_flag : Name → Text → Settings → Option Settings
 with_flag name word s =
@@ -99,7 +107,7 @@ with_flag name word s =
     else (if bytes_eq word (codes "-v") && is_match name then Some (record s { inverts = true })
     else (if bytes_eq word (codes "-v") && is_ignore name then Some (record s { names_rules = true })
     else (if bytes_eq word (codes "-L") && is_find name then Some (record s { follows = true })
-    else (if bytes_eq word (codes "--git") && is_find name then Some (record s { is_git = true })
+    else (if bytes_eq word (codes "--git") && has_git name then Some (record s { is_git = true })
     else (if bytes_eq word (codes "--utf8-only") && is_find name then Some (record s { is_utf8_only = true })
     else (if bytes_eq word (codes "-s") && is_find name then None
     else (if has_pattern name then option_map (λ o. record s { options = o }) (option_set word s.options) else None)))))))

@@ -1,5 +1,5 @@
 -- The outcome of a run: its status, and what its output gained.
-use Rattle.std.specs.Prelude.{ℕ, Bool, List, Option}
+use Rattle.std.specs.Prelude.{ℕ, Bool, List, [], Option}
 use Rattle.glob_console.specs.Outcomes.{IsRefused, WritesText}
 use Rattle.glob_text.specs.Text.{Text}
 use Rattle.glob_tree.specs.Content.{Content, Key}
@@ -9,7 +9,7 @@ use Rattle.globs.specs.Explain.Outcomes.{Answers}
 use Rattle.globs.specs.Find.Outcomes.{FindsUnignored}
 use Rattle.globs.specs.Help.{page_of}
 use Rattle.globs.specs.Matching.{CopiesMatches}
-use Rattle.globs.specs.Naming.{IgnoresPaths}
+use Rattle.globs.specs.IgnoringPaths.{IgnoresPaths}
 use Rattle.globs.specs.Reading.{Request, Runs, Helps, VersionLine, Refused}
 use Rattle.globs.specs.declared.find.kinds.PathKind.{PathKind}
 use Rattle.globs.specs.declared.help.TheConstants.{VERSION}
@@ -41,7 +41,8 @@ Fulfils contents world (Runs Find o operands) old new status =
 Fulfils contents world (Runs Match o operands) old new status =
     CopiesMatches contents o.settings operands world.input old new status
 Fulfils contents world (Runs Ignore o operands) old new status =
-    IgnoresPaths contents world.holds o.settings operands world.input old new status
+    IgnoresPaths contents (record { texts = world.texts []; above = world.above [] }) world.holds o.settings operands
+    world.input old new status
 Fulfils contents world (Runs Explain o operands) old new status =
     IsUnread world.input × Answers contents o.settings.options operands old new status
 Fulfils contents world (Runs Escape o operands) old new status =

@@ -2,7 +2,7 @@
 ghost use Rattle.std.specs.Prelude.{◌≡◌, IfOk, IfErr, map, option_map, Option, None};
 ghost use Rattle.globs.specs.Options.{new_options};
 ghost use Rattle.globs.specs.CommandLine.{command_asked, extra_word, first_option, help_asked, is_help, late_why};
-ghost use Rattle.globs.specs.CommandLine.{operands_asked, page_named, reading, request_asked};
+ghost use Rattle.globs.specs.CommandLine.{needs_operand, operands_asked, page_named, reading, request_asked};
 ghost use Rattle.globs.specs.Chosen.{Chosen};
 ghost use Rattle.globs.specs.Reading.{Asks};
 ghost use Rattle.globs.specs.Requests.{IsWrong, IsWrongRequest, asked_reading, request_of};
@@ -24,7 +24,7 @@ pub enum Command<'a, A: Allocator> {
     Version,
 }
 
-/// The options of a command and its operands, at least one.
+/// The options of a command and its operands: at least one, except for `ignore --git`.
 #[derive(Drop)]
 pub struct Asked<'a, A: Allocator> {
     pub options: Options<'a, A>,
@@ -144,7 +144,7 @@ impl<'a, A: Allocator + Copy> Asked<'a, A> {
                 return Self::with_operands(options, name, rest);
             };
         }
-        Err(UsageFault::Word(Why::Bare, ""))
+        Self::with_operands(options, name, rest)
     }
 
     /// Parses the operands after these options.
@@ -159,24 +159,39 @@ impl<'a, A: Allocator + Copy> Asked<'a, A> {
         ensures wrong { IfErr result
             (IsWrong (operands_asked name options.entry (map (λ w. w.now) words.now))) }
     {
-        let operands = operands_of(name, words)?;
+        let is_needed = needs_operand(name, options.settings);
+        let operands = operands_of(name, is_needed, words)?;
         Ok(Some(Asked { options, operands }))
     }
 }
 
+/// Whether the command needs an operand. With git's rules `ignore` does not.
+fn needs_operand(name: Name, settings: Settings) -> bool
+    ensures { result ≡ needs_operand name settings }
+{
+    !(matches!(name, Name::Ignore) && settings.is_git)
+}
+
 /// The operands after the options. Operands that begin with `-` are accepted only after `--`.
-fn operands_of<'a>(name: Name, words: &'a [&'a str]) -> Result<&'a [&'a str], UsageFault<'a>>
+fn operands_of<'a>(
+    name: Name,
+    is_needed: bool,
+    words: &'a [&'a str],
+) -> Result<&'a [&'a str], UsageFault<'a>>
     ensures operands { IfOk result (λ operands. (o : Chosen)
+        → needs_operand name o.settings ≡ is_needed
         → operands_asked name o (map (λ w. w.now) words.now)
         ≡ Asks o (map (λ w. w.now) operands.now)) }
     ensures wrong { IfErr result (λ fault. (o : Chosen)
+        → needs_operand name o.settings ≡ is_needed
         → IsWrong (operands_asked name o (map (λ w. w.now) words.now)) fault) }
 {
     match words {
-        [] => Err(UsageFault::Word(Why::Bare, "")),
+        [] if is_needed => Err(UsageFault::Word(Why::Bare, "")),
+        [] => Ok(words),
         [dashes, operands @ ..] if *dashes == "--" => match operands {
-            [] => Err(UsageFault::Word(Why::Bare, "")),
-            [_, ..] => Ok(operands),
+            [] if is_needed => Err(UsageFault::Word(Why::Bare, "")),
+            _ => Ok(operands),
         },
         [word, ..] if word.starts_with('-') => Err(UsageFault::Word(Why::Unknown, word)),
         [_, others @ ..] => {

@@ -1,5 +1,5 @@
 //! Copies records of the input, or writes something for each.
-ghost use Rattle.std.specs.Prelude.{◌≡◌, ◌≤◌, false, IfOk, IsErr, IsTrue, OnErr, OnOk};
+ghost use Rattle.std.specs.Prelude.{◌≡◌, ◌≤◌, Bool, List, ℕ, false, IfOk, IsErr, IsTrue, OnErr, OnOk};
 ghost use Rattle.std.specs.Io.KnownBytes.{IsAtEnd};
 ghost use Rattle.glob_lines.specs.Lines.{Rewrites, RewritesBytes, RewritesWhole};
 ghost use Rattle.globs.specs.Copying.{Copies, WritesSelected, input_of};
@@ -26,8 +26,8 @@ pub fn copy<A: Allocator + Copy, S: Selection, R: Read, W: Write, E: Write>(
     ensures copied { Copies end (S.selects selection.now) (input_of R.remaining input.old input.new)
         (W.contents output.old) (W.contents output.new) result }
 {
-    let copied = Copied { selection, end };
-    write_selected(alloc, &copied, end, input, output, errors)
+    let mut copied = Copied { selection, end };
+    write_selected(alloc, &mut copied, end, input, output, errors)
 }
 
 /// Writes what `rewrite` gives for each record of the input that it selects, and returns the status, as [`copy`] does.
@@ -35,7 +35,7 @@ pub fn copy<A: Allocator + Copy, S: Selection, R: Read, W: Write, E: Write>(
 #[tactic(auto, unfolding(crate::specs::Copying::WritesSelected))]
 pub fn write_selected<A: Allocator + Copy, S: Rewrite, R: Read, W: Write, E: Write>(
     alloc: A,
-    rewrite: &S,
+    rewrite: &mut S,
     end: u8,
     input: &mut Watch<R>,
     output: &mut W,
@@ -43,7 +43,8 @@ pub fn write_selected<A: Allocator + Copy, S: Rewrite, R: Read, W: Write, E: Wri
 ) -> u8
     requires { input.old.failed ≡ false }
     ensures most { result ≤ 2 }
-    ensures written { WritesSelected end (S.selects rewrite.now) (S.written rewrite.now)
+    ensures written { (selects : List ℕ → Bool) (write : List ℕ → List ℕ)
+        → S.gives rewrite.old selects write → WritesSelected end selects write
         (input_of R.remaining input.old input.new)
         (W.contents output.old) (W.contents output.new) result }
 {
@@ -59,20 +60,23 @@ pub fn write_selected<A: Allocator + Copy, S: Rewrite, R: Read, W: Write, E: Wri
 /// first bytes of the output were written.
 fn write_input<A: Allocator + Copy, S: Rewrite, R: Read, W: Write>(
     alloc: A,
-    rewrite: &S,
+    rewrite: &mut S,
     end: u8,
     input: &mut Watch<R>,
     output: &mut W,
 ) -> Result<u64, LineFault>
     requires { input.old.failed ≡ false }
-    ensures records { IfOk result (Rewrites end (S.selects rewrite.now) (S.written rewrite.now)
+    ensures records { (selects : List ℕ → Bool) (write : List ℕ → List ℕ)
+        → S.gives rewrite.old selects write → IfOk result (Rewrites end selects write
         (R.remaining input.old.inner) (W.contents output.old) (W.contents output.new)) }
     ensures end { OnOk result (IsAtEnd (R.remaining input.new.inner)) }
-    ensures some { OnErr result (RewritesBytes end (S.selects rewrite.now) (S.written rewrite.now)
+    ensures some { (selects : List ℕ → Bool) (write : List ℕ → List ℕ)
+        → S.gives rewrite.old selects write → OnErr result (RewritesBytes end selects write
         (R.remaining input.old.inner) (W.contents output.old) (W.contents output.new)) }
     ensures failed { IsTrue input.new.failed → IsErr result }
-    ensures whole { IsTrue input.new.failed
-        → RewritesWhole end (S.selects rewrite.now) (S.written rewrite.now)
+    ensures whole { (selects : List ℕ → Bool) (write : List ℕ → List ℕ)
+        → S.gives rewrite.old selects write → IsTrue input.new.failed
+        → RewritesWhole end selects write
         (R.remaining input.old.inner) (R.remaining input.new.inner)
         (W.contents output.old) (W.contents output.new) }
 {

@@ -172,13 +172,19 @@ const IGNORE: &str = "\
 globs ignore: the paths of standard input that ignore files do not ignore
 
   globs ignore [OPTION].. FILE..
+  globs ignore --git [OPTION].. [FILE]..
 
-  -0  records end in a NUL instead of a line feed, in the input and in the output: for names with
-      line feeds, as from git ls-files -z, and for xargs -0
-  -v  write the rule that decides about each path, and the path: FILE:LINE:RULE, a tab and PATH, as
-      git check-ignore -v does, or with -0 FILE, LINE, RULE and PATH, each with a NUL. LINE counts
-      from 1 in FILE. A rule with a ! decides, too. Paths that no rule names are not written
-  --  end of options: a FILE after it may begin with -
+  -0     records end in a NUL instead of a line feed, in the input and in the output: for names with
+         line feeds, as from git ls-files -z, and for xargs -0
+  -v     write the rule that decides about each path, and the path: FILE:LINE:RULE, a tab and PATH,
+         as git check-ignore -v does, or with -0 FILE, LINE, RULE and PATH, each with a NUL. LINE
+         counts from 1 in FILE. A rule with a ! decides, too. Paths that no rule names are not
+         written
+  --git  ignore what git does in the current directory: by the .gitignore of each directory on the
+         way to a path, also of those above, up to the top of the repository; by .git/info/exclude
+         of the top after all others; and .git itself, for which -v writes --git:1:.git. Rules of
+         a FILE override these. Tracked files are ignored, too
+  --     end of options: a FILE after it may begin with -
 
 FILE has rules as in gitignore(5), one a line, for the paths below one directory. If several rules
 name a path, the last one decides, across files, too. A wildcard matches a character where git
@@ -188,8 +194,13 @@ takes a byte, and case counts. A line is refused if a bracket has an unknown cla
 A path is the names from that directory on, with a / between them, as git ls-files -z writes them.
 A / at its end marks a directory. A ./ at its start is skipped; . and the empty path are copied.
 Other paths are matched as they are written: the rule a/b does not ignore a//b. A path that is not
-UTF-8 is left out, and a line on standard error says how many were. On the disk, only the files are
-read.
+UTF-8 is left out, and a line on standard error says how many were. On the disk, only files of
+rules are read.
+
+With --git, paths begin in the current directory, and one with an empty name or .. is copied. If a
+rule ignores that directory, it ignores . and all paths in it, and a line names the file of the
+rule. If a file of git cannot be read, or a line of it is refused, a line says so, and all other
+rules count. Paths in the order of find are fastest, since those of one directory come together.
 
 A path is written before more input is read. A line feed ends a line; the last line may lack it. A
 carriage return belongs to its line.
@@ -203,8 +214,8 @@ Hints on standard error do not change the status. There are hints about
 Status:
   0         a path was copied or, with -v, written
   1         no path was copied or written
-  2         a fault, such as a refused line of FILE, which is reported with its number, or a path
-            that is not UTF-8
+  2         a fault, such as a refused line of FILE, which is reported with its number, a path that
+            is not UTF-8, or with --git a file of rules that could not be read or has a refused line
 ";
 
 /// The page of `explain`.

@@ -1,9 +1,13 @@
 //! `globs ignore`: copies the paths of the input that the rules of ignore files do not ignore.
-ghost use Rattle.std.specs.Prelude.{◌≡◌, ◌≤◌, false, map};
+ghost use Rattle.std.specs.Prelude.{◌≡◌, ◌≤◌, [], false, map};
 ghost use Rattle.globs.specs.Copying.{input_of};
-ghost use Rattle.globs.specs.Naming.{IgnoresPaths};
+ghost use Rattle.globs.specs.IgnoringPaths.{IgnoresPaths};
+ghost use Rattle.globs.specs.Naming.{IgnoresByFiles};
 ghost use Rattle.globs.specs.Unignored.{CopiesList, CopiesUnignored};
 
+mod around;
+mod git;
+mod git_naming;
 mod naming;
 mod operands;
 mod paths;
@@ -12,8 +16,10 @@ mod unignored;
 
 use crate::copying::copy;
 use crate::files::IgnoreFiles;
+use crate::find::places::Places;
 use crate::ignoring::read_rules;
 use crate::options::Settings;
+use git::run_by_git;
 use glob_console::ErrorLines;
 use glob_lines::Watch;
 use glob_rules::IgnoreList;
@@ -25,8 +31,39 @@ use std::io::{Read, Write};
 use unignored::Unignored;
 
 /// Copies the paths of the input that the rules of the files do not ignore, or names the rule that decides about each
-/// path, as the settings say. Returns the status.
-pub fn run_ignore<A: Allocator + Copy, F: IgnoreFiles, R: Read, W: Write, E: Write>(
+/// path, as the settings say; with `--git`, the rules of git count, too. Returns the status.
+pub fn run_ignore<P, F, R, W, E>(
+    alloc: P::Alloc,
+    places: &P,
+    files: &F,
+    settings: Settings,
+    names: &[&str],
+    input: &mut Watch<R>,
+    output: &mut W,
+    errors: &mut ErrorLines<'_, P::Alloc, E>,
+) -> u8
+where
+    P: Places,
+    F: IgnoreFiles,
+    R: Read,
+    W: Write,
+    E: Write,
+    requires { input.old.failed ≡ false }
+    ensures most { result ≤ 2 }
+    ensures ignored { IgnoresPaths W.contents
+        (record { texts = P.texts places.now []; above = P.above places.now [] })
+        (F.holds files.now) settings (map (λ w. w.now) names.now)
+        (input_of R.remaining input.old input.new) output.old output.new result }
+{
+    if settings.is_git {
+        run_by_git(alloc, places, files, settings, names, input, output, errors)
+    } else {
+        run_by_files(alloc, files, settings, names, input, output, errors)
+    }
+}
+
+/// The same, without the rules of git.
+fn run_by_files<A: Allocator + Copy, F: IgnoreFiles, R: Read, W: Write, E: Write>(
     alloc: A,
     files: &F,
     settings: Settings,
@@ -37,7 +74,8 @@ pub fn run_ignore<A: Allocator + Copy, F: IgnoreFiles, R: Read, W: Write, E: Wri
 ) -> u8
     requires { input.old.failed ≡ false }
     ensures most { result ≤ 2 }
-    ensures ignored { IgnoresPaths W.contents (F.holds files.now) settings (map (λ w. w.now) names.now)
+    ensures ignored { IgnoresByFiles W.contents (F.holds files.now) settings
+        (map (λ w. w.now) names.now)
         (input_of R.remaining input.old input.new) output.old output.new result }
 {
     if settings.names_rules {

@@ -20,6 +20,7 @@ mod files;
 mod find;
 mod foreign;
 mod forms;
+mod git;
 mod gone;
 mod help;
 mod ignore;
@@ -180,7 +181,11 @@ where
     match name {
         Name::Find => find_asked(alloc, places, files, asked, output, errors),
         Name::Match => match_words(alloc, settings, operands, input, output, errors),
-        Name::Ignore => run_ignore(alloc, files, settings, operands, input, output, errors),
+        Name::Ignore => {
+            run_ignore(
+                alloc, places, files, settings, operands, input, output, errors,
+            )
+        }
         Name::Explain => run_explain(alloc, settings.options, operands, output, errors),
         Name::Escape => run_escape(alloc, settings.end, operands, output, errors),
     }

@@ -171,7 +171,7 @@ impl Settings {
             ("-v", Name::Match) => settings.inverts = true,
             ("-v", Name::Ignore) => settings.names_rules = true,
             ("-L", Name::Find) => settings.follows = true,
-            ("--git", Name::Find) => settings.is_git = true,
+            ("--git", Name::Find | Name::Ignore) => settings.is_git = true,
             ("--utf8-only", Name::Find) => settings.is_utf8_only = true,
             ("-s", Name::Find) => return None,
             (_, Name::Find | Name::Match | Name::Explain)

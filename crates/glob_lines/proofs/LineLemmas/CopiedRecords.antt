@@ -1,14 +1,13 @@
 -- The records of an input copied as they come: what was read, and what was written.
-use Rattle.std.proofs.Common.{◌≡◌, ℕ, ◌+◌, ◌-◌, ◌^◌, inl, min, List, [], ◌++◌, Option, None, Some, length, take, drop}
+use Rattle.std.proofs.Common.{◌≡◌, ℕ, ◌+◌, ◌-◌, ◌^◌, min, List, [], ◌++◌, Option, None, Some, length, take, drop}
 use Rattle.std.proofs.Common.{refl, sym, ap, ◌∙◌, subst, append-nil, append_assoc, take-append-drop, length-append}
 use Rattle.std.proofs.Common.{arith}
 use Rattle.std.specs.List.{flat_map}
-use Rattle.std.specs.Prelude.{IfSome, ◌⊎◌, ◌≢◌}
+use Rattle.std.specs.Prelude.{IfSome, ◌⊎◌}
 use lib.Seq.{take-add, take-append_seam}
 use Rattle.std.specs.Io.KnownBytes.{Appends, Consumes, IsAtEnd, Keeps}
-use Rattle.std.proofs.KnownBytes.{Appends-nil, Appends-trans, Consumes-nil, Consumes-trans, Consumes-kept}
+use Rattle.std.proofs.KnownBytes.{Appends-trans, Consumes-trans, Consumes-kept}
 use Rattle.std.proofs.lemmas.List.Concat.{flat_map-append}
-use Rattle.std.proofs.lemmas.List.Elements.{All-nil}
 use Rattle.glob_lines.specs.Lines.{records_of, AreKept, AreWhole, HasNoEnd, WritesEach}
 use Rattle.glob_lines.specs.Lines.{WritesSomeOf, WritesBytesOf}
 use Rattle.glob_lines.specs.Private.Fronts.{WritesFrontRecords, WritesFrontBytes}

@@ -6,8 +6,7 @@ use Rattle.std.specs.Str.{is_utf8}
 use Rattle.std.specs.Io.KnownBytes.{Appends}
 use Rattle.std.proofs.lemmas.Bool.{false≢true}
 use Rattle.glob_pattern.specs.Computing.Deciding.{is_match}
-use Rattle.glob_lines.specs.Lines.{RecordMatches, record_matches, Selected, AreKept, records_of, WritesSomeKept, WritesKeptBytes}
-use Rattle.glob_lines.specs.Private.Fronts.{WritesFrontRecords, WritesFrontBytes}
+use Rattle.glob_lines.specs.Lines.{RecordMatches, record_matches, Selected, AreKept, records_of, WritesSomeKept}
 use Rattle.glob_pattern.specs.declared.options.MatchOptions.{MatchOptions}
 use Rattle.glob_pattern.proofs.MatchingLemmas.Computed.{match_decided}
 use Rattle.glob_lines.proofs.LineLemmas.KeptLines.{AreKept-exists}

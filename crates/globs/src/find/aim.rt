@@ -3,19 +3,17 @@ ghost use Rattle.std.specs.Prelude.{◌≡◌, ◌&&◌, ◌++◌, Option, Some,
 ghost use Rattle.glob_search.specs.Aims.{outer_of};
 ghost use Rattle.glob_text.specs.Text.{Text};
 ghost use Rattle.globs.specs.Find.Above.{is_start_ignored};
-ghost use Rattle.globs.specs.Find.Aiming.{IgnoresByList, IsAsked, depth_at, depth_of, first_lists, git_lists, git_names, heeds, is_ruled, last_lists, rule_files, wanted_of};
+ghost use Rattle.globs.specs.Find.Aiming.{IgnoresByList, IsAsked, depth_at, depth_of, heeds, is_ruled, last_lists, rule_files, wanted_of};
 
-use crate::above::{Above, GITIGNORE, rules_above};
+use crate::above::{Above, rules_above};
 use crate::find::kinds::sifts;
+use crate::git::{first_lists, git_names};
 use crate::options::{Kinds, Options};
 use glob_console::ErrorLines;
 use glob_rules::IgnoreList;
 use glob_search::{RuleTexts, Settings, Wanted};
 use std::alloc::{AllocError, Allocator};
 use std::io::Write;
-
-/// The rule that ignores git's own directory.
-const GIT: &str = ".git";
 
 /// The settings of a search for these options. `list` has the rules of the command line, and `last` the rules that
 /// ignore files override, which may ignore the start.
@@ -90,40 +88,11 @@ fn rule_files<A: Allocator + Copy>(
     Ok(names)
 }
 
-/// The lists that override ignore files. The list of the command line is asked first; it is left out if it has no
-/// rules, so that it does not cause any lookup of kinds.
-fn first_lists<A: Allocator + Copy>(
-    alloc: A,
-    is_git: bool,
-    is_ruled: bool,
-    list: IgnoreList<A>,
-) -> Result<Vec<IgnoreList<A>, A>, AllocError>
-    ensures { IfOk result (λ lists. lists.items ≡ first_lists is_git is_ruled list) }
-{
-    let mut lists = git_lists(alloc, is_git)?;
-    if !is_ruled {
-        return Ok(lists);
-    }
-    lists.push(list)?;
-    Ok(lists)
-}
-
 /// Whether there are rules on the command line.
 fn is_ruled<A: Allocator>(options: &Options<'_, A>) -> bool
     ensures { result ≡ is_ruled options.now }
 {
     !options.files.is_empty() || !options.rules.is_empty()
-}
-
-/// The name of git's ignore files, with `--git`.
-fn git_names<A: Allocator + Copy>(alloc: A, is_git: bool) -> Result<Vec<String<A>, A>, AllocError>
-    ensures { IfOk result (λ names. map string_bytes names.items ≡ git_names is_git) }
-{
-    let mut names = Vec::new(alloc);
-    if is_git {
-        names.push(String::from_str(alloc, GITIGNORE)?)?;
-    }
-    Ok(names)
 }
 
 /// Adds names.
@@ -140,23 +109,6 @@ fn add_names<A: Allocator + Copy>(
         names.push(name)?;
     }
     Ok(())
-}
-
-/// The lists that override all others. With `--git`, they ignore each `.git`.
-fn git_lists<A: Allocator + Copy>(
-    alloc: A,
-    is_git: bool,
-) -> Result<Vec<IgnoreList<A>, A>, AllocError>
-    ensures { IfOk result (λ lists. lists.items ≡ git_lists is_git) }
-{
-    let mut lists = Vec::new(alloc);
-    if is_git {
-        let Ok(list) = IgnoreList::new(alloc, GIT) else {
-            return Err(AllocError);
-        };
-        lists.push(list)?;
-    }
-    Ok(lists)
 }
 
 /// The rules that ignore files override: with `--git`, the rules of the start's repository; `place` has the names from

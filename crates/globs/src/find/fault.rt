@@ -1,5 +1,5 @@
 //! Why a search failed, and the lines about what it could not do.
-ghost use Rattle.std.specs.Prelude.{◌≡◌};
+ghost use Rattle.std.specs.Prelude.{◌≡◌, ◌⊎◌, ◌++◌, string_bytes};
 ghost use Rattle.globs.specs.Find.Writing.{is_end};
 
 use crate::find::strays::UnsettledLine;
@@ -94,7 +94,10 @@ pub fn report_search<A: Allocator + Copy, E: Write>(
 }
 
 /// A path after a lead. If memory runs out, it is only the path.
-pub fn with_lead<A: Allocator + Copy>(alloc: A, lead: &str, path: String<A>) -> String<A> {
+pub fn with_lead<A: Allocator + Copy>(alloc: A, lead: &str, path: String<A>) -> String<A>
+    ensures { (string_bytes result ≡ lead.now ++ string_bytes path)
+        ⊎ (string_bytes result ≡ string_bytes path) }
+{
     match format!(in alloc; "{lead}{path}") {
         Ok(led) => led,
         Err(_) => path,

@@ -1,5 +1,5 @@
 //! Where searches begin.
-ghost use Rattle.std.specs.Prelude.{◌≡◌, Bool, List, ℕ, Option, Some, IfOk, map, string_bytes};
+ghost use Rattle.std.specs.Prelude.{◌≡◌, [], Bool, List, ℕ, Option, Some, IfOk, map, string_bytes};
 ghost use Rattle.glob_tree.specs.Content.{Content};
 
 use crate::find::kinds::{PathKind, PathKinds};
@@ -24,6 +24,21 @@ pub struct Place<'p, 'l, 'r> {
     pub is_utf8_only: bool,
     /// The rules of the command line. What they ignore is not reported.
     pub rules: &'r str,
+}
+
+impl Place<'static, 'static, 'static> {
+    /// The current directory, from which paths have no lead.
+    pub fn here() -> Self
+        ensures { result.path.now ≡ [] }
+    {
+        Place {
+            path: "",
+            lead: "",
+            follows: false,
+            is_utf8_only: false,
+            rules: "",
+        }
+    }
 }
 
 /// Something that a search can begin in: a disk.

@@ -72,14 +72,14 @@ fn write_named<A: Allocator + Copy, R: Read, W: Write, E: Write>(
     ensures named { NamesList end files.now list.now (input_of R.remaining input.old input.new)
         (W.contents output.old) (W.contents output.new) result }
 {
-    let naming = Naming {
+    let mut naming = Naming {
         alloc,
         list,
         files,
         end,
         paths: Paths::new(),
     };
-    let status = write_selected(alloc, &naming, end, input, output, errors);
+    let status = write_selected(alloc, &mut naming, end, input, output, errors);
     naming.paths.report(status, names, errors)
 }
 
@@ -107,12 +107,11 @@ impl<A: Allocator + Copy> Naming<'_, '_, '_, A> {
 }
 
 impl<A: Allocator + Copy> Rewrite for Naming<'_, '_, '_, A> {
-    ghost selects = { λ n bytes. is_decided n.list.now bytes };
-
-    ghost written = { λ n bytes. named_of n.end n.files.now n.list.now bytes };
+    ghost gives = { λ n selects write. (selects ≡ is_decided n.list.now)
+        × (write ≡ named_of n.end n.files.now n.list.now) };
 
     fn rewrite<B: Allocator>(
-        &self,
+        &mut self,
         bytes: &[u8],
         output: &mut Vec<u8, B>,
     ) -> Result<bool, AllocError> {
@@ -128,7 +127,7 @@ impl<A: Allocator + Copy> Rewrite for Naming<'_, '_, '_, A> {
 }
 
 /// Appends the record for a path: the place of a rule, and the path.
-fn append_record<A: Allocator + Copy, B: Allocator>(
+pub fn append_record<A: Allocator + Copy, B: Allocator>(
     alloc: A,
     end: u8,
     place: &Place<'_, '_>,

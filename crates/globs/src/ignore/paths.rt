@@ -1,11 +1,16 @@
 //! The paths in the records of the input.
 ghost use Rattle.std.specs.Prelude.{◌≡◌, ◌≤◌, ◌⊎◌, ◌++◌, Some, codes, decimal, option_map};
+ghost use Rattle.std.specs.List.{list_all};
+ghost use Rattle.glob_text.specs.Pieces.{pieces};
+ghost use Rattle.glob_tree.specs.Paths.{is_proper};
+ghost use Rattle.globs.specs.ByGit.{is_within};
 ghost use Rattle.globs.specs.Unignored.{has_slash, is_directory, is_here, path_of, text_path, without_here};
 ghost use Rattle.glob_text.specs.Text.{has};
 
 use crate::ignore::operands::note_operands;
 use crate::input::FirstRecord;
 use glob_console::{ErrorLines, UNFOUND};
+use glob_tree::is_proper;
 use std::alloc::Allocator;
 use std::cell::Cell;
 use std::fmt::{self, Display};
@@ -88,6 +93,20 @@ pub fn is_here(path: &str) -> bool
     ensures { result ≡ is_here path.now }
 {
     path.is_empty() || path == "."
+}
+
+/// Whether the path names that directory, or has only proper names and so leads to something in it.
+pub fn is_within(path: &str) -> bool
+    ensures { result ≡ is_within path.now }
+{
+    is_here(path) || has_proper_names(path)
+}
+
+/// Whether each name of a path is proper.
+fn has_proper_names(path: &str) -> bool
+    ensures { result ≡ list_all is_proper (pieces path.now) }
+{
+    path.split('/').all(|name| is_proper(name))
 }
 
 /// The path of a record, without the `./` at its start and the `/` at its end.

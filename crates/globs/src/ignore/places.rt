@@ -63,7 +63,7 @@ pub fn rule_files<'n, 't, A: Allocator + Copy>(
 
 impl<'n, 't, A: Allocator + Copy> RuleFile<'n, 't, A> {
     /// The file with this name and text.
-    fn new(alloc: A, name: &'n str, text: &'t str) -> Result<Self, AllocError>
+    pub fn new(alloc: A, name: &'n str, text: &'t str) -> Result<Self, AllocError>
         ensures { IfOk result (λ file. file ≡ file_of name.now text.now) }
     {
         let lines = lines_of(alloc, text)?;
@@ -80,7 +80,7 @@ impl<'n, 't, A: Allocator> RuleFile<'n, 't, A> {
     }
 
     /// The place of the rule on the line with this number.
-    fn place(&self, line: usize) -> Place<'n, 't>
+    pub fn place(&self, line: usize) -> Place<'n, 't>
         ensures { result ≡ place_at self.now line }
     {
         let text = match self.lines.get(line.saturating_sub(1)) {
