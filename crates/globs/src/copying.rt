@@ -10,7 +10,7 @@ use std::alloc::Allocator;
 use std::io::{Read, Write};
 
 /// Copies the selected records of the input, which end in `end`, and returns the status: 0 if records were copied, 1 if
-/// not, and 2 after a fault, which is reported on `errors` unless the reader of the output went away.
+/// not, and 2 after a fault, which is reported on `errors` unless the reader closed the output.
 ///
 /// With the input `"a.o\na.c\n"`, a selection of records that end in `c` writes `"a.c\n"`.
 pub fn copy<A: Allocator + Copy, S: Selection, R: Read, W: Write, E: Write>(

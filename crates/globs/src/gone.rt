@@ -1,13 +1,13 @@
-//! A reader of the output that goes away.
+//! A reader that closes the output.
 ghost use Rattle.std.specs.Prelude.{◌≡◌, if◌then◌else◌};
 
 use std::cell::Cell;
 use std::io::{self, ErrorKind, Write};
 
-/// The status after the reader went away: the same that a shell reports for a program that SIGPIPE ends.
+/// The status after the reader closed the output: the same that a shell reports for a program killed by SIGPIPE.
 const GONE: u8 = 141;
 
-/// A writer that notes whether its reader went away.
+/// A writer that notes whether its reader closed it.
 #[derive(Drop)]
 pub struct PipeWatch<'a, W> {
     pub writer: W,
@@ -32,7 +32,7 @@ impl<W: Write> Write for PipeWatch<'_, W> {
     }
 }
 
-/// The status of a run: 141 if the reader of its output went away, and otherwise the run's own.
+/// The status of a run: 141 if the reader closed its output, and otherwise the run's own.
 pub fn pipe_status(is_gone: bool, status: u8) -> u8
     ensures { result ≡ (if is_gone then 141 else status) }
 {

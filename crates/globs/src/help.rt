@@ -1,4 +1,5 @@
-//! What `--help`, `help` and `--version` write.
+//! What `--help`, `help` and `--version` write. From the layout of these pages `bin/help_as` makes the completions and
+//! the options in the man page.
 ghost use Rattle.std.specs.Prelude.{◌≡◌};
 ghost use Rattle.globs.specs.Help.{page_of};
 
@@ -52,7 +53,7 @@ Status:
   0         something was found, copied or matched; for escape and help, all was written
   1         nothing was found, copied or matched
   2         a fault, which is reported on standard error
-  141       the reader of the output went away, as in globs find '**' | head. This is not reported
+  141       the reader closed the output, as in globs find '**' | head. This is not reported
 ";
 
 /// The page of `find`.

@@ -63,8 +63,8 @@ const PREFIX: &str = "globs: ";
 
 /// Runs the command that `words`, the arguments after the program's name, ask for, and returns the exit status: 0 if
 /// something was found, copied or matched, or a text was written; 1 if nothing was found, copied or matched; 2 after a
-/// fault, which is reported on `errors` unless the reader of the output went away. A usage fault is one line, and
-/// leaves the output unchanged.
+/// fault, which is reported on `errors` unless the reader closed the output. A usage fault is one line, and leaves the
+/// output unchanged.
 ///
 /// With the input `"a.rs\nb.c\n"`, the words `match` and `*.rs` write `"a.rs\n"`, and the status is 0.
 pub fn run_words<P, F, R, W, E>(

@@ -19,7 +19,7 @@ both_are : (a b : Bool) → a ≡ true → b ≡ true → (a && b) ≡ true
 both_are true b first second = second
 both_are false b first second = absurd (false≢true first)
 
--- a record is UTF-8 and matches exactly if the computation says so
+-- a record is UTF-8 and matches exactly when the computation says so
 pub matches_by_record : (o : MatchOptions) (pattern one : List ℕ) → Selected (record_matches o pattern) one → RecordMatches o pattern one
 matches_by_record o pattern one e =
     let (utf8, holds) = both_true (is_utf8 one) (is_match o (chars pattern) (chars one)) e in
@@ -35,7 +35,7 @@ same_answer true false to from = absurd (false≢true (to refl))
 same_answer false true to from = absurd (false≢true (from refl))
 same_answer false false to from = refl
 
--- an answer that is `true` exactly if the record matches equals the computed one
+-- an answer that is `true` exactly when the record matches equals the computed one
 pub IfOk-computed : {E : Type 0} (r : Result Bool E) (o : MatchOptions) (pattern one : List ℕ) → IfOk r
     (λ b. IsTrue b ↔ RecordMatches o pattern one) → IfOk r (λ b. b ≡ record_matches o pattern one)
 IfOk-computed (Ok b) o pattern one (to, from) =

@@ -8,7 +8,7 @@ use glob_lines::write_whole;
 use std::alloc::{AllocError, Allocator};
 use std::io::{self, Write};
 
-/// After how many units since the last write a line is written immediately.
+/// The number of units since the last write after which a line is written immediately.
 const PATIENCE: u64 = 100;
 
 /// How many bytes of lines may wait. The buffer also has room for one more line with the longest path of most systems.

@@ -1,4 +1,4 @@
--- Going down the remaining names gives the lists of all names, and ignores the start, or what is above it, exactly if
+-- Going down the remaining names gives the lists of all names, and ignores the start, or what is above it, exactly when
 -- all names do.
 use Rattle.std.proofs.Common.{◌≡◌, ◌||◌, [], Option, None, Some, length, map, string_bytes}
 use Rattle.std.specs.Option.{option_or}

@@ -1,4 +1,4 @@
--- The character is in one of the remaining ranges exactly if it is in one of all ranges.
+-- The character is in one of the remaining ranges exactly when it is in one of all ranges.
 use Rattle.std.proofs.Common.{◌≡◌, drop}
 use Rattle.globs.specs.Visible.{is_among}
 use Rattle.globs.proofs.wide.is_among.Given as goal

@@ -1,4 +1,4 @@
--- This lead is among the remaining leads exactly if it is among all.
+-- This lead is among the remaining leads exactly when it is among all.
 use Rattle.std.proofs.Common.{◌≡◌, bytes_eq, drop, map}
 use Rattle.std.specs.List.{list_any}
 use Rattle.globs.proofs.find.leads.is_among.Given as goal
