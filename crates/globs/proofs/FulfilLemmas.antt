@@ -7,12 +7,15 @@ use Rattle.glob_console.proofs.CallerLemmas.{text_at_fault}
 use Rattle.glob_pattern.specs.declared.options.MatchOptions.{MatchOptions}
 use Rattle.glob_text.specs.Text.{Text}
 use Rattle.globs.specs.Copying.{IsUnread}
+use Rattle.globs.specs.ByGit.{CopiesByGit}
 use Rattle.globs.specs.Escaping.{WritesEscaped}
 use Rattle.globs.specs.Explain.Outcomes.{Answers, ExplainsWord}
 use Rattle.globs.specs.Faults.{WritesUsage, usage_words}
 use Rattle.globs.specs.Find.Outcomes.{FindsUnignored}
+use Rattle.globs.specs.GitNaming.{IgnoresByGit, NamesByGit}
+use Rattle.globs.specs.IgnoringPaths.{IgnoresPaths}
 use Rattle.globs.specs.Matching.{CopiesMatches}
-use Rattle.globs.specs.Naming.{IgnoresPaths, NamesRules}
+use Rattle.globs.specs.Naming.{IgnoresByFiles, NamesRules}
 use Rattle.globs.specs.Outcomes.{Fulfils, World}
 use Rattle.globs.specs.Reading.{Request, Runs, Helps, VersionLine, Refused}
 use Rattle.globs.specs.Requests.{IsWrongRequest, request_of}
@@ -46,10 +49,14 @@ module _ {W : Type 0} (contents : W → Option (List ℕ)) (known : W) (status :
 
   -- a fault before anything was done with the output fulfils each request
   pub fulfils_refused : (world : World) (request : Request) → IsUnread world.input → Fulfils contents world request known known status
-  unfolding Fulfils FindsUnignored CopiesMatches IgnoresPaths NamesRules CopiesUnignored WritesEscaped
+  unfolding Fulfils FindsUnignored CopiesMatches IgnoresPaths IgnoresByGit CopiesByGit NamesByGit IgnoresByFiles NamesRules
+      CopiesUnignored WritesEscaped
   fulfils_refused world (Runs Find o operands) unread = (unread, inl (is, refl))
   fulfils_refused world (Runs Match o operands) unread = inl (unread, (is, refl))
-  fulfils_refused world (Runs Ignore o operands) unread = (λ _. inl (unread, (is, refl)), λ _. inl (unread, (is, refl)))
+  fulfils_refused world (Runs Ignore o operands) unread = (
+    λ _. (λ _. inl (unread, (is, refl)), λ _. inl (unread, (is, refl))),
+    λ _. (λ _. inl (unread, (is, refl)), λ _. inl (unread, (is, refl))),
+  )
   fulfils_refused world (Runs Explain o operands) unread = (unread, answers_refused o.settings.options operands)
   fulfils_refused world (Runs Escape o operands) unread = (unread, inl (is, Keeps-refl (contents known)))
   fulfils_refused world (Helps name) unread = (unread, text_at_fault _ (contents known) status is)
