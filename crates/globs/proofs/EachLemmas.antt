@@ -11,7 +11,7 @@ use Rattle.glob_tree.specs.Content.{Content, Key}
 use Rattle.globs.specs.Chosen.{Chosen}
 use Rattle.globs.specs.Find.Aiming.{placed}
 use Rattle.globs.specs.Find.Leads.{led}
-use Rattle.globs.specs.Find.Outcomes.{Disk, FindsAll, FindsEach, FindsPaths, Known, joint, known_at}
+use Rattle.globs.specs.Find.Outcomes.{Disk, FindsAll, FindsEach, FindsPaths, Known, known_at}
 use Rattle.globs.specs.Find.Writing.{status_of}
 use Rattle.globs.specs.declared.find.kinds.PathKind.{PathKind}
 use Rattle.globs.specs.declared.find.searching.Findings.{Findings}

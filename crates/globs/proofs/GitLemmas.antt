@@ -2,7 +2,7 @@
 use Rattle.std.proofs.Common.{◌≡◌, ◌⊎◌, ℕ, ◌&&◌, not, Bool, true, false, List, [], ◌++◌, Option, Some, None, inl, inr}
 use Rattle.std.proofs.Common.{map, refl, sym, ap, subst, append-nil, ◌∙◌}
 use Rattle.std.proofs.lemmas.Bool.{false≢true}
-use Rattle.std.specs.Prelude.{String, is_some, option_map, slice_index_or, string_bytes, if◌then◌else◌}
+use Rattle.std.specs.Prelude.{is_some, string_bytes, if◌then◌else◌}
 use Rattle.std.specs.Str.{is_utf8}
 use Rattle.glob_lines.specs.Lines.{line_feed, with_ends}
 use Rattle.glob_rules.specs.Lists.{AreTaken, Ignores, rules_of}

@@ -1,10 +1,9 @@
 -- The leads of texts.
-use Rattle.std.proofs.Common.{◌≡◌, ◌≢◌, ◌∙◌, ◌==◌, ◌⊎◌, ℕ, ◌+◌, ◌-◌, ◌<◌, ◌≤◌, Bool, true, false, ◌&&◌, List, [], ◌∷◌}
-use Rattle.std.proofs.Common.{◌++◌, Bor, ap, arith, bytes_eq, cond, drop, get_or, inl, inr, length, map, refl, sym}
-use Rattle.std.proofs.Common.{take}
+use Rattle.std.proofs.Common.{◌≡◌, ◌≢◌, ◌∙◌, ◌==◌, ◌⊎◌, ℕ, ◌+◌, ◌<◌, Bool, true, false, ◌&&◌, List, [], ◌∷◌}
+use Rattle.std.proofs.Common.{◌++◌, Bor, ap, bytes_eq, cond, drop, get_or, inl, inr, length, map, refl, sym}
 use Rattle.std.specs.List.{fold}
 use Rattle.std.proofs.lemmas.Bool.{eqb-true}
-use Rattle.std.proofs.lemmas.List.{drop_all, drop_more}
+use Rattle.std.proofs.lemmas.List.{drop_more}
 use Rattle.glob_text.specs.Characters.{dot, slash}
 use Rattle.glob_text.specs.Text.{Text}
 use Rattle.globs.specs.Find.Leads.{below_dots, below_lead, lead_of, led, with_lead}

@@ -1,7 +1,7 @@
 -- If there are only the rules of the command line, what is ignored on the way to a path is what their list ignores.
-use Rattle.std.proofs.Common.{◌≡◌, Bool, true, false, cond, not, ◌&&◌, ◌||◌, List, [], ◌∷◌, ◌++◌, Option, Some, None}
+use Rattle.std.proofs.Common.{◌≡◌, Bool, true, false, not, ◌&&◌, ◌||◌, List, [], ◌∷◌, ◌++◌, Option, Some, None}
 use Rattle.std.proofs.Common.{refl, ap, ap₂, sym, ◌∙◌}
-use Rattle.std.specs.Prelude.{unwrap_or, if◌then◌else◌}
+use Rattle.std.specs.Prelude.{unwrap_or}
 use Rattle.std.specs.List.{list_all, join_with_byte}
 use Rattle.std.specs.Option.{option_or}
 use Rattle.glob_text.specs.Characters.{slash}
@@ -16,7 +16,7 @@ use Rattle.glob_search.specs.Aims.{rules_from}
 use Rattle.glob_search.proofs.OrderLemmas.OneFile.{one_file_decides}
 use Rattle.std.proofs.lemmas.Bool.{false≢true}
 use Rattle.globs.specs.Chosen.{Chosen}
-use Rattle.globs.specs.Find.Aiming.{IgnoresByList, aim, first_lists, git_lists, is_ruled, last_lists, rule_files}
+use Rattle.globs.specs.Find.Aiming.{IgnoresByList, aim, first_lists, git_lists, last_lists, rule_files}
 use Rattle.globs.proofs.AimLemmas.{unheeded}
 
 or_none : {A : Type 0} (o : Option A) → option_or o None ≡ o

@@ -1,6 +1,6 @@
 -- What the command line asks a search for.
 use Rattle.std.specs.Prelude.{◌≡◌, ◌^◌, ◌-◌, ℕ, Bool, true, false, ◌&&◌, ◌||◌, not, if◌then◌else◌, IsTrue, List, []}
-use Rattle.std.specs.Prelude.{◌∷◌, ◌++◌, Option, None, Some, codes, option_map, unwrap_or}
+use Rattle.std.specs.Prelude.{◌∷◌, ◌++◌, Option, None, Some, codes, unwrap_or}
 use Rattle.std.specs.List.{list_all, join_with_byte}
 use Rattle.glob_rules.specs.Deciding.{is_ignored}
 use Rattle.glob_rules.specs.Lists.{Ignores, rules_of}

@@ -1,5 +1,5 @@
 -- Where patterns lead: each is searched for from a place that its beginning names.
-use Rattle.std.specs.Prelude.{ℕ, ◌-◌, Bool, true, false, ◌&&◌, ◌==◌, if◌then◌else◌, List, [], ◌∷◌, ◌++◌, length, take, bytes_eq}
+use Rattle.std.specs.Prelude.{◌-◌, ◌&&◌, ◌==◌, if◌then◌else◌, List, [], ◌∷◌, ◌++◌, length, take, bytes_eq}
 use Rattle.std.specs.List.{fold, list_any}
 use Rattle.glob_text.specs.Characters.{dot, slash}
 use Rattle.glob_text.specs.Pieces.{begins_with, is_empty}

@@ -1,4 +1,4 @@
-use Rattle.std.proofs.Common.{◌≡◌, ◌∙◌, ap, map, refl, string_bytes, sym}
+use Rattle.std.proofs.Common.{◌∙◌, ap, map, refl, string_bytes}
 use Rattle.std.proofs.KnownBytes.{Keeps-refl}
 use Rattle.glob_console.proofs.WritingLemmas.{OnErr-from}
 use Rattle.globs.specs.Find.Aiming.{placed}

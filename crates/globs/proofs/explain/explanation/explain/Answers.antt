@@ -1,4 +1,4 @@
-use Rattle.std.proofs.Common.{◌≡◌, ◌∙◌, ◌∷◌, ◌++◌, ap, string_bytes}
+use Rattle.std.proofs.Common.{◌∙◌, ◌∷◌, ◌++◌, ap, string_bytes}
 use Rattle.globs.specs.Explain.Outcomes.{AreLines}
 use Rattle.globs.specs.Explain.Verdict.{verdict_words}
 use Rattle.globs.proofs.explain.explanation.explain.Goals as goal

@@ -1,5 +1,5 @@
 use Rattle.std.proofs.Common.{◌≡◌, ◌<◌, ◌≤◌, ◌+◌, ◌⊎◌, ◌∷◌, ◌++◌, ◌∙◌, ℕ, List, [], Bool, true, false, inl, inr, suc}
-use Rattle.std.proofs.Common.{sym, ap, subst, refl, drop, get_or, length, map, string_bytes, drop-cons, arith, lit<}
+use Rattle.std.proofs.Common.{ap, subst, refl, drop, get_or, length, map, string_bytes, drop-cons, arith, lit<}
 use Rattle.std.proofs.lemmas.List.{drop_all}
 use Rattle.glob_pattern.specs.declared.options.MatchOptions.{MatchOptions}
 use Rattle.globs.specs.Explain.Hints.{AddsHints, AreHints, GivesAny, GivesNone, change_words}

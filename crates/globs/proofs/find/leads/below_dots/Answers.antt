@@ -1,4 +1,4 @@
-use Rattle.std.proofs.Common.{◌≡◌, ◌∙◌, ◌<◌, ◌⊎◌, ◌∷◌, List, ℕ, ap, arith, inl, inr, length, rules, sym}
+use Rattle.std.proofs.Common.{◌≡◌, ◌∙◌, ◌<◌, ◌⊎◌, ◌∷◌, List, ℕ, ap, arith, inl, inr, length, rules}
 use Rattle.globs.proofs.LeadLemmas.{dots_end, dots_more}
 use Rattle.globs.proofs.find.leads.below_dots.Goals as goal
 

@@ -1,5 +1,5 @@
 -- The leads so far and the leads of the remaining patterns are the leads of all patterns.
-use Rattle.std.proofs.Common.{◌≡◌, [], drop, map}
+use Rattle.std.proofs.Common.{◌≡◌, drop, map}
 use Rattle.std.specs.List.{fold}
 use Rattle.globs.specs.Find.Leads.{leads_of, with_lead}
 use Rattle.globs.proofs.find.leads.leads_of.Given as goal

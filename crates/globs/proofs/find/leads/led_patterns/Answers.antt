@@ -1,4 +1,4 @@
-use Rattle.std.proofs.Common.{◌≡◌, ◌∙◌, ◌+◌, ◌++◌, ◌∷◌, [], ap, append-nil, append_assoc, arith, drop, get_or, map, sym}
+use Rattle.std.proofs.Common.{◌∙◌, ◌+◌, ◌++◌, ap, append-nil, append_assoc, arith, drop, map, sym}
 use Rattle.std.proofs.lemmas.List.{drop_all}
 use Rattle.globs.specs.Find.Leads.{led}
 use Rattle.globs.proofs.LeadLemmas.{led_more}

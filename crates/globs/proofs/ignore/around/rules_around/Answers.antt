@@ -1,4 +1,4 @@
-use Rattle.std.proofs.Common.{◌≡◌, ◌∙◌, ap, map, refl, string_bytes, sym, true}
+use Rattle.std.proofs.Common.{◌∙◌, ap, map, refl, string_bytes, sym, true}
 use Rattle.glob_search.specs.Aims.{rules_from}
 use Rattle.globs.specs.ByGit.{git_aim}
 use Rattle.globs.specs.Find.Above.{files_above, is_start_ignored, lists_above, start_rule}
