@@ -6,8 +6,6 @@
 #![allow(clippy::byte_char_slices, clippy::ptr_arg, clippy::vec_init_then_push)]
 // Memory is asked for and then filled, as the heads of these files say:
 #![allow(clippy::slow_vector_initialization)]
-// A machine's `next` is a step of a walk:
-#![allow(clippy::should_implement_trait)]
 
 pub mod glob_captures;
 pub mod glob_pattern;
