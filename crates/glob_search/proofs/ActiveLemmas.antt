@@ -9,7 +9,7 @@ use Rattle.std.specs.Str.{IsCharBoundary, IsUtf8}
 use Rattle.std.proofs.lemmas.Bool.{eqb-true}
 use Rattle.std.proofs.lemmas.List.{nil_from_length}
 use Rattle.std.proofs.lemmas.List.{append_assoc, append-nil, length-map, map-append, length-append, take-map, take_at}
-use Rattle.std.proofs.lemmas.List.{take-append-drop, drop_at, drop_more, get_or_at, get_or-map, length_push}
+use Rattle.std.proofs.lemmas.List.{drop_at, get_or_at, get_or-map, length_push}
 use Rattle.std.proofs.lemmas.List.Elements.{All-append, All-get_or, All-map}
 use Rattle.std.proofs.lemmas.List.Folds.{fold-map}
 use Rattle.std.proofs.lemmas.List.Sums.{fold-append}
@@ -70,21 +70,22 @@ or_assoc None p q = refl
 or_assoc (Some x) p q = refl
 
 -- what later lists say overrides what earlier lists say
-said-after : (start : Option Bool) (lists : List (ℕ × Ignores)) (path : Text) (d : Bool)
-    → fold (λ before l. option_or (said l.1 (drop l.0 path) d) before) start lists ≡ option_or (active_said lists path d) start
-said-after start [] path d = refl
-said-after start (l ∷ ls) path d =
-    let here = said l.1 (drop l.0 path) d in
-    said-after (option_or here start) ls path d
-    ∙ or_assoc (active_said ls path d) here start
+pub said-after : {X : Type 0} (says : X → Option Bool) (start : Option Bool) (xs : List X)
+    → fold (λ before x. option_or (says x) before) start xs
+    ≡ option_or (fold (λ before x. option_or (says x) before) None xs) start
+said-after says start [] = refl
+said-after says start (x ∷ xs) =
+    let later = fold (λ before y. option_or (says y) before) None xs in
+    said-after says (option_or (says x) start) xs
+    ∙ or_assoc later (says x) start
     ∙ ap (λ o. option_or o start)
-    (ap (option_or (active_said ls path d)) (sym (or-none here)) ∙ sym (said-after (option_or here None) ls path d))
+    (ap (option_or later) (sym (or-none (says x))) ∙ sym (said-after says (option_or (says x) None) xs))
 
 said-append : (lists more : List (ℕ × Ignores)) (path : Text) (d : Bool)
     → active_said (lists ++ more) path d ≡ option_or (active_said more path d) (active_said lists path d)
 said-append lists more path d =
     fold-append (λ before l. option_or (said l.1 (drop l.0 path) d) before) None lists more
-    ∙ said-after (active_said lists path d) more path d
+    ∙ said-after (λ l. said l.1 (drop l.0 path) d) (active_said lists path d) more
 
 -- lists that see a path after this many bytes
 said-below : (above : ℕ) (lists : List Ignores) (path : Text) (d : Bool) → active_said (after above lists) path d ≡
@@ -190,31 +191,6 @@ boundary-at {A} files i file path lt is cuts =
     let pair : FileRules A → ℕ × Ignores = λ f. (f.above, f.list) in
     subst (λ l. IsCharBoundary path l.0) (get_or-map pair files i file (pair file) lt ∙ ap pair (sym is))
     (All-get_or (λ l. IsCharBoundary path l.0) (active_lists files) i (pair file) (omega (arith, length-active_lists files)) cuts)
-
--- what a list says if no later list says anything
-pub said-here : {A : Type 0} (files : List (FileRules A)) (i later : ℕ) (file : FileRules A) (path below : Text)
-    (d : Bool) (answer : Option Bool)
-    → i < length files → later ≡ i + 1 → file ≡ get_or files i file → (IsCharBoundary path file.above → below ≡ drop file.above path)
-    → answer ≡ said file.list below d → All (λ l. IsCharBoundary path l.0) (active_lists files) → active_said
-    (active_lists (drop later files)) path d ≡ None
-    → active_said (active_lists (drop i files)) path d ≡ answer
-said-here files i later file path below d answer lt next is cut says cuts silent =
-    let here = said file.list (drop file.above path) d in
-    ap (λ fs. active_said (active_lists fs) path d) (drop_more files i file lt ∙ ap₂ (λ f k. f ∷ drop k files) (sym is) (sym next))
-    ∙ said-after (option_or here None) (active_lists (drop later files)) path d
-    ∙ ap (λ o. option_or o (option_or here None)) silent
-    ∙ or-none here
-    ∙ sym (says ∙ ap (λ p. said file.list p d) (cut (boundary-at files i file path lt is cuts)))
-
--- what some last lists say, whatever is before them
-pub said-found : {A : Type 0} (files : List (FileRules A)) (i : ℕ) (path : Text) (d answer : Bool) → active_said
-    (active_lists (drop i files)) path d ≡ Some answer
-    → active_said (active_lists files) path d ≡ Some answer
-said-found files i path d answer says =
-    ap (λ fs. active_said (active_lists fs) path d) (sym (take-append-drop i files))
-    ∙ ap (λ lists. active_said lists path d) (map-append (λ f. (f.above, f.list)) (take i files) (drop i files))
-    ∙ said-append (active_lists (take i files)) (active_lists (drop i files)) path d
-    ∙ ap (λ o. option_or o (active_said (active_lists (take i files)) path d)) says
 
 -- if no rule is active, nothing is ignored
 pub is_ignored-silent : {A : Type 0} (a : Aim) (directory : Key) (n : Text) (h : ActiveRules A) (d : Bool)

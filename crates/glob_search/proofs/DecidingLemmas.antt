@@ -1,7 +1,7 @@
 -- Which rule of the lists decides.
 use Rattle.std.proofs.Common.{◌≡◌, ℕ, zero, suc, ◌+◌, ◌<◌, Bool, true, false, not, ◌||◌, List, [], ◌∷◌, ◌++◌, length, drop, get_or}
 use Rattle.std.proofs.Common.{map, Option, Some, None, refl, ap, ap₂, sym, subst, ◌∙◌, arith}
-use Rattle.std.specs.Prelude.{option_map, string_bytes}
+use Rattle.std.specs.Prelude.{fold, option_map, string_bytes, unwrap_or}
 use Rattle.std.specs.List.{All, cons_option, list_all, join_with_byte}
 use Rattle.std.specs.Option.{option_or}
 use Rattle.std.specs.Str.{IsCharBoundary}
@@ -20,16 +20,17 @@ use Rattle.glob_rules.specs.declared.rule.Rule.{Rule}
 use Rattle.glob_search.specs.Aims.{outer_of, path_of, rules_from}
 use Rattle.glob_search.specs.Asking.{Asked, File, First, Last, Origin, asked, asked_below, asked_in, last_rule, numbered, rule_about}
 use Rattle.glob_search.specs.Asking.{rule_below}
-use Rattle.glob_search.specs.Searching.{Aim, is_ignored, is_kept, is_nil}
-use Rattle.glob_search.specs.Private.Active.{above_of, active_lists, after, lists_down, lists_in}
+use Rattle.glob_search.specs.Searching.{Aim, is_ignored, is_kept, is_nil, outer_said, said}
+use Rattle.glob_search.specs.Private.Active.{AreActive, above_of, active_lists, active_said, after, lists_down, lists_in}
 use Rattle.glob_search.specs.Private.Asked.{held_rule, last_of, seen_by, seen_by_outer, source_at}
 use Rattle.glob_search.specs.Private.Entering.{IsAt, rule_names, sources_down}
 use Rattle.glob_search.specs.Private.Reading.{sources_in, sources_of}
+use Rattle.glob_search.specs.declared.active.ActiveRules.{ActiveRules}
 use Rattle.glob_search.specs.declared.active.FileRules.{FileRules}
 use Rattle.glob_search.specs.declared.directories.Directories.{Directories}
 use Rattle.glob_search.specs.declared.held.HeldRules.{HeldRules}
 use Rattle.glob_search.specs.declared.outer.OuterRules.{OuterRules}
-use Rattle.glob_search.proofs.ActiveLemmas.{boundary-at, drop-above, lists_above-child, or-none, or_assoc}
+use Rattle.glob_search.proofs.ActiveLemmas.{boundary-at, drop-above, is_ignored-active, lists_above-child, or-none, or_assoc, said-after}
 use Rattle.glob_search.proofs.AskingLemmas.{sources_down-child}
 use Rattle.glob_search.proofs.KeptLemmas.{long}
 use Rattle.glob_search.proofs.EngineLemmas.Paths.{AreProper}
@@ -230,6 +231,55 @@ seen-first path (l ∷ ls) = ap (λ xs. (l, path) ∷ xs) (seen-first path ls)
 seen-outer : {A : Type 0} (path : Text) (lists : List (OuterRules A)) → seen_by_outer path lists ≡ map (seen_above path) (outer_of lists)
 seen-outer path [] = refl
 seen-outer path (l ∷ ls) = ap (λ xs. (l.list, join (string_bytes l.prefix) path) ∷ xs) (seen-outer path ls)
+
+-- A negative rule does not ignore the path.
+abbrev pub ignores_by : ℕ × Rule → Bool
+ignores_by p = not p.1.negative
+
+says-or : (n : ℕ) (later : Option (ℕ × Rule)) (r : Option Rule)
+    → option_or (option_map ignores_by later) (option_map (λ rule. not rule.negative) r)
+    ≡ option_map ignores_by (option_or later (option_map (numbered_by n) r))
+says-or n None None = refl
+says-or n None (Some rule) = refl
+says-or n (Some p) r = refl
+
+-- what lists say is what the last rule says that names what they see
+says-last : {X : Type 0} (rules : X → Ignores) (see : X → Text) (d : Bool) (n : ℕ) (xs : List X)
+    → fold (λ before x. option_or (said (rules x) (see x) d) before) None xs
+    ≡ option_map ignores_by (last_of (map {B = Ignores × Text} (λ x. (rules x, see x)) xs) d n)
+says-last rules see d n [] = refl
+says-last rules see d n (x ∷ xs) =
+    let here = said (rules x) (see x) d in
+    said-after (λ y. said (rules y) (see y) d) (option_or here None) xs
+    ∙ ap₂ option_or (says-last rules see d (suc n) xs) (or-none here)
+    ∙ says-or n (last_of (map {B = Ignores × Text} (λ y. (rules y, see y)) xs) d (suc n)) (naming_rule (rules x) (see x) d)
+
+active-says : {A : Type 0} (files : List (FileRules A)) (path : Text) (d : Bool) (answer : Option (ℕ × Rule))
+    → answer ≡ last_of (seen_by path files) d 0 → active_said (active_lists files) path d ≡ option_map ignores_by answer
+active-says files path d answer is =
+    says-last (λ l. l.1) (λ l. drop l.0 path) d 0 (active_lists files)
+    ∙ ap (λ ls. option_map ignores_by (last_of ls d 0)) (sym (seen-lists path files))
+    ∙ ap (option_map ignores_by) (sym is)
+
+pub outer-says : {A : Type 0} (lists : List (OuterRules A)) (path : Text) (d : Bool) (answer : Option (ℕ × Rule))
+    → answer ≡ last_of (seen_by_outer path lists) d 0 → outer_said (outer_of lists) path d ≡ option_map ignores_by answer
+outer-says lists path d answer is =
+    says-last (λ l. l.1) (λ l. join l.0 path) d 0 (outer_of lists)
+    ∙ ap (λ ls. option_map ignores_by (last_of ls d 0)) (sym (seen-outer path lists))
+    ∙ ap (option_map ignores_by) (sym is)
+
+-- The rules that are active decide about a name by what these lists name.
+pub ignored-by : {A : Type 0} (a : Aim) (directory : Key) (n : Text) (h : ActiveRules A) (path : Text) (d : Bool)
+    → AreActive a directory h → path ≡ join_with_byte slash (directory ++ n ∷ []) → (first files last : Option (ℕ × Rule))
+    → first ≡ last_of (seen_by path h.first.items) d 0 → files ≡ last_of (seen_by path h.files.items) d 0
+    → last ≡ last_of (seen_by_outer path h.last.items) d 0
+    → is_ignored a (directory ++ n ∷ []) d
+    ≡ unwrap_or (option_or (option_map ignores_by first) (option_or (option_map ignores_by files) (option_map ignores_by last))) false
+ignored-by a directory n h path d are_active is first files last is_first is_files is_last =
+    is_ignored-active a directory n h path d are_active is
+    ∙ ap₂ (λ o p. unwrap_or (option_or o p) false)
+    (active-says h.first.items path d first is_first)
+    (ap₂ option_or (active-says h.files.items path d files is_files) (outer-says h.last.items path d last is_last))
 
 -- The rules that are held decide about a name in the last directory as the rules of the aim do.
 pub held-decides : {A : Type 0} (a : Aim) (known : Text → Option Text) (s : Directories A) (directory : Key) (n path : Text) (d : Bool)

@@ -1,16 +1,17 @@
 //! The ignore rules that are active in a directory: those that may name a path in it.
 ghost use Rattle.std.specs.Prelude.{◌≡◌, IfOk, drop, false, ◌++◌, ◌∷◌, [], Bool, IsTrue};
-ghost use Rattle.std.specs.List.{All, list_all, join_with_byte};
+ghost use Rattle.std.specs.List.{list_all, join_with_byte};
 ghost use Rattle.std.specs.Str.{IsCharBoundary};
 ghost use Rattle.glob_text.specs.Characters.{slash};
 ghost use Rattle.glob_text.specs.Text.{Text};
 ghost use Rattle.glob_tree.specs.Content.{Key};
 ghost use Rattle.glob_tree.specs.Paths.{is_proper};
 ghost use Rattle.glob_search.specs.Aims.{outer_of};
-ghost use Rattle.glob_search.specs.Private.Active.{active_lists, after, active_said, AreActive};
-ghost use Rattle.glob_search.specs.Searching.{Aim, said, is_ignored};
+ghost use Rattle.glob_search.specs.Private.Active.{active_lists, after, AreActive};
+ghost use Rattle.glob_search.specs.Searching.{Aim, is_ignored};
 
-use crate::outer::{OuterRules, outer_said};
+use crate::deciding::{last_naming, last_outer};
+use crate::outer::OuterRules;
 use glob_rules::IgnoreList;
 use std::alloc::{AllocError, Allocator};
 
@@ -68,14 +69,16 @@ impl<A: Allocator + Copy> ActiveRules<A> {
             → path.now ≡ join_with_byte slash (directory ++ n ∷ [])
             → IfOk result (λ r. r ≡ is_ignored a (directory ++ n ∷ []) is_dir) }
     {
-        if let Some(ignored) = last_said(self.first.as_slice(), path, is_dir)? {
-            return Ok(ignored);
+        if let Some((_, rule)) = last_naming(self.first.as_slice(), path, is_dir)? {
+            return Ok(!rule.negative);
         }
-        if let Some(ignored) = last_said(self.files.as_slice(), path, is_dir)? {
-            return Ok(ignored);
+        if let Some((_, rule)) = last_naming(self.files.as_slice(), path, is_dir)? {
+            return Ok(!rule.negative);
         }
-        let said = outer_said(alloc, self.last.as_slice(), path, is_dir)?;
-        Ok(said.unwrap_or(false))
+        match last_outer(alloc, self.last.as_slice(), path, is_dir)? {
+            Some((_, rule)) => Ok(!rule.negative),
+            None => Ok(false),
+        }
     }
 }
 
@@ -91,41 +94,6 @@ fn from_start<A: Allocator + Copy>(
         rules.push(FileRules { above: 0, list })?;
     }
     Ok(rules)
-}
-
-/// Whether the last list with a rule that names the path ignores it; `None` if no list has such a rule.
-fn last_said<A: Allocator + Copy>(
-    rules: &[FileRules<A>],
-    path: &str,
-    is_dir: bool,
-) -> Result<Option<bool>, AllocError>
-    ensures { All (λ l. IsCharBoundary path.now l.0) (active_lists rules.now)
-        → IfOk result (λ answer. answer ≡ active_said (active_lists rules.now) path.now is_dir) }
-{
-    let mut left = rules.len();
-    while left > 0 {
-        left -= 1;
-        let file = &rules[left];
-        let below = below(path, file.above);
-        if let Some(ignored) = said(&file.list, below, is_dir)? {
-            return Ok(Some(ignored));
-        }
-    }
-    Ok(None)
-}
-
-/// Whether a list ignores a path; `None` if none of its rules names it.
-pub fn said<A: Allocator + Copy>(
-    list: &IgnoreList<A>,
-    path: &str,
-    is_dir: bool,
-) -> Result<Option<bool>, AllocError>
-    ensures { IfOk result (λ answer. answer ≡ said list.now path.now is_dir) }
-{
-    match list.naming_rule(path, is_dir)? {
-        Some(rule) => Ok(Some(!rule.negative)),
-        None => Ok(None),
-    }
 }
 
 /// The path without its first `above` bytes.

@@ -86,6 +86,10 @@ fn naming_below<A: Allocator + Copy>(
     ensures { IfOk result (λ rule. rule
         ≡ naming_rule outer.now.list (join (string_bytes outer.now.prefix) path.now) is_dir) }
 {
-    let path = join(alloc, outer.prefix.as_str(), path)?;
+    let prefix = outer.prefix.as_str();
+    if prefix.is_empty() {
+        return outer.list.naming_rule(path, is_dir);
+    }
+    let path = join(alloc, prefix, path)?;
     outer.list.naming_rule(path.as_str(), is_dir)
 }
