@@ -147,7 +147,7 @@ module _ {X : Type 0} {P : Progress} (asks : X → ℕ) (tells : X → Option Co
             → (later : List Item) × HasGiven all x later c'
         given_more AsksLook item e going x all given has = absurd (omega (arith, item))
         given_more (AsksList kinds) item e going x all given has = absurd (omega (arith, item))
-        given_more (Says (Gives i)) item e going x all given has = (given ++ i ∷ [], has)
+        given_more (Says (Gives i)) item e going x all given has = (given ++ i ∷ [], has.0)
         given_more (Says (LimitAt p)) item e going x all given has = absurd (both_ways c'.over going e)
         given_more (Says NoMemory) item e going x all given has = absurd (both_ways c'.over going e)
         given_more Ends item e going x all given has = absurd (both_ways c'.over going e)

@@ -141,7 +141,7 @@ module _ {X : Type 0} {P : Progress} (asks : X → ℕ) (tells : X → Option Co
     limit = goes.counts.limit ∙ finds.limit;
     given = λ c told ms begun.
         subst (λ is. HasGiven ms c is new.machine) (sym (map-append Found found (path ∷ [])))
-        (next_given (Says (Gives (Found path))) goes c told ms begun);
+        (next_given (Says (Gives (Found path))) goes c told ms begun).0;
   }
 
   -- so it is where `next` returned it
@@ -158,14 +158,14 @@ module _ {X : Type 0} {P : Progress} (asks : X → ℕ) (tells : X → Option Co
       → (c : Content) → IsTold (tells first.tree) c → (ms : List Mark) → HasGiven ms c [] first.machine → found_items found ≡ items ms
   FindsSoFar-whole answer none goes c told ms begun =
       (upto_end ms new.machine.spent (found_items found) (next_given Ends (subst (λ r. Goes asks tells now
-      (next_saying r) new) none goes) c told ms begun)).0
+      (next_saying r) new) none goes) c told ms begun).0).0
 
   -- a directory that could not be listed is an item of the written listing
   pub FindsSoFar-unread : (path : Text) (kind : ErrorKind) → Goes asks tells now (Says (Gives (Unread path kind))) new
       → (c : Content) → IsTold (tells first.tree) c
       → (ms : List Mark) → HasGiven ms c [] first.machine → Contains (items ms) (Unread path kind)
   FindsSoFar-unread path kind goes c told ms begun =
-      let u = (next_given (Says (Gives (Unread path kind))) goes c told ms begun).upto in
+      let u = (next_given (Says (Gives (Unread path kind))) goes c told ms begun).0.upto in
       let all : items ms ≡ found_items found ++ (Unread path kind ∷ items (left_of c new.machine)) =
       ap items u.whole ∙ items-append u.done (left_of c new.machine) ∙ ap (λ is. is ++ items (left_of c new.machine)) (sym u.same)
       ∙ append_assoc (found_items found) (Unread path kind ∷ []) (items (left_of c new.machine)) in

@@ -92,7 +92,7 @@ module _ {X A : Type 0} {P : Progress} (asks : X → ℕ) (tells : X → Option 
         ∙ sym (map-append Gives g.given (item ∷ []));
     count = omega (arith, goes.counts.given, g.count, length-append answers (answer ∷ []));
     few = omega (arith, goes.counts.given, goes.counts.few, g.count, length-append answers (answer ∷ []));
-    walk = λ c told ms begun. goes.gives c (told_here c told) ms g.given (g.walk c told ms begun);
+    walk = λ c told ms begun. (goes.gives c (told_here c told) ms g.given (g.walk c told ms begun)).0;
   }
 
   no_refusal : HasNoRefusal answers
@@ -110,7 +110,7 @@ module _ {X A : Type 0} {P : Progress} (asks : X → ℕ) (tells : X → Option 
     walk = λ c told ms begun.
         IsWalk-done ms first.machine.limit new.machine.spent answers g.given g.are
         (omega (arith, goes.counts.within, goes.counts.limit, g.same))
-        (goes.gives c (told_here c told) ms g.given (g.walk c told ms begun));
+        (goes.gives c (told_here c told) ms g.given (g.walk c told ms begun)).0;
   }
 
   -- an item that was not kept
@@ -128,7 +128,7 @@ module _ {X A : Type 0} {P : Progress} (asks : X → ℕ) (tells : X → Option 
     where
       by_outcome : (o : Outcome) (c : Content) (ms : List Mark) → GivesNext ms c g.given (Says o) new.machine
           → IsWalk ms first.machine.limit end.Memory new.machine.spent answers
-      by_outcome (Gives item) c ms k = IsWalk-lost ms first.machine.limit new.machine.spent answers g.given g.are item _ k.upto
+      by_outcome (Gives item) c ms k = IsWalk-lost ms first.machine.limit new.machine.spent answers g.given g.are item _ k.0.upto
       by_outcome (LimitAt path) c ms k = IsWalk-memory ms first.machine.limit new.machine.spent answers g.given g.are (Work path ∷ k.1) k.2
       by_outcome NoMemory c ms k = IsWalk-memory ms first.machine.limit new.machine.spent answers g.given g.are k.0 k.1
 

@@ -129,7 +129,8 @@ module _ {X A : Type 0} (end : ℕ) (f : Content → Text → Bool) (tells : X �
   -- so it is an item of the listing
   has_given : (o : Outcome) (item : Item) → o ≡ Gives item → Steps (Says o) → Over tells of first
       (λ ms c. HasGiven ms c (w.given ++ item ∷ []) walk')
-  has_given o item is steps c told ms begun = subst (λ p. GivesNext ms c w.given (Says p) walk') is ((gives o steps).1 c told ms begun)
+  has_given o item is steps c told ms begun =
+      (subst (λ p. GivesNext ms c w.given (Says p) walk') is ((gives o steps).1 c told ms begun)).0
 
   kept_with : (text : Text) (c : Content) → IsTold (tells of) c → true ≡ f c text → (ms : List Mark) → HasGiven ms c []
       first → w.texts ++ text ∷ [] ≡ wanted_paths (f c) (w.given ++ Found text ∷ [])
@@ -367,6 +368,6 @@ module _ {X A : Type 0} (end : ℕ) (f : Content → Text → Bool) (tells : X �
         gave (inr over) = over.1 c told ms begun
         gave (inl (done, said)) =
             let (are, units) = upto_end ms walk'.spent w.given (subst (λ t. GivesNext ms c w.given (saying t) walk') is
-            (said c told ms begun)) in
+            (said c told ms begun)).0 in
             let fits : cost ms ≤ first.limit = omega (arith, steps.counts.counts.within, steps.counts.counts.limit, w.limit, units) in
             subst (λ e. GaveItems ms first.limit e w.given) (sym done) (fits, are)

@@ -7,7 +7,7 @@ use Rattle.glob_tree.specs.Content.{Content}
 use Rattle.glob_pattern.specs.declared.options.MatchOptions.{MatchOptions}
 use Rattle.glob_tree.specs.declared.tree.ListError.{ListError}
 use Rattle.glob_tree.specs.declared.tree.ListError.TheVariants.{Read, Memory}
-use Rattle.glob_walk.specs.Walks.{listing_from, Mark, Item, Work, Unread, IsUpTo, Outcome, Gives, LimitAt, NoMemory}
+use Rattle.glob_walk.specs.Walks.{listing_from, Mark, Item, Work, Give, Unread, IsUpTo, Outcome, Gives, LimitAt, NoMemory}
 use Rattle.glob_walk.specs.Walks.{outcome, refusal_end}
 use Rattle.glob_walk.specs.Questions.{Question, IsLook, IsListWith, question_path}
 use Rattle.glob_walk.specs.declared.error.GlobError.{GlobError}
@@ -156,16 +156,17 @@ pub record HasGiven {P : Progress} (listing : List Mark) (c : Content) (given : 
   pub upto : IsUpTo listing walk.spent given (left_of c walk)
 
 -- What each step says about the listing. A question leaves the items given as they are. An item is the next item of the
--- listing. `Done` comes after the last item. If the limit is reached, the next unit does not fit. If an allocation
--- fails, what was charged is a prefix of the listing.
+-- listing, and only the units before it are charged. `Done` comes after the last item, and nothing is left. If the limit
+-- is reached, the next unit does not fit. If an allocation fails, what was charged is a prefix of the listing.
 abbrev pub GivesNext : {P : Progress} → List Mark → Content → List Item → Saying → MachineState P → Type 0
 GivesNext listing c given AsksLook walk = HasGiven listing c given walk
 GivesNext listing c given (AsksList kinds) walk = HasGiven listing c given walk
-GivesNext listing c given (Says (Gives item)) walk = HasGiven listing c (given ++ item ∷ []) walk
+GivesNext listing c given (Says (Gives item)) walk =
+    HasGiven listing c (given ++ item ∷ []) walk × IsUpTo listing walk.spent given (Give item ∷ left_of c walk)
 GivesNext listing c given (Says (LimitAt path)) walk =
     (walk.spent ≡ walk.limit) × (rest : List Mark) × IsUpTo listing walk.spent given (Work path ∷ rest)
 GivesNext listing c given (Says NoMemory) walk = (rest : List Mark) × IsUpTo listing walk.spent given rest
-GivesNext listing c given Ends walk = IsUpTo listing walk.spent given []
+GivesNext listing c given Ends walk = IsUpTo listing walk.spent given [] × (left_of c walk ≡ [])
 
 -- the last charged unit is for a question at the path
 pub record AsksNext (listing : List Mark) (given : List Item) (path : Text) (spent : ℕ) (left : List Mark) : Type 0 where
@@ -178,6 +179,7 @@ pub record AsksNext (listing : List Mark) (given : List Item) (path : Text) (spe
 pub record StepGoes {P : Progress} (Fits : Content → Type 0) (n : ℕ) (old : MachineState P) (s : Saying) (new : MachineState P)
     : Type 0 where
   pub counts : StepCounts n old s new
+  pub agrees : (c : Content) → Fits c → old.over ≡ false → Agrees c old → Agrees c new
   pub gives : (c : Content) → Fits c → (listing : List Mark) (given : List Item) → HasGiven listing c given old
       → GivesNext listing c given s new
   pub charges : (c : Content) → Fits c → (listing : List Mark) (given : List Item) → HasGiven listing c given old

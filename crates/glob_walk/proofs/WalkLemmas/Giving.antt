@@ -89,14 +89,13 @@ module _ {P : Progress} (n : ℕ) (listing : List Mark) (c : Content) (given : L
     upto = charged (left_of c new) new.spent (Charges-asked (left_of c old) (left_of c new) old.spent new.spent
         (question_path new.asked) t);
   }
-  gives_next (Says (Gives item)) k agrees t = record {
-    agrees = agrees;
-    going = k.counts.ends;
-    upto = upto_item listing new.spent given item (left_of c new) (charged (Give item ∷ left_of c new) new.spent t);
-  }
+  gives_next (Says (Gives item)) k agrees t =
+      let before : IsUpTo listing new.spent given (Give item ∷ left_of c new) = charged (Give item ∷ left_of c new) new.spent t in
+      let upto = upto_item listing new.spent given item (left_of c new) before in
+      (record { agrees = agrees; going = k.counts.ends; upto = upto }, before)
   gives_next (Says (LimitAt path)) k agrees t = (k.charged.0, t.rest, charged (Work path ∷ t.rest) new.spent t.charges)
   gives_next (Says NoMemory) k agrees t = (t.rest, charged t.rest new.spent t.charges)
-  gives_next Ends k agrees t = charged [] new.spent t.0
+  gives_next Ends k agrees t = (charged [] new.spent t.0, t.1)
 
   pub asks_next : (s : Saying) → step_units s ≡ 1 → TakesStep (left_of c old) old.spent s new.asked (left_of c new) new.spent
       → AsksNext listing given (question_path new.asked) new.spent (left_of c new)

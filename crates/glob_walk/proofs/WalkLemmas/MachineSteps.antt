@@ -113,6 +113,7 @@ module _ {A : Type 0} (Fits : Content → Type 0) (n : ℕ) (w w' : Walker A) (g
       → StepGoes Fits n (view w given false) s (view w' (given + item_number s) (is_last s))
   goes s r cleared = record {
     counts = counted;
+    agrees = λ c f going h. agrees s r cleared c f h;
     gives = λ c f listing items h. gives_next n listing c items (view w given false) (after s) h s counted
         (agrees s r cleared c f h.agrees) (r.takes c f h.agrees);
     charges = λ c f listing items h question. asks_next n listing c items (view w given false) (after s) h s question
@@ -291,6 +292,7 @@ goes_over w given over' yes' Fits n v e good none =
         asks = ap question_of (good.ended yes');
       };
       gives = λ c f listing items h. absurd (both_ways over' h.going yes');
+      agrees = λ c f going h. absurd (both_ways over' going yes');
       charges = λ c f listing items h question. absurd (both_ways over' h.going yes');
     })
 
