@@ -80,8 +80,8 @@ globs help shows what a PATTERN may have: ?, *, **, brackets and braces.
                  link. -t f -t l writes both. Pipes, sockets and devices have none of these kinds.
                  With -L a link has the kind of what it leads to, and l is one that leads nowhere
   -x RULE        ignore what RULE names, as a line of an ignore file: -x target -x '*.o' -x '!a.o'.
-                 In a rule braces are literal, [^a] means [!a], and case counts even with -i
-                 A name that begins with ! or # has a \\ in front: -x '\\!a'
+                 In a rule braces are literal, [^a] means [!a], and case counts even with -i. Put a
+                 \\ in front of a name that begins with ! or #: -x '\\!a'
   --ignore FILE  ignore by the rules of FILE, relative to the start directory: --ignore rules.
                  See globs help ignore. Rules of -x override those of files
   --ignore-files NAME
@@ -92,7 +92,7 @@ globs help shows what a PATTERN may have: ?, *, **, brackets and braces.
                  top of its repository; by .git/info/exclude of the top after all others; and .git
                  itself. If these rules ignore the start, nothing is found, and a line names the
                  file. --ignore-files reads no file above the start
-  --max-depth N  write no path of more than N names. A directory of N names is not listed
+  --max-depth N  write no path of more than N names. A directory at depth N is not listed
   --utf8-only    skip names that are not UTF-8: they are not reported, and do not change the status
   --             ends the options. A pattern that begins with - needs it
 
@@ -132,7 +132,7 @@ Status:
   2         a fault, or one of these, although the rest is written: a directory that could not be
             listed, a path that could not be looked up, a name that is not UTF-8 (also an ignored
             one, unless --utf8-only is given), a link that leads back, a file of rules that could
-            not be read or has a refused line, or the limit
+            not be read or has a refused line, or a search that would take more than LIMIT units
 ";
 
 /// The page of `match`.
@@ -188,11 +188,11 @@ globs ignore: the paths of standard input that ignore files do not ignore
   --     end of options: a FILE after it may begin with -
 
 FILE has rules as in gitignore(5), one a line, for the paths below one directory. If several rules
-name a path, the last one decides, across files, too. A wildcard matches a character where git
+name a path, the last one decides, also across files. A wildcard matches a character where git
 takes a byte, and case counts. A line is refused if a bracket has an unknown class, such as
 [[:word:]], or a character beyond ASCII, or if ** before a / is not a whole component: src/a**/b.
 
-A path is the names from that directory on, with a / between them, as git ls-files -z writes them.
+A path has the names below that directory, with a / between them, as git ls-files -z writes them.
 A / at its end marks a directory. A ./ at its start is skipped; . and the empty path are copied.
 Other paths are matched as they are written: the rule a/b does not ignore a//b. A path that is not
 UTF-8 is left out, and a line on standard error says how many were. On the disk, only files of
