@@ -81,7 +81,7 @@ function walk(pattern, flags, limit, paths) {
   const at = Number(out[0]), said = decode(bytes().slice(at, at + number(count)));
   if (status === YES) return { lines: said.split("\n").filter(Boolean) };
   if (status === FAULT) return { wrong: `At character ${number(place)}: ${said}` };
-  if (status === 6) return { wrong: `This is no path of a tree: ${paths[number(place)]}` };
+  if (status === 6) return { wrong: `This is not a path of a tree: ${paths[number(place)]}` };
   return { wrong: TROUBLE[status] };
 }
 
@@ -207,15 +207,15 @@ function flags() {
 const HINTS = [
   [/\{[^}]*\}/, "{ and } stand for themselves. Use one pattern for each alternative: *.c and *.h in place of *.{c,h}."],
   [/\[!?\[:\w+:\]/, "There are no classes such as [:alpha:]. Write the ranges: [a-zA-Z], [0-9]."],
-  [/\\/, "A \\ stands for itself. A wildcard alone is written in brackets: [*], [?] or [[]."],
-  [/\[\^/, "^ stands for itself in brackets. All but some characters is [!abc]."],
+  [/\\/, "A \\ stands for itself. To match a wildcard character itself, put it in brackets: [*], [?] or [[]."],
+  [/\[\^/, "^ stands for itself in brackets. For any character except a, b and c write [!abc]."],
 ];
 
 // By the numbers of kinds of faults.
 const FAULTS = [
   "Write * for any characters of a name, and ** for any number of components.",
-  "** stands alone between separators. Write **/a*.rs for a*.rs at any depth, and a*.rs for names that begin with a.",
-  "A [ begins a bracket, as [abc]: one character or more, and then ]. A ] right after [ or [! is such a character. The character [ alone is written [[].",
+  "** has to be a whole component. Write **/a*.rs for a*.rs at any depth, and a*.rs for names that begin with a.",
+  "A [ begins a bracket, as [abc]: one character or more, and then ]. A ] right after [ or [! is such a character. A literal [ is written [[].",
 ];
 
 function drawPattern() {

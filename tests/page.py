@@ -192,7 +192,7 @@ def main():
     said, walked, refused = shown(browser, made, walks)
     count.same("answers to cases and to walks", (len(said), len(walked)), (CASES, len(walks)))
     place_of_fault, message = walk_fault(REFUSED_WALK)
-    wanted = [f"At character {place_of_fault}: {message}", f"This is no path of a tree: {NO_PATH}"]
+    wanted = [f"At character {place_of_fault}: {message}", f"This is not a path of a tree: {NO_PATH}"]
     count.same("why the page does not walk", refused, wanted)
     for case, found in zip(made, said):
         count.same(f"the page on {case}", found, expected(*case))

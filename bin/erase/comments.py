@@ -10,7 +10,7 @@ from .syntax import Parser
 
 # Phrases about memory, about asks that contracts count, and about what Rust's users do not have.
 SAID = re.compile(r"\b(alloc|[Aa]llocat\w*|AllocError|Memory|OutOfMemory|[Ff]ails only|succeeds)\b"
-    r"|\b(out of|no|their|takes) memory|the crate `glob|its `asks`|\[`MemTree`\]|a tree in memory|A call that fails\b|was not learned\b"
+    r"|\b(out of|no|their|takes) memory|the crate `glob|its `asks`|\[`MemTree`\]|a tree in memory|A call that fails\b"
     r"|\bhas no room\b")
 # How sentences begin that say what the error of a function is.
 OF_ERRORS = ("The error", "A pattern with a fault is refused", "[`io::Error`] is ", "What [`WalkMachine::new`]")

@@ -1,4 +1,5 @@
--- The variants of the library's enums, listed under the name of each enum.
+-- The variants of the library's enums, listed under the name of each enum. For callers and their proofs, as `Types` is.
+-- A new public enum of the library is added here.
 pub use Rattle.glob_lines.specs.declared.fault.LineFault.TheVariants as LineFault
 pub use Rattle.glob_pattern.specs.declared.error.PatternRefusal.TheVariants as PatternRefusal
 pub use Rattle.glob_pattern.specs.declared.matcher.Shape.TheVariants as Shape

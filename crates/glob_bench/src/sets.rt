@@ -1,4 +1,4 @@
-//! Times sets of patterns.
+//! Times sets of patterns: the commands `set` and `make` of `main.rt`.
 
 use crate::words::{lines_of, number_of, options_of, unusable, write_count};
 use glob_set::PatternSet;

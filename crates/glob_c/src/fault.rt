@@ -24,7 +24,7 @@ pub(crate) enum Refusal {
     NotUtf8,
 }
 
-/// An invalid pattern, or a failed allocation.
+/// Turns the refusal of a pattern into ours.
 impl From<PatternRefusal> for Refusal {
     ghost use Rattle.std.specs.Prelude.{◌≡◌};
     ghost use Rattle.glob_c.specs.Refusals.{refusal_of};

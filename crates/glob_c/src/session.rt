@@ -1,4 +1,5 @@
-//! A walk driven through C: its last step, and what the caller has answered since.
+//! A walk driven through C: its last step, and what the caller has answered since. Its numbers are also in
+//! `include/cadmiumdove.h`: change both.
 ghost use Rattle.std.specs.Prelude.{◌≡◌, ◌++◌, [], ◌∷◌, Bool, true, false, List, None, Some, IsSome, IsTrue, IsUtf8};
 ghost use Rattle.std.specs.IoError.{os_error_kind};
 ghost use Rattle.glob_tree.specs.Content.{Content, DirEntry};

@@ -1,4 +1,7 @@
-//! The pointer in a handle, and what it owns.
+//! The pointer in a handle, and what it owns. The layout is that of `at` in `include/cadmiumdove.h`.
+//!
+//! Bodies with raw pointers have proofs by hand (`proofs/SlotBoxes.antt`, `proofs/SlotValues.antt`): whoever changes a
+//! statement of such a body changes them, too.
 ghost use Rattle.std.specs.Prelude.{◌≡◌, ℕ, List, IsSome};
 ghost use Rattle.std.specs.declared.option.Option.{Option};
 ghost use Rattle.std.specs.declared.option.Option.TheVariants.{None, Some};

@@ -1,4 +1,5 @@
-//! Walks for C: the caller answers the questions of a walk.
+//! Walks for C: the caller answers the questions of a walk. The calls and their numbers are also in
+//! `include/cadmiumdove.h`: change both.
 ghost use Rattle.std.specs.Prelude.{◌≡◌, ◌≤◌, ◌<◌, ◌++◌, ◌∷◌, Bool, true, false, IsSome, IsTrue, IsUtf8, [], List, length, take, drop};
 ghost use Rattle.std.specs.IoError.{os_error_kind};
 ghost use Rattle.std.specs.declared.option.Option.TheVariants.{None, Some};

@@ -15,7 +15,7 @@ TakeFront o tokens text n k = PrefixSplits (table_of o tokens text) (map shape_o
 unfoldable pub Waits : MatchOptions → List Token → Text → (n k : ℕ) → Type 0
 Waits o tokens text n k = IsAlive (table_of o tokens text) (map shape_of tokens) n k
 
--- the last place up to which some number of first tokens take the text
+-- the farthest place that some number of first tokens reaches
 pub record IsFarthest (o : MatchOptions) (tokens : List Token) (text : Text) (place : ℕ) : Type 0 where
   pub within : place ≤ length text
   pub taken : (n : ℕ) × (n ≤ length tokens) × TakeFront o tokens text n place

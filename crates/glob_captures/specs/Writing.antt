@@ -15,7 +15,7 @@ AreAdjacent start (token ∷ tokens) end =
 abbrev pub byte_place : Text → (k : ℕ) → ℕ
 byte_place text k = length (encode_utf8_all (take k text))
 
--- the text from place f up to place e, in characters, is this one token: one unit, or neighbouring `**`
+-- this token is written from place f to place e, in characters: one unit, or neighbouring `**`
 abbrev pub TokenBetween : Text → ℕ → Token → ℕ → Type 0
 TokenBetween text f token e =
     (units : List Token) × UnitsBetween text f units e × (tokens_of_units units ≡ token ∷ [])

@@ -16,15 +16,15 @@ use std::alloc::{AllocError, Allocator, Global};
 /// How far a pattern got in a text.
 #[derive(Debug, Drop)]
 pub struct Reached<A: Allocator = Global> {
-    /// The last place, in bytes, up to which some number of first tokens take the text.
+    /// The farthest place, in bytes, that some number of first tokens reaches.
     pub place: usize,
     /// The numbers of the tokens that wait there for a character, ascending, counted from 0.
     pub waiting: Vec<usize, A>,
 }
 
-/// How far the pattern gets in the text: the last place, in bytes, up to which some number of its first tokens take the
-/// text, and the numbers of all tokens that wait for a character there. If the text does not match, this is where it
-/// fails, and what the pattern expected there.
+/// How far the pattern gets in the text: the farthest place, in bytes, that its first tokens can reach, however many of
+/// them that takes, and the numbers of all tokens that wait for a character there. If the text does not match, this is
+/// where it fails, and what the pattern expected there.
 ///
 /// For `*.rs` and `a.rc` the place is the end: `*` took all, and `*` and `.` wait. For `a[0-9]b` and `a1c` the place is
 /// 2, where token 2, the `b`, waits.
@@ -58,7 +58,7 @@ pub fn reach<A: Allocator + Copy, B: Allocator>(
     })
 }
 
-/// The last place up to which some number of first tokens take the text.
+/// The farthest place that some number of first tokens reaches.
 fn farthest<A: Allocator + Copy, B: Allocator>(
     alloc: A,
     pattern: &Pattern<B>,
@@ -121,7 +121,7 @@ fn waiting_at<A: Allocator + Copy, B: Allocator>(
     Ok(waiting)
 }
 
-/// The row for no tokens: they take the text up to its start and no further.
+/// The row for zero tokens, which reach only the start of the text.
 fn fronts_at_start<A: Allocator>(alloc: A, text: &[char]) -> Result<Vec<bool, A>, AllocError>
     ensures { IfOk result (λ places. (o : Options) (tokens : List Token)
         → AreFronts o tokens text.now 0 places.items) }

@@ -1,4 +1,4 @@
-//! From which places the last tokens take the rest of a text.
+//! For the last tokens of a pattern: the places from which they match all that is left of a text.
 ghost use Rattle.std.specs.Prelude.{◌≡◌, ◌+◌, ◌-◌, ◌<◌, ◌≤◌, length, IfOk, chars, List, ◌&&◌, ◌||◌, not};
 ghost use Rattle.glob_pattern.specs.Computing.Tokens.{tokens_of};
 ghost use Rattle.glob_text.specs.Text.{opens};

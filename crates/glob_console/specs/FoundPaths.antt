@@ -37,8 +37,8 @@ abbrev pub found_status : (wanted : Text → Bool) → List Item → ℕ
 found_status wanted is = if has_unread is then 2 else (if has_any (wanted_paths wanted is) then 0 else 1)
 
 -- The items that a walk with this limit gave, by how it ended: all items of the listing; the items before the first
--- unit of work that does not fit; or, if an allocation failed, the items of the units charged, perhaps without the
--- last.
+-- unit of work that does not fit; or, if an allocation failed, the items that come with the charged units, of which the
+-- last may be missing.
 abbrev pub GaveItems : (listing : List Mark) → (limit : ℕ) → End → List Item → Type 0
 GaveItems ms limit end.Done given = (cost ms ≤ limit) × (given ≡ items ms)
 GaveItems ms limit end.Limit given = (limit < cost ms) × (given ≡ items (front limit ms))

@@ -27,7 +27,7 @@ struct Row<'a> {
     rules: &'a str,
     /// The names of files with rules.
     rule_files: &'a str,
-    /// The texts of these files, with `;` between.
+    /// The texts of these files, with `;` between. `!!` is a file that cannot be read.
     texts: &'a str,
     found: &'a str,
     /// How often directories are listed, and paths looked up.

@@ -1,4 +1,5 @@
-//! The patterns without a key that may match a text, listed by the class of the text's last two bytes.
+//! The patterns without a key that may match a text, listed by the class of the text's last two bytes: a number below
+//! 128 that `pair_class` makes of them. `rarest` says which patterns have keys.
 ghost use Rattle.std.specs.Prelude.{◌≡◌, ◌<◌, ◌++◌, ◌∷◌, [], length, replicate, slice_index_or, None, IfOk, IfSome, OnOk, All};
 ghost use Rattle.glob_set.specs.Private.Buckets.{AreBuckets, IsAll, with_another, with_number};
 ghost use Rattle.glob_set.specs.Private.Keyed.{few_or_many};
@@ -9,7 +10,7 @@ use crate::pairs::Need;
 use std::alloc::{AllocError, Allocator, Global};
 use std::marker::Model;
 
-/// The number of classes.
+/// The number of classes: each is a bit of a `u128` (`class_bit`), so there cannot be more.
 const CLASSES: usize = 128;
 
 /// Numbers of patterns, in ascending order.

@@ -39,6 +39,10 @@ pub record Content : Type 0 where
   pub kinds : List (Key × Kind)
   pub current : Key
 
+-- where a path starts: at the root if it begins with a separator, and otherwise in the current directory
+abbrev pub origin : Content → Text → Key
+origin c path = if begins_with slash path then [] else c.current
+
 unfoldable pub kind_at : Content → Key → Option Kind
 kind_at c k = option_map (λ e. e.1) (find (λ e. same_key k e.0) c.kinds)
 
@@ -84,10 +88,6 @@ step c piece k =
 -- where pieces lead, one after another
 abbrev pub steps : Content → Option Key → List Text → Option Key
 steps c k ps = fold (λ at piece. option_and_then (step c piece) at) k ps
-
--- where a path starts: at the root if it begins with a separator, and otherwise in the current directory
-abbrev pub origin : Content → Text → Key
-origin c path = if begins_with slash path then [] else c.current
 
 -- where a path leads; the empty path leads nowhere
 unfoldable pub resolve : Content → Text → Option Key

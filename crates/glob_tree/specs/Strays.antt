@@ -20,6 +20,6 @@ strays_of names = filter (λ name. not (is_utf8 name)) names
 abbrev pub AreReceived : (strays : List Text) → (old new : Option (List Text)) → Type 0
 AreReceived strays old new = (more : List Text) × (new ≡ and_then old more) × IsPermutation strays more
 
--- nothing more was received, or something was
+-- what was received before is still there, with perhaps more after it
 abbrev pub Grows : (old new : Option (List Text)) → Type 0
 Grows old new = (more : List Text) × (new ≡ and_then old more)

@@ -12,7 +12,7 @@ tree_refusal_words Taken = codes "path already exists"
 tree_refusal_words NoDirectory = codes "not a directory"
 tree_refusal_words Memory = codes "out of memory"
 
--- nothing is promised for an I/O error
+-- the message of a listing's error; `None` for an I/O error, whose text is not promised
 abbrev pub list_error_words : ListError → Option (List ℕ)
 list_error_words (list_error.Read e) = None
 list_error_words list_error.Memory = Some (codes "out of memory")

@@ -1,4 +1,5 @@
-//! Tests for what no table covers: folders that are removed, printed texts, and the callers that the pages quote.
+//! Tests for what no table covers: walks over a folder that is removed meanwhile, printed texts, and the callers that
+//! the pages quote.
 mod disk_walks;
 mod examples;
 mod printing;

@@ -43,8 +43,9 @@ is_plain pattern = is_none (walk_fault pattern) && are_plain false (components p
 abbrev pub text_below : (pattern : Text) → Key → Text
 text_below pattern names = if begins_with slash pattern then slash ∷ join_with_byte slash names else join_with_byte slash names
 
--- The whole pattern, without a separator at its end, matches the text: case-sensitively, with the separator rule, and
--- with the walk's dot rule.
+-- The whole pattern, without a separator at its end, matches the text: with the separator rule, with the walk's dot
+-- rule, and case-sensitively even if the walk is not. In a case-insensitive walk a component `D` takes only `D`, while
+-- `[D]` also takes `d`. No single match says both, so the clauses about the goal are for case-sensitive walks.
 abbrev pub matches_undivided : MatchOptions → (pattern text : Text) → Bool
 matches_undivided o pattern text =
     is_match (record o { case_sensitive = true; require_literal_separator = true })
@@ -75,6 +76,26 @@ wanted_texts c pattern is_wanted =
 unfoldable pub goal : Content → MatchOptions → (pattern : Text) → List Text
 goal c o pattern = wanted_texts c pattern (λ names. matches_undivided o pattern (text_below pattern names))
 
+abbrev pub is_shut : Kind → Bool
+is_shut Dir = false
+is_shut (Shut kind) = true
+is_shut Other = false
+
+-- neither the start nor a key below it is a directory that cannot be listed
+unfoldable pub is_readable : Content → (pattern : Text) → Bool
+is_readable c pattern = list_all (λ e. not (is_shut e.1) || is_none (names_past (origin c pattern) e.0)) c.kinds
+
+-- no item is an error, and the paths are exactly the wanted texts
+pub record GivesTexts (wanted : List Text) (given : List Item) : Type 0 where
+  pub readable : (path : Text) (kind : ErrorKind) → ¬ (Contains given (Unread path kind))
+  pub exact : (text : Text) → Contains (paths given) text ↔ Contains wanted text
+
+-- Case-sensitively, if a walk over a readable content is done, no item is an error, and the paths are exactly the goal.
+unfoldable pub FindsExactly : {A : Type 0} → (known : Option Content) → MatchOptions → (pattern : Text) → End → Answers A → Type 0
+FindsExactly known o pattern end answers =
+    (c : Content) (is : List Item) → IsTold known c → AreItems answers is → IsTrue (is_plain pattern)
+    → IsTrue o.case_sensitive → IsTrue (is_readable c pattern) → end ≡ Done → GivesTexts (goal c o pattern) is
+
 -- A component takes a name: a literal component takes only the name equal to it, unless it is right after `**`; any
 -- other component takes each name that it matches.
 abbrev pub walk_takes_name : MatchOptions → (after_recursive : Bool) → (component name : Text) → Bool
@@ -96,15 +117,6 @@ walk_takes o after (t ∷ ts) (n ∷ ns) =
 unfoldable pub taken_goal : Content → MatchOptions → (pattern : Text) → List Text
 taken_goal c o pattern = wanted_texts c pattern (walk_takes o false (components pattern))
 
-abbrev pub is_shut : Kind → Bool
-is_shut Dir = false
-is_shut (Shut kind) = true
-is_shut Other = false
-
--- neither the start nor a key below it is a directory that cannot be listed
-unfoldable pub is_readable : Content → (pattern : Text) → Bool
-is_readable c pattern = list_all (λ e. not (is_shut e.1) || is_none (names_past (origin c pattern) e.0)) c.kinds
-
 -- The text of a key below a directory that cannot be listed and that an error item reports: `names` lead to the key
 -- from the start, `above` is the key of the directory, and `below` leads on from there.
 pub record IsHidden (c : Content) (pattern : Text) (given : List Item) (text : Text) : Type 0 where
@@ -125,11 +137,6 @@ pub record ReachesTexts (c : Content) (pattern : Text) (wanted : List Text) (IsW
   pub sound : (text : Text) → Contains (paths given) text → Contains wanted text
   pub complete : IsWhole → (text : Text) → Contains wanted text
       → Contains (paths given) text ⊎ IsHidden c pattern given text
-
--- no item is an error, and the paths are exactly the wanted texts
-pub record GivesTexts (wanted : List Text) (given : List Item) : Type 0 where
-  pub readable : (path : Text) (kind : ErrorKind) → ¬ (Contains given (Unread path kind))
-  pub exact : (text : Text) → Contains (paths given) text ↔ Contains wanted text
 
 -- the components after the first place with `**`; `**/**` is one place
 abbrev pub after_first_recursive : List Text → List Text
@@ -159,12 +166,6 @@ unfoldable pub FindsGoal : {A : Type 0} → (known : Option Content) → MatchOp
 FindsGoal known o pattern end answers =
     (c : Content) (is : List Item) → IsTold known c → AreItems answers is → IsTrue (is_plain pattern)
     → IsTrue o.case_sensitive → ReachesTexts c pattern (goal c o pattern) (end ≡ Done) is
-
--- Case-sensitively, if a walk over a readable content is done, no item is an error, and the paths are exactly the goal.
-unfoldable pub FindsExactly : {A : Type 0} → (known : Option Content) → MatchOptions → (pattern : Text) → End → Answers A → Type 0
-FindsExactly known o pattern end answers =
-    (c : Content) (is : List Item) → IsTold known c → AreItems answers is → IsTrue (is_plain pattern)
-    → IsTrue o.case_sensitive → IsTrue (is_readable c pattern) → end ≡ Done → GivesTexts (goal c o pattern) is
 
 -- Case-sensitively or not, the components take the names of each path, and the paths come once and in order as far as
 -- the places of `**` allow. If the walk is done, each key whose names the components take is a path or is hidden, and

@@ -39,12 +39,14 @@ pub data Mark : Type 0 where
 abbrev pub Next : Type 0
 Next = Text → Bool → List Mark
 
--- Looks the path up. If that counts as found, `next` says what follows.
+-- Looks the path up. If `is_found`, `next` says what follows. It is `true`, whatever is there, for the start (in a
+-- well-formed content a directory) and for special names.
 abbrev pub look_up : Content → (is_found : Bool) → (next : Next) → Text → List Mark
 look_up c is_found next path =
     Work path ∷ (if is_found then next path (unwrap_or (option_map is_dir (kind_found c path)) false) else [])
 
--- A literal component is looked up by name, whatever the options. `.` and `..` are there exactly in a directory.
+-- A literal component is looked up by name, whatever the options, also below a file. `.` and `..` are there exactly in
+-- a directory.
 abbrev pub by_name : Content → (next : Next) → (component path : Text) → Bool → List Mark
 by_name c next component path d =
     let is_there = is_some (kind_found c (child path component)) in
@@ -66,7 +68,8 @@ list_directory c path before each = Work path ∷ after_listing path before each
 abbrev pub match_at : MatchOptions → (next : Next) → (component path name : Text) → Bool → List Mark
 match_at o next component path name d = if matches_name o component name then next path d else []
 
--- looks up first `..` and then `.` in a directory, if the component begins with a dot and matches that name
+-- Looks up first `..` and then `.` in a directory, if the component begins with a dot and matches that name, since no
+-- listing has them: `.*` gives `./..` and `./.`.
 abbrev pub special_names : Content → MatchOptions → (next : Next) → (component path : Text) → List Mark
 special_names c o next component path =
     if not (begins_with dot component) then [] else flat_map
@@ -77,7 +80,7 @@ abbrev pub by_match : Content → MatchOptions → (next : Next) → (component 
 by_match c o next component path =
     list_directory c path (special_names c o next component path) (λ name d. match_at o next component (child path name) name d)
 
--- `**` enters the entry: a directory whose name the dot rule lets it take
+-- `**` enters the entry, and gives it if it is the last component: a directory whose name the dot rule lets it take
 abbrev pub is_entered : MatchOptions → (name : Text) → Bool → Bool
 is_entered o name d = d && is_open o name
 
@@ -89,7 +92,8 @@ descent c o each (suc n) path =
     list_directory c path [] (λ name d.
     each (child path name) name d ++ (if is_entered o name d then descent c o each n (child path name) else []))
 
--- one level more than the longest key has names, so a descent meets each key below it
+-- One level more than the longest key has names, so a descent meets each key below it. To terminate, `descent` counts
+-- them down; more of them change nothing (the law `enough_levels_give_the_same_marks`).
 abbrev pub levels : Content → ℕ
 levels c = suc (fold (λ n e. max n (length e.0)) 0 c.kinds)
 

@@ -179,11 +179,11 @@ habit_words word =
     else (if is_one_of word (codes "-v" ∷ codes "-V" ∷ codes "version" ∷ [])
     then codes "; use globs --version" else guess_words word))))
 
--- instead of any word where texts are taken that may begin with a hyphen
+-- what to write instead of any word where texts are taken that may begin with a hyphen
 abbrev pub text_words : Text
 text_words = codes "; write -- first if a text begins with -"
 
--- instead of an option that a command does not have
+-- what to write instead of an option that the command does not have
 abbrev pub foreign_words : Name → (word : Text) → Text
 foreign_words Find word = find_pattern_words (option_part word)
 foreign_words Match word = match_words (option_part word)

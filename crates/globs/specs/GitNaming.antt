@@ -25,8 +25,8 @@ text_at known path = unwrap_or (known path) []
 abbrev pub place_from : (known : Text → Option Text) → (path : Text) → (line : ℕ) → Place
 place_from known path line = place_at (file_of path (text_at known path)) line
 
--- The place of a rule, by where its list is from. The first list ignores each `.git`, and the option stands for its file;
--- the next one has the lines of the files of the command line.
+-- The place of a rule, by where its list is from. A rule of the first list, which ignores each `.git`, has the place
+-- `--git`, since no file has it. The next list has the lines of the files of the command line.
 abbrev pub place_by : GitRules → List naming.File → Origin → (line : ℕ) → Place
 place_by r files (First index) line =
     if index == 0 then place_at (file_of (codes "--git") (codes ".git")) line else place_in files line

@@ -1,4 +1,5 @@
-//! What to write instead of the options and commands of other tools, as lines about wrong words say.
+//! What to write instead of the options and commands of other tools, as lines about wrong words say. Each text follows
+//! the reason in `usage.rt`, so it begins with `; `.
 ghost use Rattle.std.specs.Prelude.{◌≡◌};
 ghost use Rattle.globs.specs.Foreign.{find_output_words, find_pattern_words, find_rule_words, first_words, guess_words};
 ghost use Rattle.globs.specs.Foreign.{foreign_words, habit_words, ignore_words, joined_words, match_words};

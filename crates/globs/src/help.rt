@@ -71,39 +71,39 @@ globs help shows what a PATTERN may have: ?, *, **, brackets and braces.
   -C DIR         search below DIR: patterns, rules and paths are relative to it, but FILE is not
   --directory DIR
                  the same as -C DIR
-  -L             treat a symbolic link to a directory as that directory, and enter it. A link to a
-                 directory on its own path, from the start on, is reported, and not entered.
-                 Without -L nothing is below a link: link/a is not found
+  -L             treat a symbolic link to a directory as that directory, and enter it. A link that
+                 leads back to a directory on the way from the start to it is reported, and not
+                 entered. Without -L nothing is below a link: link/a is not found
   -n LIMIT       the search spends at most LIMIT units: one for each lookup, listing, entry and file
-                 of rules. Where it takes more, paths may be missing, and a line says so
+                 of rules. If it would take more, paths may be missing, and a line says so
   -t KIND        write only paths of this kind: f is a regular file, d a directory, and l a symbolic
                  link. -t f -t l writes both. Pipes, sockets and devices have none of these kinds.
                  With -L a link has the kind of what it leads to, and l is one that leads nowhere
   -x RULE        ignore what RULE names, as a line of an ignore file: -x target -x '*.o' -x '!a.o'.
-                 In a rule braces are literal, [^a] means [!a], and case counts even with -i
-                 A name that begins with ! or # has a \\ in front: -x '\\!a'
+                 In a rule braces are literal, [^a] means [!a], and case counts even with -i. Put a
+                 \\ in front of a name that begins with ! or #: -x '\\!a'
   --ignore FILE  ignore by the rules of FILE, relative to the start directory: --ignore rules.
                  See globs help ignore. Rules of -x override those of files
   --ignore-files NAME
                  ignore by the rules of each file called NAME, for the paths below its directory:
                  --ignore-files .gitignore --ignore-files .ignore. Deeper files override others,
                  and in one directory a later NAME overrides an earlier one
-  --git          ignore what git does: by each .gitignore, also those above the start up to the top
-                 of its repository; by .git/info/exclude of the top after all others; and .git
+  --git          ignore what git ignores: by each .gitignore, also those above the start up to the
+                 top of its repository; by .git/info/exclude of the top after all others; and .git
                  itself. If these rules ignore the start, nothing is found, and a line names the
                  file. --ignore-files reads no file above the start
-  --max-depth N  write no path of more than N names. A directory of N names is not listed
-  --utf8-only    pass over names that are not UTF-8: none is reported, and the status stays as it is
+  --max-depth N  write no path of more than N names. A directory at depth N is not listed
+  --utf8-only    skip names that are not UTF-8: they are not reported, and do not change the status
   --             ends the options. A pattern that begins with - needs it
 
 A pattern matches a whole path, such as src/main.rs. No ?, * or bracket matches a /: '*.rs' finds
-names here, and '**/*.rs' also those below. Refused are a / at the end, a bracket with a / in it,
-and components that are empty, . or .., except at the start. A line says what to write instead.
+names here, and '**/*.rs' also those below. A / at the end, a bracket with a / in it and, except at
+the start, components that are empty, . or .. are refused. A line says what to write instead.
 
 A pattern that begins with /, ./ or ../ is searched for from that place, and its paths begin like
-it: '/usr/*' writes /usr/bin, and '../*.c' writes ../x.c, where .. is the one above DIR. Rules, NAME
-and N are then relative to that place. Several places are searched one after another, in the order
-of their first patterns.
+it: '/usr/*' writes /usr/bin, and '../*.c' writes ../x.c, where .. is the directory above DIR.
+Rules, NAME and N are then relative to that place. Several places are searched one after another,
+in the order of their first patterns.
 
 Nothing is skipped by default: names with a leading . (see -d), what .gitignore names (see --git)
 and .git (see -x) are found, too. Rules of -x and --ignore override those of --ignore-files and
@@ -112,7 +112,7 @@ a line says so, and the search goes on with all other rules.
 
 From each place, a path that a pattern matches is written once, in ascending byte order of names.
 A directory is listed only where something in it may still be found: 'src/*.c' 'lib/**' lists src,
-lib and what is below lib, and src/main.c nothing. What is ignored is never listed.
+lib and what is below lib, and src/main.c lists no directory. What is ignored is never listed.
 
 Hints on standard error say where a word was perhaps meant otherwise, as in another tool. They do
 not change the status. There are hints about
@@ -132,7 +132,7 @@ Status:
   2         a fault, or one of these, although the rest is written: a directory that could not be
             listed, a path that could not be looked up, a name that is not UTF-8 (also an ignored
             one, unless --utf8-only is given), a link that leads back, a file of rules that could
-            not be read or has a refused line, or the limit
+            not be read or has a refused line, or a search that would take more than LIMIT units
 ";
 
 /// The page of `match`.
@@ -150,7 +150,7 @@ globs help shows what a PATTERN may have: ?, *, **, brackets and braces.
   -v  copy the lines that no pattern matches
   --  end of options: a pattern after it may begin with -
 
-A line is copied if one of the patterns matches all of it, and before more input is read. A line
+A line that one of the patterns matches completely is copied, before more input is read. A line
 feed ends a line; the last line may lack it. A carriage return belongs to its line. No pattern
 matches a line that is not UTF-8. No file is opened: write globs match '*.rs' <FILE.
 
@@ -181,18 +181,18 @@ globs ignore: the paths of standard input that ignore files do not ignore
          as git check-ignore -v does, or with -0 FILE, LINE, RULE and PATH, each with a NUL. LINE
          counts from 1 in FILE. A rule with a ! decides, too. Paths that no rule names are not
          written
-  --git  ignore what git does in the current directory: by the .gitignore of each directory on the
-         way to a path, also of those above, up to the top of the repository; by .git/info/exclude
-         of the top after all others; and .git itself, for which -v writes --git:1:.git. Rules of
-         a FILE override these. Tracked files are ignored, too
+  --git  ignore what git ignores in the current directory: by the .gitignore of each directory on
+         the way to a path, also of those above, up to the top of the repository; by
+         .git/info/exclude of the top after all others; and .git itself, for which -v writes
+         --git:1:.git. Rules of a FILE override these. Tracked files are ignored, too
   --     end of options: a FILE after it may begin with -
 
 FILE has rules as in gitignore(5), one a line, for the paths below one directory. If several rules
-name a path, the last one decides, across files, too. A wildcard matches a character where git
+name a path, the last one decides, also across files. A wildcard matches a character where git
 takes a byte, and case counts. A line is refused if a bracket has an unknown class, such as
 [[:word:]], or a character beyond ASCII, or if ** before a / is not a whole component: src/a**/b.
 
-A path is the names from that directory on, with a / between them, as git ls-files -z writes them.
+A path has the names below that directory, with a / between them, as git ls-files -z writes them.
 A / at its end marks a directory. A ./ at its start is skipped; . and the empty path are copied.
 Other paths are matched as they are written: the rule a/b does not ignore a//b. A path that is not
 UTF-8 is left out, and a line on standard error says how many were. On the disk, only files of
@@ -209,7 +209,8 @@ carriage return belongs to its line.
 Hints on standard error do not change the status. There are hints about
 
   * standard input, if it is a terminal
-  * a FILE that cannot be read, or that looks like a path while no path came: paths are no operands
+  * a FILE that cannot be read, or that looks like a path while no path came: paths come from
+    standard input, not as operands
   * -0, if the first path has a NUL
 
 Status:
@@ -244,7 +245,7 @@ Otherwise a caret is under the character of TEXT where the match stops. The line
   * what is wanted there
   * whether TEXT or the pattern ends in white space
   * which brackets list nothing, and which forms of shells and other tools mean nothing here
-  * whether TEXT is a pattern that matches PATTERN, so that the two are swapped
+  * whether the two may be swapped: TEXT, as a pattern, matches PATTERN
   * which single change gives a match
   * what to write instead of a form of another tool or a regular expression; if that does not match
     TEXT, the line says so
@@ -257,9 +258,9 @@ a/b.rs.
 Status:
   0         the pattern matches TEXT, as globs match would
   1         it does not match
-  2         a fault. After that of a refused pattern come the pattern, a caret at the place, and
-            what to write instead. It is also a fault if the wildcards, brackets and characters
-            of the pattern, times the bytes of TEXT, are more than 67,108,864
+  2         a fault. For a refused pattern, its fault is followed by the pattern, a caret and what
+            to write instead. It is also a fault if the number of wildcards, brackets and characters
+            of the pattern, times the bytes of TEXT, exceeds 67,108,864
 ";
 
 /// The page of `escape`.

@@ -1,4 +1,4 @@
-//! Makes an ignore list from files and single rules.
+//! Makes an ignore list from files and single rules, for `find` (`--ignore`, `-x`) and `ignore` (FILE).
 ghost use Rattle.std.specs.Prelude.{◌≡◌, ◌++◌, List, IfOk, IfErr, OnOk, map, string_bytes};
 ghost use Rattle.glob_lines.specs.Lines.{line_feed, with_ends};
 ghost use Rattle.glob_rules.specs.Lists.{AreTaken, RefusesText, rules_of};
@@ -248,7 +248,7 @@ fn refusal_of<'a, A: Allocator>(
     RulesFault::Refused("", left, reason)
 }
 
-/// How many lines a text has, counting one after its last line feed, even if it is empty.
+/// How many lines a text has. What follows its last line feed is a line, too, even if it is empty.
 fn line_count(text: &str) -> usize {
     let mut count = 1usize;
     for byte in text.bytes() {

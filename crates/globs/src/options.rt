@@ -53,7 +53,7 @@ pub struct Settings {
     pub inverts: bool,
     /// Whether to name the rule that decides about each path, rather than copy the paths that are not ignored.
     pub names_rules: bool,
-    /// How many units the walk may spend.
+    /// How many units the search may spend.
     pub limit: u64,
     /// How many names a path may have.
     pub depth: Option<u64>,

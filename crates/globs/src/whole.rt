@@ -1,4 +1,5 @@
-//! Lines about a pattern that matches no line.
+//! Hints of `globs match`, which `matching.rt` writes if its only pattern matched no line or a word is refused. No
+//! clause says when; `tests/rows/match.txt` has the texts.
 ghost use Rattle.std.specs.Prelude.{◌≡◌, ◌++◌, Some, codes};
 ghost use Rattle.globs.specs.Faults.{quoted};
 ghost use Rattle.globs.specs.Visible.{visible};
@@ -18,7 +19,8 @@ use std::io::Write;
 /// The characters that are special here or in another tool.
 const SPECIAL: &str = "*?[]{}\\|^$()!~";
 
-/// Writes what to write instead of the first refused word, if it has a `**` that is not a whole component.
+/// Writes what to write instead of the first refused word, if it has a `**` that is not a whole component. Writes
+/// nothing if that word or an earlier one has a `{`.
 pub fn note_invalid<A: Allocator + Copy, E: Write>(
     alloc: A,
     options: MatchOptions,
@@ -36,8 +38,8 @@ pub fn note_invalid<A: Allocator + Copy, E: Write>(
     }
 }
 
-/// Writes what the only pattern of a command that found no line was probably meant to say: the ends of the lines, whose
-/// first is given, quotes, syntax of another tool, or a text that lines contain.
+/// If the only pattern matched no line, says why: the ends of the first line, quotes, syntax of another tool, or a
+/// pattern that is only part of a line.
 pub fn note_unmatched<A: Allocator + Copy, E: Write>(
     alloc: A,
     first: &FirstRecord,

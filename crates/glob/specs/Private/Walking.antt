@@ -16,7 +16,7 @@ pub record IsDriven {X : Type 0} {P : Progress} (tells : X → Option Content) (
   pub gave : (c : Content) → IsTold (tells tree) c → machine.over ≡ false
       → (given : List Item) × HasGiven (listing_of c machine.aim) c given machine
 
--- A whole walk, from its start: its items, its units and questions, and the tree.
+-- What a whole walk leaves: its items, what it spent and asked, and the tree.
 pub record EndsAs {X A : Type 0} {P : Progress} (asks : X → ℕ) (tells : X → Option Content) (first : Walking X P) (e : End) (spent : ℕ)
     (answers : List (Result (PathBuf A) (GlobError A))) (tree : X) : Type 0 where
   pub within : spent ≤ first.machine.limit

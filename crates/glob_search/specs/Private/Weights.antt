@@ -43,7 +43,7 @@ work_stock (Read n) = 0
 work_stock (Meet e) = 1
 work_stock (Leave n) = 0
 
--- a last fault may come, until the search has ended
+-- 1 for the last fault, which may still come, or 0 once the search has ended
 abbrev pub last_left : {A : Type 0} → Option (Opening A) → List (Frame A) → ℕ
 last_left (Some o) fs = 1
 last_left None [] = 0

@@ -32,12 +32,14 @@ pub struct Question<'a> {
     pub text: &'a str,
 }
 
-/// The patterns with the options of `match`; and the rests of the patterns with the lead of the text, with the options
-/// of `find` and with the options of `match`.
+/// The sets of patterns that decide what the first line says.
 #[derive(Drop)]
 pub struct Sets<A: Allocator> {
+    /// The patterns, under the options of `match`.
     pub matching: PatternSet<A>,
+    /// What follows the text's lead in the patterns that have that lead, under the options of `find`.
     pub finding: PatternSet<A>,
+    /// The same, under the options of `match`.
     pub parting: PatternSet<A>,
 }
 

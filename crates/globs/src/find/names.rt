@@ -22,7 +22,7 @@ impl Wanted<'_> {
     }
 }
 
-/// The least name that is looked for, in the directory with this path.
+/// Of the names in this directory that fit, the first in byte order.
 pub fn least_name<P: Places>(
     alloc: P::Alloc,
     places: &P,
@@ -49,7 +49,7 @@ pub fn least_name<P: Places>(
     String::from_str(alloc, entry.name.as_str()).ok()
 }
 
-/// Whether a name comes before that of the entry of this number. True without a number.
+/// Whether a name comes before that of this entry; true if there is no entry yet.
 fn is_before<A: Allocator>(name: &str, entries: &[Entry<A>], number: Option<usize>) -> bool {
     match number {
         Some(number) => entries

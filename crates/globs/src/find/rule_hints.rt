@@ -69,7 +69,8 @@ fn write_rule<W: fmt::Write>(f: &mut fmt::Formatter<W>, rule: &str, words: &str)
     write!(f, "-x {rule} {words}")
 }
 
-/// Reports why rules could not be read, and that --ignore takes no rule. Returns the status of a fault.
+/// Reports why rules could not be read and, if the file's name has wildcards, that --ignore takes a file and not a
+/// rule. Returns the status of a fault.
 pub fn report_rules<A: Allocator + Copy, E: Write>(
     fault: RulesFault<'_>,
     errors: &mut ErrorLines<'_, A, E>,
