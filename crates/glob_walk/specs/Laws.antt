@@ -6,7 +6,8 @@ use Rattle.std.specs.List.{list_all}
 use Rattle.glob_text.specs.Text.{Text}
 use Rattle.glob_tree.specs.Paths.{is_proper}
 use Rattle.glob_tree.specs.Content.{Content, Key, DirEntry, is_content, is_dir_at, is_before, resolve, sorted_entries}
-use Rattle.glob_walk.specs.Components.{begins_recursive, components, is_recursive}
+use Rattle.glob_pattern.specs.Matching.Components.{takes_names}
+use Rattle.glob_walk.specs.Components.{begins_recursive, components, is_recursive, matches_name}
 use Rattle.glob_walk.specs.Walks.{Mark, Item, items, cost, paths, IsBeginning, descent, levels, listing}
 use Rattle.glob_walk.specs.Goal.{is_plain, matches_undivided, text_below, is_readable, goal, taken_goal, walk_takes}
 use Rattle.glob_walk.specs.Goal.{ReachesTexts, GivesTexts, IsOrderly}
@@ -34,6 +35,13 @@ PlainMatchesLevels =
     (o : MatchOptions) (pattern : Text) → IsUtf8 pattern → IsTrue (is_plain pattern) → IsTrue o.case_sensitive
     → (n : Text) (ns : List Text) → IsTrue (are_names (n ∷ ns))
     → matches_undivided o pattern (text_below pattern (n ∷ ns)) ≡ walk_takes o false (components pattern) (n ∷ ns)
+
+-- the same with a match for each name, also where a walk looks a literal component up
+abbrev pub PlainMatchesNames : Type 0
+PlainMatchesNames =
+    (o : MatchOptions) (pattern : Text) → IsUtf8 pattern → IsTrue (is_plain pattern) → IsTrue o.case_sensitive
+    → (n : Text) (ns : List Text) → IsTrue (are_names (n ∷ ns))
+    → matches_undivided o pattern (text_below pattern (n ∷ ns)) ≡ takes_names o (matches_name o) (components pattern) (n ∷ ns)
 
 -- in a case-sensitive plain walk, each path in a prefix of the items is a goal, and all items together reach the goal
 abbrev pub SensitiveWalkReaches : Type 0

@@ -1,8 +1,8 @@
 -- The goal of a plain walk: the texts of the keys below its start whose names the components take.
-use Rattle.std.proofs.Common.{◌≡◌, ◌<◌, ⊎_elim, Bool, true, false, cond, ◌&&◌, ◌==◌, List, [], ◌∷◌, ◌++◌, length, Some}
+use Rattle.std.proofs.Common.{◌≡◌, ◌<◌, Bool, true, false, cond, ◌&&◌, ◌==◌, List, [], ◌∷◌, ◌++◌, length, Some}
 use Rattle.std.proofs.Common.{None, refl, sym, ap, ◌∙◌, arith}
 use Rattle.std.specs.Prelude.{Contains, option_and_then}
-use Rattle.std.proofs.lemmas.Bool.{both_ways, and_parts, and_from, cond-true, cases_Bool}
+use Rattle.std.proofs.lemmas.Bool.{and_parts, and_from, cond-true}
 use Rattle.std.proofs.lemmas.List.Splits.{length-slice_split}
 use Rattle.std.proofs.lemmas.Option.{none-some, same_Some, option_and_then_some}
 use Rattle.glob_text.specs.Text.{Text}
@@ -13,7 +13,7 @@ use Rattle.glob_tree.specs.declared.kind.Kind.{Kind}
 use Rattle.glob_tree.proofs.ContentLemmas.Membership.{Contains-filter_map, filter_map-contains}
 use Rattle.glob_tree.proofs.ContentLemmas.Contents.{IsContent, IsContent-from_test, contains_kind_at, kind_at-entry}
 use Rattle.glob_tree.proofs.ContentLemmas.Contents.{names_past-append, names_past_is}
-use Rattle.glob_walk.specs.Components.{without_root, without_end_separator, components, is_recursive}
+use Rattle.glob_walk.specs.Components.{without_root, without_end_separator, components}
 use Rattle.glob_walk.specs.Goal.{text_below, matches_kind, wanted_text, taken_goal, walk_takes}
 use Rattle.glob_walk.specs.Laws.{are_names, IsPlainWalk}
 use Rattle.glob_pattern.specs.declared.options.MatchOptions.{MatchOptions}

@@ -114,15 +114,21 @@ all_utf8 : (ts : List Text) → AllUtf8 ts → list_all is_utf8 ts ≡ true
 all_utf8 [] all = refl
 all_utf8 (t ∷ ts) all = and_from (is_utf8 t) (list_all is_utf8 ts) (is_utf8-from_IsUtf8 t all.0) (all_utf8 ts all.1)
 
--- the pattern matches the text of names exactly when its components take them
+-- the pattern matches the text of names exactly when its components match them
+pub plain_matches_names : (o : MatchOptions) (pattern : Text) → IsUtf8 pattern → is_plain pattern ≡ true
+    → o.case_sensitive ≡ true → (n : Text) (ns : Key) → are_names (n ∷ ns) ≡ true
+    → matches_undivided o pattern (text_below pattern (n ∷ ns)) ≡ takes_names o (matches_name o) (components pattern) (n ∷ ns)
+plain_matches_names o pattern utf8 plain case n ns h =
+    undivided_takes o case pattern utf8 plain n ns (AllUtf8-from (n ∷ ns) h) (flat-from (n ∷ ns) (AreNames-from (n ∷ ns) h))
+
+-- and exactly when they take them
 pub plain_matches_levels : (o : MatchOptions) (pattern : Text) → IsUtf8 pattern → is_plain pattern ≡ true
     → o.case_sensitive ≡ true → (n : Text) (ns : Key) → are_names (n ∷ ns) ≡ true
     → matches_undivided o pattern (text_below pattern (n ∷ ns)) ≡ walk_takes o false (components pattern) (n ∷ ns)
 plain_matches_levels o pattern utf8 plain case n ns h =
-    let names : AllUtf8 (n ∷ ns) = AllUtf8-from (n ∷ ns) h in
-    undivided_takes o case pattern utf8 plain n ns names (flat-from (n ∷ ns) (AreNames-from (n ∷ ns) h))
+    plain_matches_names o pattern utf8 plain case n ns h
     ∙ sym (takes_same o case false (components pattern) (all_utf8 (components pattern) (components-utf8 pattern utf8))
-    (n ∷ ns) (all_utf8 (n ∷ ns) names))
+    (n ∷ ns) (all_utf8 (n ∷ ns) (AllUtf8-from (n ∷ ns) h)))
 
 module _ (o : MatchOptions) (pattern : Text) where
   abbrev taken_text : Kind → Key → Option Text

@@ -1,15 +1,16 @@
 //! Laws of walks: each is the contract of a function that does nothing.
 ghost use Rattle.glob_walk.specs.Driven.{DrivesListing};
 ghost use Rattle.glob_walk.specs.Private.Walkers.{Walk};
-ghost use Rattle.glob_walk.specs.Laws.{EnoughLevelsAgree, EntriesAscend, TakenGoalIsGoal, PlainWalkCosts, TakenWalkGives, PlainWalkOrderly, TakenWalkReaches, PlainMatchesLevels, SensitiveWalkReaches, SensitiveWalkGives};
+ghost use Rattle.glob_walk.specs.Laws.{EnoughLevelsAgree, EntriesAscend, TakenGoalIsGoal, PlainWalkCosts, TakenWalkGives, PlainWalkOrderly, TakenWalkReaches, PlainMatchesLevels, PlainMatchesNames, SensitiveWalkReaches, SensitiveWalkGives};
 
 use std::alloc::Allocator;
 
 /// If case matters, and under the separator rule, a plain pattern without a `/` at its end matches the path of a key
-/// below the start exactly when its components take the key's names: `a/**/c` matches `a/b/c`, since `a` takes `a`,
-/// `**` takes `b` and `c` takes `c`.
+/// below the start exactly when its components take the key's names, and exactly when they match them: `a/**/c` matches
+/// `a/b/c`, since `a` takes `a`, `**` takes `b` and `c` takes `c`.
 pub fn plain_pattern_matches_level_by_level()
-    ensures { PlainMatchesLevels }
+    ensures levels { PlainMatchesLevels }
+    ensures names { PlainMatchesNames }
 {}
 
 /// A case-sensitive plain walk finds what the undivided pattern matches, as far as the walk got and as far as it could
