@@ -160,7 +160,7 @@ SameBytes-from_texts : (case : Bool) (xs ys : Text) → SameTexts case xs ys →
 SameBytes-from_texts true xs ys same = ap encode_utf8_all (SameTexts-exact xs ys same)
 SameBytes-from_texts false xs ys same = small-SameTexts false xs ys same
 
-length-SameTexts : (case : Bool) (xs ys : Text) → SameTexts case xs ys → length (encode_utf8_all xs) ≡ length (encode_utf8_all ys)
+pub length-SameTexts : (case : Bool) (xs ys : Text) → SameTexts case xs ys → length (encode_utf8_all xs) ≡ length (encode_utf8_all ys)
 length-SameTexts case xs ys same = sym (length-map _ to_ascii_lowercase) ∙ ap length (small-SameTexts case xs ys same)
     ∙ length-map _ to_ascii_lowercase
 

@@ -3,7 +3,7 @@ use Rattle.std.proofs.Common.{◌≡◌, ℕ, ◌+◌, ◌-◌, ◌<◌, ◌≤�
 use Rattle.std.proofs.Common.{take, drop, get_or, refl, sym, ap, ap₂, subst, subst₂, ◌∙◌, arith, chars, append-nil}
 use Rattle.std.proofs.Math.Seq.{drop-append_seam, take-append_seam}
 use Rattle.std.proofs.lemmas.Bool.{and_from, and_parts}
-use Rattle.std.proofs.lemmas.List.{drop-drop, drop_more, get_or-map, length-append, length-drop, length-map}
+use Rattle.std.proofs.lemmas.List.{drop-drop, drop-map, drop_more, get_or-map, length-append, length-drop, length-map}
 use Rattle.std.proofs.lemmas.List.{length-take-le, map-append, nil_from_length, take-append-drop, take-map, take-take}
 use Rattle.std.proofs.lemmas.List.{take_all, take_more}
 use Rattle.std.proofs.lemmas.List.Folds.{drop_split}
@@ -28,9 +28,10 @@ use Rattle.glob_pattern.specs.declared.pattern.ends.Ends.{Ends}
 use Rattle.glob_pattern.specs.declared.token.Token.TheVariants.{AnyChar, Literal}
 use Rattle.glob_pattern.proofs.Counts.{length-chars}
 use Rattle.glob_pattern.proofs.GrammarLemmas.Written.{text-begins, text-ends}
-use Rattle.glob_pattern.proofs.MatchingLemmas.EndBytes.{SameTexts-from_bytes, boundary-first, boundary-last, chars-cut, HasEnds-from_texts}
+use Rattle.glob_pattern.proofs.MatchingLemmas.EndBytes.{SameTexts-from_bytes, length-SameTexts, boundary-first, boundary-last, chars-cut, HasEnds-from_texts}
 use Rattle.glob_pattern.proofs.MatchingLemmas.Ends.{length-literals, TakesFirst-literals, first-from_SplitsPart}
 use Rattle.glob_pattern.proofs.MatchingLemmas.Ends.{TakesLast-literals, last-from_SplitsPart}
+use Rattle.glob_pattern.proofs.MatchingLemmas.Literals.{SameTexts-from_TokensMatch}
 use Rattle.glob_pattern.proofs.MatchingLemmas.Parts.{TokensMatch-iff_part}
 
 -- the rest of a list from a place on
@@ -44,6 +45,11 @@ length-range xs i j le within = length-take-le (j - i) (drop i xs) (omega (arith
 SameBytes-take : (case : Bool) (n : ℕ) (bytes other : List ℕ) → SameBytes case bytes other → SameBytes case (take n bytes) (take n other)
 SameBytes-take true n bytes other same = ap (take n) same
 SameBytes-take false n bytes other same = sym (take-map to_ascii_lowercase n bytes) ∙ ap (take n) same ∙ take-map to_ascii_lowercase n other
+
+-- and end with the same bytes
+SameBytes-drop : (case : Bool) (n : ℕ) (bytes other : List ℕ) → SameBytes case bytes other → SameBytes case (drop n bytes) (drop n other)
+SameBytes-drop true n bytes other same = ap (drop n) same
+SameBytes-drop false n bytes other same = sym (drop-map to_ascii_lowercase n bytes) ∙ ap (drop n) same ∙ drop-map to_ascii_lowercase n other
 
 -- both parts of a list of characters are characters
 scalars-parts : (xs ys : Text) → scalars (xs ++ ys) ≡ true → (scalars xs ≡ true) × (scalars ys ≡ true)
@@ -141,6 +147,15 @@ module _ (tokens : List Token) (ends : Ends) (is : IsEnds tokens ends) where
       rest) tokens-last left) in
       HasEnds-from_texts o.case_sensitive is.first.plain is.last.plain bytes here between there u
       (first ∙ ap (λ xs. here ++ xs) last) begins stops
+
+  -- if all tokens are literals, it has their length
+  pub literals-length : (o : MatchOptions) (bytes : List ℕ) → IsUtf8 bytes → ends.prefix.count ≡ length tokens
+      → TokensMatch o tokens (chars bytes) → length bytes ≡ ends.prefix.bytes
+  literals-length o bytes u all match =
+      let whole : tokens ≡ map Literal is.first.plain = sym (take_all ends.prefix.count tokens (omega (arith, all))) ∙ is.first.tokens_are in
+      let same = SameTexts-from_TokensMatch o Literal (λ x. (refl, λ opening c. refl)) is.first.plain (chars bytes)
+      (subst (λ ts. TokensMatch o ts (chars bytes)) whole match) in
+      ap length (sym (encodes-chars bytes u)) ∙ length-SameTexts o.case_sensitive (chars bytes) is.first.plain same ∙ sym is.first.count_is
 
   -- and a text with these ends matches if the tokens between them split what is between
   module _ (o : MatchOptions) (bytes : List ℕ) (u : IsUtf8 bytes) (start end : ℕ) (s : start ≡ length
@@ -270,6 +285,18 @@ module _ (tokens : List Token) (ends : Ends) (is : IsEnds tokens ends) where
           subst₂ (SameBytes o.case_sensitive) (take-take 1 (length prefix) bytes (omega (arith, some, long)))
           (take-take 1 ends.prefix.bytes pattern some)
           (SameBytes-take o.case_sensitive 1 (take (length prefix) bytes) prefix found.first)
+
+      pub last-byte : 0 < ends.suffix.bytes → SameBytes o.case_sensitive (drop (length bytes - 1) bytes) (drop (length pattern - 1) pattern)
+      last-byte some =
+          let place : ℕ = length pattern - ends.suffix.bytes in
+          let suffix = drop place pattern in
+          let few = (pattern-last pattern v read).1 in
+          let long : length suffix ≡ ends.suffix.bytes = omega (arith, few, length-drop place pattern) in
+          subst₂ (SameBytes o.case_sensitive)
+          (drop-drop (length suffix - 1) (length bytes - length suffix) bytes
+          ∙ ap (λ k. drop k bytes) (omega (arith, some, long, cut-within)))
+          (drop-drop (length suffix - 1) place pattern ∙ ap (λ k. drop k pattern) (omega (arith, some, long, few)))
+          (SameBytes-drop o.case_sensitive (length suffix - 1) (drop (length bytes - length suffix) bytes) suffix found.last)
 
       pub cut-start : IsCharBoundary bytes ends.prefix.bytes
       cut-start = start-boundary o bytes u ends.prefix.bytes (length bytes - ends.suffix.bytes) is.first.count_is

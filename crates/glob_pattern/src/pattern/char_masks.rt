@@ -193,7 +193,8 @@ impl Rows<'_> {
         requires { IsPartition (partition_of self.classes) }
         ensures { result ≡ class_of (partition_of self.entry.classes) options opening c }
     {
-        if has_rules(options) {
+        // Rules exclude no other characters.
+        if has_rules(options) && (c == '.' || c == '/') {
             if is_excluded_separator(options, c) {
                 return SEPARATOR;
             }

@@ -163,8 +163,8 @@ impl<A: Allocator + Copy> Compiled<A> {
     }
 
     /// The answer of [`matches`](Self::matches), and how many times a token was asked whether it takes a character.
-    /// Each token at an end counts, even if the text is rejected before the token is asked. If there is one at the
-    /// start and the text is not empty, one more counts, since [`Ends::reject`] may compare the first byte.
+    /// Each token at an end counts, even if the text is rejected before the token is asked. If the text is not empty, one
+    /// more counts for each end that has a token, since [`Ends::reject`] may compare the first and the last byte.
     #[inline(always)]
     fn matches_asking(
         &self,
@@ -185,8 +185,9 @@ impl<A: Allocator + Copy> Compiled<A> {
     {
         let tokens = self.tokens.as_slice();
         let ends = self.ends;
-        let again = ends.lead.min(text.len()).min(1);
-        let asked = (ends.lead + ends.trail + again) as u128;
+        let first = ends.lead.min(text.len()).min(1);
+        let last = ends.trail.min(text.len()).min(1);
+        let asked = (ends.lead + ends.trail + (first + last)) as u128;
         let Some(part) = ends.strip(tokens, pattern, text, options) else {
             return Ok((false, asked));
         };

@@ -108,7 +108,8 @@ impl Ends {
         has_ends(bytes, prefix, suffix, options)
     }
 
-    /// Whether the length or the first byte of the text rejects it. This is cheap enough to inline into callers.
+    /// Whether the length, the first byte or the last byte of the text rejects it. This is cheap enough to inline into
+    /// callers.
     #[inline(always)]
     pub fn reject<A: Allocator>(
         &self,
@@ -125,7 +126,21 @@ impl Ends {
         if bytes.len() < self.prefix.bytes + self.suffix.bytes {
             return true;
         }
-        self.prefix.bytes > 0 && !are_same(&bytes[..1], &literals[..1], options)
+        if self.prefix.bytes > 0 {
+            if !are_same(&bytes[..1], &literals[..1], options) {
+                return true;
+            }
+            // Literals alone match only texts of their length.
+            if self.prefix.count == tokens.len() && bytes.len() != self.prefix.bytes {
+                return true;
+            }
+        }
+        self.suffix.bytes > 0
+            && !are_same(
+                &bytes[bytes.len() - 1..],
+                &literals[literals.len() - 1..],
+                options,
+            )
     }
 
     /// Strips the ends off a text: for `src/*.rs`, what is left of `src/main.rs` is `main`. `None`: the text does not

@@ -1,4 +1,4 @@
-//! Made by `bin/rust_crate` from `crates/glob_pattern/src/pattern/char_masks.rt`, where its contracts are: sha256 c26e0672ecf4c99f.
+//! Made by `bin/rust_crate` from `crates/glob_pattern/src/pattern/char_masks.rt`, where its contracts are: sha256 0fde3d82a406d039.
 //! `Vec::with_capacity` and `resize` are there `vec![x; n]`: memory that is asked for as zeros is never what was freed
 //! last, and costs more.
 //!
@@ -129,7 +129,8 @@ impl Rows<'_> {
     /// The class of a character under the options. `opening`: a component starts at its place.
     #[inline(always)]
     pub fn class_of(self, options: MatchOptions, opening: bool, c: char) -> usize {
-        if has_rules(options) {
+        // Rules exclude no other characters.
+        if has_rules(options) && (c == '.' || c == '/') {
             if is_excluded_separator(options, c) {
                 return SEPARATOR;
             }

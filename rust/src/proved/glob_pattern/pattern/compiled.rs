@@ -1,4 +1,4 @@
-//! Made by `bin/rust_crate` from `crates/glob_pattern/src/pattern/compiled.rt`, where its contracts are: sha256 f21fdb950e4e0efe.
+//! Made by `bin/rust_crate` from `crates/glob_pattern/src/pattern/compiled.rt`, where its contracts are: sha256 f16ecd9859f6404a.
 //!
 //! What a match reads of a pattern, and how it goes: it compares the ends of the text, searches for a needle, and runs
 //! the automaton over what is between.
@@ -56,7 +56,8 @@ impl Compiled {
     /// Whether the pattern's tokens match the text.
     #[inline(always)]
     pub fn matches(&self, pattern: &str, text: &str, options: MatchOptions) -> bool {
-        if self.ends.reject(pattern, text, options) {
+        let tokens = self.tokens.as_slice();
+        if self.ends.reject(tokens, pattern, text, options) {
             return false;
         }
         self.matches_in_full(pattern, text, options)
@@ -71,14 +72,15 @@ impl Compiled {
     }
 
     /// The answer of [`matches`](Self::matches), and how many times a token was asked whether it takes a character.
-    /// Each token at an end counts, even if the text is rejected before the token is asked. If there is one at the
-    /// start and the text is not empty, one more counts, since [`Ends::reject`] may compare the first byte.
+    /// Each token at an end counts, even if the text is rejected before the token is asked. If the text is not empty, one
+    /// more counts for each end that has a token, since [`Ends::reject`] may compare the first and the last byte.
     #[inline(always)]
     fn matches_asking(&self, pattern: &str, text: &str, options: MatchOptions) -> (bool, u128) {
         let tokens = self.tokens.as_slice();
         let ends = self.ends;
-        let again = ends.lead.min(text.len()).min(1);
-        let asked = (ends.lead + ends.trail + again) as u128;
+        let first = ends.lead.min(text.len()).min(1);
+        let last = ends.trail.min(text.len()).min(1);
+        let asked = (ends.lead + ends.trail + (first + last)) as u128;
         let Some(part) = ends.strip(tokens, pattern, text, options) else {
             return (false, asked);
         };

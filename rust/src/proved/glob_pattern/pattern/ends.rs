@@ -1,4 +1,4 @@
-//! Made by `bin/rust_crate` from `crates/glob_pattern/src/pattern/ends.rt`, where its contracts are: sha256 df6d587727886919.
+//! Made by `bin/rust_crate` from `crates/glob_pattern/src/pattern/ends.rt`, where its contracts are: sha256 b2439c0b97f2c688.
 //!
 //! What a text needs at its ends: the literals with which a pattern begins and ends, compared as bytes, and the
 //! characters that other one-character tokens take there.
@@ -75,14 +75,24 @@ impl Ends {
         has_ends(bytes, prefix, suffix, options)
     }
 
-    /// Whether the length or the first byte of the text rejects it. This is cheap enough to inline into callers.
+    /// Whether the length, the first byte or the last byte of the text rejects it. This is cheap enough to inline into
+    /// callers.
     #[inline(always)]
-    pub fn reject(&self, pattern: &str, text: &str, options: MatchOptions) -> bool {
+    pub fn reject(&self, tokens: &[Token<Bracket>], pattern: &str, text: &str, options: MatchOptions) -> bool {
         let (bytes, literals) = (text.as_bytes(), pattern.as_bytes());
         if bytes.len() < self.prefix.bytes + self.suffix.bytes {
             return true;
         }
-        self.prefix.bytes > 0 && !are_same(&bytes[..1], &literals[..1], options)
+        if self.prefix.bytes > 0 {
+            if !are_same(&bytes[..1], &literals[..1], options) {
+                return true;
+            }
+            // Literals alone match only texts of their length.
+            if self.prefix.count == tokens.len() && bytes.len() != self.prefix.bytes {
+                return true;
+            }
+        }
+        self.suffix.bytes > 0 && !are_same(&bytes[bytes.len() - 1..], &literals[literals.len() - 1..], options)
     }
 
     /// Strips the ends off a text: for `src/*.rs`, what is left of `src/main.rs` is `main`. `None`: the text does not

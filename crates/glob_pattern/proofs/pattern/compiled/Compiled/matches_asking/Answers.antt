@@ -13,9 +13,10 @@ use Rattle.glob_pattern.proofs.MatchingLemmas.Needles.{ContainsFolded-from_part}
 use Rattle.glob_pattern.proofs.MatchingLemmas.Stripped.{SplitsPart-none, range-end}
 use Rattle.glob_pattern.proofs.pattern.compiled.Compiled.matches_asking.Goals as goal
 
--- the questions of the ends: a first token is asked twice if the text is not empty
+-- the questions of the ends: the first and the last token are asked twice if the text is not empty
 few-asked : (tokens self : List Token) (ends : Ends) (bytes : List ℕ) (again : ℕ) → tokens ≡ self → IsEnds tokens ends → IsUtf8 bytes
-    → again ≤ ends.lead → again ≤ length bytes → ends.lead + ends.trail + again ≤ length self + length self * length (chars bytes)
+    → again ≤ ends.lead + ends.trail → again ≤ length bytes + length bytes
+    → ends.lead + ends.trail + again ≤ length self + length self * length (chars bytes)
 few-asked tokens self ends bytes again same is u first some =
     let fits : ends.lead + ends.trail ≤ length self = omega (arith, is.ones.within, length-map tokens shape_of, ap length same) in
     ⊎_elim
@@ -27,23 +28,41 @@ few-asked tokens self ends bytes again same is u first some =
     omega (arith, fits, first, mul-le-mul_left (length self) one))
     (cases_eq (length (chars bytes)) 0)
 
+-- and with those of the tokens between the ends
+all-asked : (n ends between part text again count : ℕ) → between + ends ≤ n → text ≡ part + ends → again ≤ ends
+    → count ≤ between * part → ends + again + count ≤ n + n * text
+all-asked n ends between part text again count fits split some most =
+    let few : between ≤ n = omega (arith, fits) in
+    let inside = mul-le-mul_right part few in
+    ⊎_elim
+    (λ none.
+    let all : part ≤ text = omega (arith, split) in
+    omega (arith, none, some, most, inside, mul-le-mul_left n all))
+    (λ more.
+    let less : suc part ≤ text = omega (arith, split, more) in
+    omega (arith, fits, some, most, inside, mul-suc n part, mul-le-mul_left n less))
+    (cases_eq ends 0)
+
 pub returns-in_default-clause-most : goal.returns-in_default-clause-most
 returns-in_default-clause-most g c =
-    few-asked c.self.inside.tokens.items c.args.self.now c.self.inside.ends c.args.text.now c.min-again.result
-    c.self.view_is c.self.invariant.at_ends c.utf8.text
-    (omega (arith, c.min.ensures, c.min-again.ensures)) (omega (arith, c.min.ensures, c.min-again.ensures))
+    few-asked c.self.inside.tokens.items c.args.self.now c.self.inside.ends c.args.text.now
+    (c.min-first.result + c.min-last.result) c.self.view_is c.self.invariant.at_ends c.utf8.text
+    (omega (arith, c.min.ensures, c.min-first.ensures, c.min-2.ensures, c.min-last.ensures))
+    (omega (arith, c.min.ensures, c.min-first.ensures, c.min-2.ensures, c.min-last.ensures))
 
 pub returns-then-between-eq0-clause-most : goal.returns-then-between-eq0-clause-most
 returns-then-between-eq0-clause-most g c =
-    few-asked c.self.inside.tokens.items c.args.self.now c.self.inside.ends c.args.text.now c.min-again.result
-    c.self.view_is c.self.invariant.at_ends c.utf8.text
-    (omega (arith, c.min.ensures, c.min-again.ensures)) (omega (arith, c.min.ensures, c.min-again.ensures))
+    few-asked c.self.inside.tokens.items c.args.self.now c.self.inside.ends c.args.text.now
+    (c.min-first.result + c.min-last.result) c.self.view_is c.self.invariant.at_ends c.utf8.text
+    (omega (arith, c.min.ensures, c.min-first.ensures, c.min-2.ensures, c.min-last.ensures))
+    (omega (arith, c.min.ensures, c.min-first.ensures, c.min-2.ensures, c.min-last.ensures))
 
 pub returns-then-not-may_be_in-clause-most : goal.returns-then-not-may_be_in-clause-most
 returns-then-not-may_be_in-clause-most g c =
-    few-asked c.self.inside.tokens.items c.args.self.now c.self.inside.ends c.args.text.now c.min-again.result
-    c.self.view_is c.self.invariant.at_ends c.utf8.text
-    (omega (arith, c.min.ensures, c.min-again.ensures)) (omega (arith, c.min.ensures, c.min-again.ensures))
+    few-asked c.self.inside.tokens.items c.args.self.now c.self.inside.ends c.args.text.now
+    (c.min-first.result + c.min-last.result) c.self.view_is c.self.invariant.at_ends c.utf8.text
+    (omega (arith, c.min.ensures, c.min-first.ensures, c.min-2.ensures, c.min-last.ensures))
+    (omega (arith, c.min.ensures, c.min-first.ensures, c.min-2.ensures, c.min-last.ensures))
 
 pub returns-then-between-eq0-clause-answer : goal.returns-then-between-eq0-clause-answer
 returns-then-between-eq0-clause-answer g c =
@@ -87,42 +106,26 @@ returns-clause-most g c =
     let tokens = c.as_slice-tokens.result.now in
     let is = subst (λ ts. IsEnds ts c.self.inside.ends) (sym c.as_slice-tokens.ensures.value) c.self.invariant.at_ends in
     let read : length tokens ≡ length c.args.self.now = ap length (c.as_slice-tokens.ensures.value ∙ c.self.view_is) in
-    let few : length tokens - c.self.inside.ends.trail - c.self.inside.ends.lead ≤ length c.args.self.now = omega (arith, read) in
-    let all = mul-le-mul_right (length (chars c.in-Some.part.text.now)) few in
-    let fewer : length (chars c.in-Some.part.text.now) ≤ length (chars c.args.text.now) = omega (arith, c.in-Some.ensures.count) in
-    let whole = mul-le-mul_left (length c.args.self.now) fewer in
-    omega (
-      arith,
-      all,
-      whole,
-      c.in_ok-answer.ensures.most,
-      is.ones.within,
-      length-map tokens shape_of,
-      read,
-      c.if-between-eq0.false,
-      c.min-again.ensures,
-    )
+    let fits : c.self.inside.ends.lead + c.self.inside.ends.trail ≤ length tokens = omega (arith, is.ones.within, length-map tokens shape_of) in
+    all-asked (length c.args.self.now) (c.self.inside.ends.lead + c.self.inside.ends.trail)
+    (length tokens - c.self.inside.ends.trail - c.self.inside.ends.lead) (length (chars c.in-Some.part.text.now))
+    (length (chars c.args.text.now)) (c.min-first.result + c.min-last.result) c.in_ok-answer.count
+    (omega (arith, fits, read)) (omega (arith, c.in-Some.ensures.count, fits, read))
+    (omega (arith, c.min.ensures, c.min-first.ensures, c.min-2.ensures, c.min-last.ensures)) c.in_ok-answer.ensures.most
 
 pub overflow_add-result : goal.overflow_add-result
 overflow_add-result g c =
     let tokens = c.as_slice-tokens.result.now in
     let is = subst (λ ts. IsEnds ts c.self.inside.ends) (sym c.as_slice-tokens.ensures.value) c.self.invariant.at_ends in
-    let few : length tokens - c.self.inside.ends.trail - c.self.inside.ends.lead ≤ length tokens = omega arith in
-    let all = mul-le-mul_right (length (chars c.in-Some.part.text.now)) few in
-    let one = mul-suc (length tokens) (length (chars c.in-Some.part.text.now)) in
-    let fits = product_fits (length tokens) (suc (length (chars c.in-Some.part.text.now))) (omega arith)
-    (omega (arith, c.in-Some.ensures.count, length-chars c.args.text.now)) in
-    omega (
-      arith,
-      all,
-      one,
-      fits,
-      c.in_ok-answer.ensures.most,
-      is.ones.within,
-      length-map tokens shape_of,
-      c.if-between-eq0.false,
-      c.min-again.ensures,
-    )
+    let fits : c.self.inside.ends.lead + c.self.inside.ends.trail ≤ length tokens = omega (arith, is.ones.within, length-map tokens shape_of) in
+    let most = all-asked (length tokens) (c.self.inside.ends.lead + c.self.inside.ends.trail)
+    (length tokens - c.self.inside.ends.trail - c.self.inside.ends.lead) (length (chars c.in-Some.part.text.now))
+    (length (chars c.args.text.now)) (c.min-first.result + c.min-last.result) c.in_ok-answer.count
+    (omega (arith, fits)) (omega (arith, c.in-Some.ensures.count, fits))
+    (omega (arith, c.min.ensures, c.min-first.ensures, c.min-2.ensures, c.min-last.ensures)) c.in_ok-answer.ensures.most in
+    let room = product_fits (length tokens) (suc (length (chars c.args.text.now))) (omega arith)
+    (omega (arith, length-chars c.args.text.now)) in
+    omega (arith, most, room, mul-suc (length tokens) (length (chars c.args.text.now)))
 
 pub returns-then-between-eq0-clause-least : goal.returns-then-between-eq0-clause-least
 returns-then-between-eq0-clause-least g c = λ yes ruled.
