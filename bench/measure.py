@@ -43,6 +43,14 @@ def counted(words):
     return int(re.search(r"Collected : (\d+)", ran.stderr)[1])
 
 
+def calls(words, folder):
+    """The number of system calls that a program makes in a folder."""
+    with tempfile.NamedTemporaryFile() as file:
+        words = ["strace", "-f", "-c", "-o", file.name, *map(str, words)]
+        subprocess.run(words, stdout=subprocess.DEVNULL, stderr=subprocess.DEVNULL, cwd=folder, check=False)
+        return int(re.search(r"(\d+)(?: +\d+)? total$", Path(file.name).read_text(encoding="utf-8"), re.M)[1])
+
+
 def peak(words):
     """The peak of the bytes that a program has from `malloc`."""
     with tempfile.NamedTemporaryFile() as file:

@@ -3,13 +3,14 @@
 import os
 import random
 import re
+import shutil
 import subprocess
 from dataclasses import dataclass
 from pathlib import Path
 
 import inputs
-from lib.count import left_out
-from measure import Table, digits, run
+from lib.count import has, left_out
+from measure import Table, calls, digits, run
 from worst import shortened, spread
 
 # How many searches there are in each tree, and how often a path is passed over before one is taken to make a pattern.
@@ -172,9 +173,17 @@ def pairs(bench, programs):
     return table
 
 
+def causes(bench, sides, folder, search):
+    """What explains the time of a search: how many directories it lists, how many entries these have, how many paths it
+    looks up, how many of all these are alive, and how many system calls each side makes."""
+    asked, _ = run([bench.of_rust("searches"), "counts", *search.of_rust()], stdout=subprocess.PIPE, cwd=folder)
+    counts = [calls(words, folder) if shutil.which("strace") else None for words in sides]
+    return ["-" if it is None else f"{int(it):,}" for it in (*asked.split(), *counts)]
+
+
 def searches(bench, fd):
     """The quantiles of the ratios to fd in each tree, the worst searches, and some searches by themselves."""
-    programs = {"from Rust": ([bench.of_rust("searches")], Search.of_rust)}
+    programs = {"from Rust": ([bench.of_rust("searches"), "paths"], Search.of_rust)}
     if bench.has_rattle("searches"):
         programs["globs"] = ([bench.ours("globs"), "find"], Search.of_globs)
     yield pairs(bench, programs)
@@ -184,19 +193,21 @@ def searches(bench, fd):
         paths, names = paths_in(folder)
         for _ in range(max(3, count // bench.share)):
             search = drawn(source, paths, names)
-            all_found.append((name, search, *measured(bench, fd, programs, folder, search)))
-    for head in programs:
+            all_found.append((name, folder, search, *measured(bench, fd, programs, folder, search)))
+    has("strace", "numbers of system calls")
+    for head, (words, arguments) in programs.items():
         table = Table(f"Random searches, {head} to fd", ["tree", "searches", "together", "median", "nine of ten",
             "99 of 100", "worst", "slower"])
         for name in SEARCHES:
-            table.add(name, *spread([(times[head], times["fd"]) for it, _, _, times in all_found if it == name]))
+            table.add(name, *spread([(times[head], times["fd"]) for it, *_, times in all_found if it == name]))
         yield table
-        table = Table(f"Random searches, {head}: the worst", ["ratio", "ms", "fd", "tree", "paths", "search"])
-        by_ratio = sorted(all_found, key=lambda it: -it[3][head] / it[3]["fd"])
-        for name, search, count, times in by_ratio[:WORST]:
-            words = " ".join(search.of_globs())
+        table = Table(f"Random searches, {head}: the worst", ["ratio", "ms", "fd", "tree", "paths", "listed",
+            "entries", "looked up", "alive", "calls", "fd's calls", "search"])
+        by_ratio = sorted(all_found, key=lambda it: -it[-1][head] / it[-1]["fd"])
+        for name, folder, search, count, times in by_ratio[:WORST]:
+            sides = [[*words, *arguments(search)], [fd, *search.of_fd(folder)]]
             table.add(digits(times[head] / times["fd"]), digits(times[head]), digits(times["fd"]), name, f"{count:,}",
-                shortened(words))
+                *causes(bench, sides, folder, search), shortened(" ".join(search.of_globs())))
         yield table
 
 
