@@ -191,14 +191,3 @@ boundary-at {A} files i file path lt is cuts =
     let pair : FileRules A → ℕ × Ignores = λ f. (f.above, f.list) in
     subst (λ l. IsCharBoundary path l.0) (get_or-map pair files i file (pair file) lt ∙ ap pair (sym is))
     (All-get_or (λ l. IsCharBoundary path l.0) (active_lists files) i (pair file) (omega (arith, length-active_lists files)) cuts)
-
--- if no rule is active, nothing is ignored
-pub is_ignored-silent : {A : Type 0} (a : Aim) (directory : Key) (n : Text) (h : ActiveRules A) (d : Bool)
-    → AreActive a directory h → h.first.items ≡ [] → h.files.items ≡ [] → h.last.items ≡ []
-    → is_ignored a (directory ++ n ∷ []) d ≡ false
-is_ignored-silent a directory n h d are_active first files last =
-    let path = join_with_byte slash (directory ++ n ∷ []) in
-    is_ignored-active a directory n h path d are_active refl
-    ∙ ap₂ (λ xs ys. unwrap_or (option_or (active_said (active_lists xs) path d) (option_or (active_said (active_lists ys) path d)
-    (outer_said (outer_of h.last.items) path d))) false) first files
-    ∙ ap (λ zs. unwrap_or (outer_said (outer_of zs) path d) false) last

@@ -1,6 +1,6 @@
 //! The ignore rules that are active in a directory: those that may name a path in it.
 ghost use Rattle.std.specs.Prelude.{◌≡◌, IfOk, drop, false, ◌++◌, ◌∷◌, [], Bool, IsTrue};
-ghost use Rattle.std.specs.List.{list_all, join_with_byte};
+ghost use Rattle.std.specs.List.{All, list_all, join_with_byte};
 ghost use Rattle.std.specs.Str.{IsCharBoundary};
 ghost use Rattle.glob_text.specs.Characters.{slash};
 ghost use Rattle.glob_text.specs.Text.{Text};
@@ -8,11 +8,11 @@ ghost use Rattle.glob_tree.specs.Content.{Key};
 ghost use Rattle.glob_tree.specs.Paths.{is_proper};
 ghost use Rattle.glob_search.specs.Aims.{outer_of};
 ghost use Rattle.glob_search.specs.Private.Active.{active_lists, after, AreActive};
+ghost use Rattle.glob_search.specs.Private.Asked.{last_of, seen_by};
 ghost use Rattle.glob_search.specs.Searching.{Aim, is_ignored};
 
-use crate::deciding::{last_naming, last_outer};
-use crate::outer::OuterRules;
-use glob_rules::IgnoreList;
+use crate::outer::{OuterRules, last_outer};
+use glob_rules::{IgnoreList, Rule};
 use std::alloc::{AllocError, Allocator};
 
 /// The rules of a file, for the paths below its directory.
@@ -52,15 +52,6 @@ impl<A: Allocator + Copy> ActiveRules<A> {
         })
     }
 
-    /// Whether there are any rules.
-    pub fn is_any(&self) -> bool
-        ensures none { (a : Aim) (directory : Key) (n : Text) (d : Bool)
-            → AreActive a directory self.now → result ≡ false
-            → is_ignored a (directory ++ n ∷ []) d ≡ false }
-    {
-        !self.first.is_empty() || !self.files.is_empty() || !self.last.is_empty()
-    }
-
     /// Whether the deciding rule ignores the path. The directories above it are not checked: they were checked when they
     /// were entered.
     pub fn ignores(&self, alloc: A, path: &str, is_dir: bool) -> Result<bool, AllocError>
@@ -96,8 +87,29 @@ fn from_start<A: Allocator + Copy>(
     Ok(rules)
 }
 
+/// The last of some lists with a rule that names the path: its number, and its last such rule.
+pub fn last_naming<A: Allocator + Copy>(
+    rules: &[FileRules<A>],
+    path: &str,
+    is_dir: bool,
+) -> Result<Option<(usize, Rule)>, AllocError>
+    ensures { All (λ l. IsCharBoundary path.now l.0) (active_lists rules.now)
+        → IfOk result (λ answer. answer ≡ last_of (seen_by path.now rules.now) is_dir 0) }
+{
+    let mut left = rules.len();
+    while left > 0 {
+        left -= 1;
+        let file = &rules[left];
+        let below = below(path, file.above);
+        if let Some(rule) = file.list.naming_rule(below, is_dir)? {
+            return Ok(Some((left, rule)));
+        }
+    }
+    Ok(None)
+}
+
 /// The path without its first `above` bytes.
-pub fn below(path: &str, above: usize) -> &str
+fn below(path: &str, above: usize) -> &str
     ensures { IsCharBoundary path.now above → result.now ≡ drop above path.now }
 {
     match path.split_at_checked(above) {

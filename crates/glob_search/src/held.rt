@@ -9,10 +9,10 @@ ghost use Rattle.glob_search.specs.Asking.{File, decision_of};
 ghost use Rattle.glob_search.specs.Private.Asked.{held_rule, source_at};
 ghost use Rattle.glob_search.specs.Private.Reading.{HasRead, sources_of};
 
-use crate::active::{ActiveRules, FileRules};
-use crate::deciding::{DecidingRule, RuleList, last_naming, last_outer};
+use crate::active::{ActiveRules, FileRules, last_naming};
+use crate::deciding::{DecidingRule, RuleList};
 use crate::fault::SearchFault;
-use crate::outer::OuterRules;
+use crate::outer::{OuterRules, last_outer};
 use crate::rule_faults::RuleFaults;
 use crate::rule_texts::{RuleTexts, read_list};
 use glob_rules::{IgnoreList, Rule, RuleRefusal};

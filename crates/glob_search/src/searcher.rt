@@ -238,8 +238,12 @@ impl<A: Allocator + Copy> Searcher<A> {
         if !is_found && !goes_on {
             return Ok(None);
         }
-        let path = child(self.alloc, frame.path.as_str(), entry.name.as_str())?;
         let known = frame.kind_of(&entry);
+        let may_enter = known.unwrap_or(true);
+        if !is_found && !may_enter {
+            return Ok(None);
+        }
+        let path = child(self.alloc, frame.path.as_str(), entry.name.as_str())?;
         let is_dir = self.kind_at(tree, path.as_str(), known, goes_on)?;
         if self.is_left_out(texts, path.as_str(), is_dir.unwrap_or(false))? {
             return Ok(None);
@@ -263,10 +267,10 @@ impl<A: Allocator + Copy> Searcher<A> {
             → kind_found c path.now ≡ Some kind → ForSome known (λ d. d ≡ is_dir kind)
             → IfOk result (λ learned. ForSome learned (λ d. d ≡ is_dir kind)) }
         ensures matters { IfOk result
-            (λ learned. learned ≡ None → (goes_on ≡ false) × IsKindless self.old) }
+            (λ learned. learned ≡ None → (goes_on ≡ false) × IsKindless self.old path.now) }
         ensures last { IfErr result (λ fault. is_last fault ≡ true) }
     {
-        if known.is_some() || (!goes_on && !self.needs_kinds()) {
+        if known.is_some() || !(goes_on || self.needs_kind(path)?) {
             return Ok(known);
         }
         let seen = look_at(&mut self.meter, tree, path)?;
@@ -318,11 +322,16 @@ impl<A: Allocator + Copy> Searcher<A> {
         Ok(None)
     }
 
-    /// Whether the kind of each path that is found matters.
-    fn needs_kinds(&self) -> bool
-        ensures { result ≡ false → IsKindless self.now }
+    /// Whether the kind of what is found at a path matters: to the caller, or to the rules.
+    fn needs_kind(&self, path: &str) -> Result<bool, AllocError>
+        ensures { IfOk result (λ needed. needed ≡ false → IsKindless self.now path.now) }
     {
-        self.kinds || self.wanted != Wanted::All || self.active.is_any()
+        if self.kinds || self.wanted != Wanted::All {
+            return Ok(true);
+        }
+        let ignores_directory = self.active.ignores(self.alloc, path, true)?;
+        let ignores_file = self.active.ignores(self.alloc, path, false)?;
+        Ok(ignores_directory != ignores_file)
     }
 
     /// Reads, in the last directory, the ignore file with the name at index `number`.

@@ -77,6 +77,11 @@ no-gifts : (b : Bool) → two-nothings b ≡ []
 no-gifts true = refl
 no-gifts false = refl
 
+-- what may not be entered is known to be no directory
+pub not-known : (known : Option Bool) (d : Bool) → unwrap_or known true ≡ false → ForSome known (λ x. x ≡ d) → d ≡ false
+not-known None d is same = absurd (cc)
+not-known (Some x) d is same = sym (same x refl) ∙ is
+
 -- whether something goes on from it
 pub on-then : (n m depth : ℕ) (goes other : Bool) → m ≡ n → n < depth → goes ≡ other → goes ≡ (nat_lt m depth && other)
 on-then n m depth goes other same lt is = is ∙ sym (ap (λ b. b && other) (lt-ltb m depth (subst (λ k. k < depth) (sym same) lt)))
@@ -123,6 +128,14 @@ module _ (c : Content) (a : Aim) (names : Key) (n : Text) (kind : Kind) (held : 
       met-is
       ∙ ap₂ (λ x y. cond (is_ignored a key (is_dir kind)) [] (cond x (Found key ∷ []) [] ++ cond y (visited c a key) []))
       (and_right (a.is_wanted kind) (is_taken a key) taken) (ap (λ b. b && is_dir kind) off)
+      ∙ no-gifts (is_ignored a key (is_dir kind))
+
+  -- only what goes on below a directory takes it, and it is none
+  pub met-file : is_taken a key ≡ false → is_dir kind ≡ false → met c a names n ≡ []
+  met-file taken file =
+      met-is
+      ∙ ap₂ (λ x y. cond (is_ignored a key (is_dir kind)) [] (cond x (Found key ∷ []) [] ++ cond y (visited c a key) []))
+      (and_right (a.is_wanted kind) (is_taken a key) taken) (and_right on (is_dir kind) file)
       ∙ no-gifts (is_ignored a key (is_dir kind))
 
   pub met-ignored : is_ignored a key (is_dir kind) ≡ true → met c a names n ≡ []
@@ -201,23 +214,23 @@ module _ {A : Type 0} (c : Content) (w : IsContent c) (a : Aim) (known : Text �
 
   -- it is taken
   pub takes : (t : Searcher A) (r : Result (Option (FoundPath A)) (SearchFault A)) (path : String A) (alive : List ℕ)
-      (d : Option Bool) (on found : Bool)
+      (d : Option Bool) (on found : Bool) (at : Text)
       → string_bytes path ≡ path_of key' → AreAlive s.beginnings key' alive → found ≡ is_taken a key' → on ≡ on'
-      → is_ignored a key' (is_dir kind) ≡ false → ForSome d (λ e. e ≡ is_dir kind) → (d ≡ None → (on ≡ false) × IsKindless s)
+      → is_ignored a key' (is_dir kind) ≡ false → ForSome d (λ e. e ≡ is_dir kind) → (d ≡ None → (on ≡ false) × IsKindless s at)
       → t ≡ record s { meter = t.meter; way = t.way }
       → OnOk r (MayEnter (on && unwrap_or d false) (string_bytes path) alive s.way t.way)
       → IfOk r (λ o. o ≡ found_if (found && wants s.wanted (unwrap_or d false)) path d)
       → IfErr r (λ x. is_last x ≡ true)
       → Turns c a known before r t
-  takes t (Err x) path alive d on found named living taken goes kept' learned matters same enters finds other =
+  takes t (Err x) path alive d on found at named living taken goes kept' learned matters same enters finds other =
       last-gives c a known before x t other
-  takes t (Ok o) path alive d on found named living taken goes kept' learned matters same enters finds other =
+  takes t (Ok o) path alive d on found at named living taken goes kept' learned matters same enters finds other =
       by_found o (found && wants s.wanted (unwrap_or d false)) test finds
     where
       enters-is : (on && unwrap_or d false) ≡ (on' && is_dir kind)
       enters-is = by_kind d learned matters
         where
-          by_kind : (d : Option Bool) → ForSome d (λ e. e ≡ is_dir kind) → (d ≡ None → (on ≡ false) × IsKindless s) →
+          by_kind : (d : Option Bool) → ForSome d (λ e. e ≡ is_dir kind) → (d ≡ None → (on ≡ false) × IsKindless s at) →
               (on && unwrap_or d false) ≡ (on' && is_dir kind)
           by_kind None l m = ap (λ b. b && false) (m refl).0 ∙ sym (ap (λ b. b && is_dir kind) (sym goes ∙ (m refl).0))
           by_kind (Some e) l m = ap₂ (λ x y. x && y) goes (l e refl)
@@ -231,7 +244,7 @@ module _ {A : Type 0} (c : Content) (w : IsContent c) (a : Aim) (known : Text �
           swapped false true = refl
           swapped false false = refl
 
-          by_kind : (d : Option Bool) → ForSome d (λ e. e ≡ is_dir kind) → (d ≡ None → (on ≡ false) × IsKindless s)
+          by_kind : (d : Option Bool) → ForSome d (λ e. e ≡ is_dir kind) → (d ≡ None → (on ≡ false) × IsKindless s at)
               → (found && wants s.wanted (unwrap_or d false)) ≡ (a.is_wanted kind && is_taken a key')
           by_kind None l m =
               let all = (m refl).1.all in
@@ -272,12 +285,14 @@ module _ {A : Type 0} (c : Content) (w : IsContent c) (a : Aim) (known : Text �
   }
 
   -- it is ignored, whatever its kind is taken to be
-  pub ignored-same : (goes : Bool) (d : Option Bool) → ForSome d (λ e. e ≡ is_dir kind) → (d ≡ None → (goes ≡ false)
-      × IsKindless s) → is_ignored a key' (unwrap_or d false) ≡ is_ignored a key' (is_dir kind)
-  ignored-same goes None learned matters =
-      let k = (matters refl).1 in
-      k.none a names n false are_active ∙ sym (k.none a names n (is_dir kind) are_active)
-  ignored-same goes (Some e) learned matters = ap (is_ignored a key') (learned e refl)
+  pub ignored-same : (goes : Bool) (d : Option Bool) (at : Text) → at ≡ path_of key' → ForSome d (λ e. e ≡ is_dir kind)
+      → (d ≡ None → (goes ≡ false) × IsKindless s at) → is_ignored a key' (unwrap_or d false) ≡ is_ignored a key' (is_dir kind)
+  ignored-same goes None at is-at learned matters = by_kind (is_dir kind)
+    where
+      by_kind : (b : Bool) → is_ignored a key' false ≡ is_ignored a key' b
+      by_kind true = sym ((matters refl).1.same a names n are_active (names-proper c w c.current key' kind held) is-at)
+      by_kind false = refl
+  ignored-same goes (Some e) at is-at learned matters = ap (is_ignored a key') (learned e refl)
 
 -- what is charged, and what is on the way
 pub both-same : {A : Type 0} (s u t : Searcher A) → u ≡ record s { meter = u.meter } → t ≡ record u { way = t.way }

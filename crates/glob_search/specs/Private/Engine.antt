@@ -3,7 +3,7 @@ use Rattle.std.specs.Prelude.{◌≡◌, ◌≢◌, ℕ, suc, ◌<◌, ◌≤◌
 use Rattle.std.specs.Prelude.{reverse, Option, None, Some, Result, Ok, Err, String, Vec, string_bytes, vec_len}
 use Rattle.std.specs.Prelude.{if◌then◌else◌, ⊤}
 use Rattle.std.specs.IoError.{error_kind}
-use Rattle.std.specs.List.{All}
+use Rattle.std.specs.List.{All, list_all}
 use Rattle.std.specs.Option.{ForSome}
 use Rattle.std.specs.declared.io.ErrorKind.{ErrorKind}
 use Rattle.glob_text.specs.Text.{Text}
@@ -13,6 +13,7 @@ use Rattle.glob_rules.specs.declared.error.RuleRefusal.{RuleRefusal}
 use Rattle.glob_tree.specs.Content.{Content, Key, is_dir, is_dir_at}
 use Rattle.glob_tree.specs.declared.kind.Kind.{Kind}
 use Rattle.glob_tree.specs.declared.tree.Entry.{Entry}
+use Rattle.glob_tree.specs.Paths.{is_proper}
 use Rattle.glob_search.specs.Aims.{AreRefused, AreTextsOf, outer_of, path_of, rules_from, wants}
 use Rattle.glob_search.specs.Searching.{Aim, is_ignored, is_listed}
 use Rattle.glob_search.specs.Visiting.{Gift, Found, Unread}
@@ -224,11 +225,13 @@ FitsSource a names LookedUp = is_listed a names ≡ false
 FitsSource a names Listed = is_listed a names ≡ true
 FitsSource a names Named = is_listed a names ≡ true
 
--- the kinds of entries do not matter
-pub record IsKindless {A : Type 0} (s : Searcher A) : Type 0 where
+-- The kind of what is at the path does not matter: all kinds are wanted, and the rules ignore it as a directory exactly
+-- when they ignore it as anything else.
+pub record IsKindless {A : Type 0} (s : Searcher A) (path : Text) : Type 0 where
   pub all : s.wanted ≡ Everything
-  pub none : (a : Aim) (directory : Key) (n : Text) (d : Bool) → AreActive a directory s.active →
-      is_ignored a (directory ++ n ∷ []) d ≡ false
+  pub same : (a : Aim) (directory : Key) (n : Text) → AreActive a directory s.active
+      → list_all is_proper (directory ++ n ∷ []) ≡ true → path ≡ path_of (directory ++ n ∷ [])
+      → is_ignored a (directory ++ n ∷ []) true ≡ is_ignored a (directory ++ n ∷ []) false
 
 -- the directory became the last one on the way
 pub record StepsInto {A : Type 0} (o : Opening A) (source : Source) (entries : Vec (Entry A) A) (old new : Searcher A) : Type 0 where

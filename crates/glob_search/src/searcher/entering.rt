@@ -85,7 +85,7 @@ impl<A: Allocator + Copy> Searcher<A> {
     }
 
     /// How to learn the entries of a directory. If only literals lead on, their names are looked up. Otherwise the
-    /// directory is listed, without kinds if no kinds are needed and only entries named by literals may be entered.
+    /// directory is listed, with kinds only if the caller wants them or entries that wildcards take may be entered.
     fn source_of(&self, opening: &Opening<A>) -> Source
         ensures { (a : Aim) (names : Key) → AreBeginnings a.options a.patterns self.now.beginnings
             → AreAlive self.now.beginnings names opening.now.alive.items
@@ -96,7 +96,7 @@ impl<A: Allocator + Copy> Searcher<A> {
             return Source::LookedUp;
         }
         let enters = self.way.frames.len() + 1 < self.depth && self.beginnings.enters_many(alive);
-        if enters || self.needs_kinds() {
+        if enters || self.kinds {
             Source::Listed
         } else {
             Source::Named

@@ -17,7 +17,8 @@ use Rattle.glob_search.specs.Private.Order.{IsPastWay}
 use Rattle.glob_search.specs.Private.Steps.{MayEnter}
 use Rattle.glob_search.specs.Private.Ways.{search_left}
 use Rattle.glob_search.proofs.EngineLemmas.Ending.{enters-frames}
-use Rattle.glob_search.proofs.EngineLemmas.Meeting.{both-same, are_active, ignored-same, met-ignored, met-nothing, met-of}
+use Rattle.glob_search.proofs.EngineLemmas.Meeting.{both-same, are_active, ignored-same, met-file, met-ignored, met-nothing, met-of}
+use Rattle.glob_search.proofs.EngineLemmas.Meeting.{not-known}
 use Rattle.glob_search.proofs.EngineLemmas.Meeting.{on-else, on-then, passes, takes}
 use Rattle.glob_search.proofs.EngineLemmas.Past.{meets-past, skips-past}
 use Rattle.glob_search.proofs.EngineLemmas.Paths.{child-found, names-proper, proper-parts}
@@ -62,6 +63,35 @@ pub returns-in_err-is_dir-clause-turns : goal.returns-in_err-is_dir-clause-turns
 returns-in_err-is_dir-clause-turns g c = λ content a known answers work.
     let p = err_from_is_err_and c.from_residual-in_err-is_dir.result c.from_residual-in_err-is_dir.ensures.1 in
     rw (p.1, p.2) (last-gives content a known _ c.in_err-is_dir.field-0.0 c.kind_at.new.self c.in_err-is_dir.ensures.last)
+
+pub returns-then-not-may_enter-clause-turns : goal.returns-then-not-may_enter-clause-turns
+returns-then-not-may_enter-clause-turns g c = λ content a known answers (ready, free, met).
+    let s = c.args.self.now in
+    let good = IsContent-from_test content answers.told.1 in
+    let m = met-of content a s c.args.entry ready met in
+    let f-is : c.in-Some.frame.now ≡ m.f =
+    last-get s.way.frames.items m.fs m.f c.in-Some.frame.now m.is (c.in-Some.ensures.value ∙ ap (λ xs. slice_get xs
+    (length xs - 1)) c.deref.ensures.value) in
+    let names = frame_names m.f in
+    let n = c.args.entry.name in
+    let key = names ++ n ∷ [] in
+    let kind = m.entry.kind in
+    let held = m.entry.held in
+    let living : AreAlive s.beginnings key c.in_ok-alive.alive.items =
+    subst (λ x. AreAlive s.beginnings (names ++ x ∷ []) c.in_ok-alive.alive.items) c.as_str.ensures (c.in_ok-alive.ensures.alive names
+    (subst (AreAlive s.beginnings names) (sym (c.as_slice.ensures.value ∙ ap (λ h. h.alive.items) f-is)) m.frame.directory.alive)) in
+    let taken = c.is_found-is_found.ensures.found a key ready.for.beginnings (subst (AreAlive s.beginnings key)
+    (sym c.as_slice-2.ensures.value) living) in
+    let known-is : ForSome c.kind_of-known.result (λ d. d ≡ is_dir kind) =
+    subst (λ o. ForSome o (λ d. d ≡ is_dir kind)) (sym (c.kind_of-known.ensures ∙ ap
+    (λ h. known_kind h.source c.args.entry) f-is)) m.entry.known in
+    keeps-at content a known _ _ s s (ap (λ gs. gs ++ search_left content a s) m.met-is) refl
+    (passes content good a known s ready free m.f m.fs m.is n kind held s refl
+    (met-file content a names n kind held (sym taken ∙ c.if-not-is_found-2.true)
+    (not-known c.kind_of-known.result (is_dir kind) (sym c.unwrap_or-may_enter.ensures ∙ c.if-not-may_enter.true) known-is)))
+
+pub returns-then-not-may_enter-clause-later : goal.returns-then-not-may_enter-clause-later
+returns-then-not-may_enter-clause-later g c = λ past work. skips-past past c.args.entry c.args.self.now.way work
 
 pub returns-then-branch-clause-turns : goal.returns-then-branch-clause-turns
 returns-then-branch-clause-turns g c = λ content a known answers (ready, free, met).
@@ -111,7 +141,7 @@ returns-then-branch-clause-turns g c = λ content a known answers (ready, free, 
     c.in_ok-is_left_out.ensures.out a known names n answers.same are_active' proper (c.as_str-5.ensures.value ∙ path-is)
     ∙ ap (is_ignored a key) c.unwrap_or.ensures
     ∙ ignored-same content good a known s ready free m.f m.fs m.is n kind held c.if-len-self.goes_on
-    c.in_ok-is_dir.is_dir learned matters in
+    c.in_ok-is_dir.is_dir c.as_str-4.result.now (c.as_str-4.ensures.value ∙ path-is) learned matters in
     keeps-at content a known _ _ u u (ap (λ gs. gs ++ search_left content a s) m.met-is) refl
     (passes content good a known s ready free m.f m.fs m.is n kind held u same (met-ignored content a names n kind held
     (sym out ∙ c.if-branch.true)))
@@ -164,13 +194,13 @@ returns-clause-turns g c = λ content a known answers (ready, free, met).
     c.in_ok-is_left_out.ensures.out a known names n answers.same are_active' proper (c.as_str-5.ensures.value ∙ path-is)
     ∙ ap (is_ignored a key) c.unwrap_or.ensures
     ∙ ignored-same content good a known s ready free m.f m.fs m.is n kind held c.if-len-self.goes_on
-    c.in_ok-is_dir.is_dir learned matters in
+    c.in_ok-is_dir.is_dir c.as_str-4.result.now (c.as_str-4.ensures.value ∙ path-is) learned matters in
     let t = c.take.new.self in
     let d = c.in_ok-is_dir.is_dir in
     subst (λ gs. Turns content a known (gs ++ search_left content a s) c.take.result t) (sym m.met-is)
     (takes content good a known s ready free m.f m.fs m.is n kind held t c.take.result c.in_ok-path.path
     c.in_ok-alive.alive.items d c.if-len-self.goes_on c.is_found-is_found.result
-    path-is living taken on (sym out ∙ c.if-branch.false) learned matters (both-same s u t same c.take.ensures.same)
+    c.as_str-4.result.now path-is living taken on (sym out ∙ c.if-branch.false) learned matters (both-same s u t same c.take.ensures.same)
     (subst (λ x. OnOk c.take.result (MayEnter (c.if-len-self.goes_on && unwrap_or d false)
     (string_bytes c.in_ok-path.path) c.in_ok-alive.alive.items x.way t.way)) same c.take.ensures.enters)
     (subst (λ x. IfOk c.take.result (λ o. o ≡ found_if (c.is_found-is_found.result && wants x.wanted

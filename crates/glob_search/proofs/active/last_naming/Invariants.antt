@@ -3,7 +3,7 @@ use Rattle.std.specs.List.{All}
 use Rattle.std.specs.Str.{IsCharBoundary}
 use Rattle.glob_search.specs.Private.Active.{active_lists}
 use Rattle.glob_search.specs.Private.Asked.{last_of, seen_by}
-use Rattle.glob_search.proofs.deciding.last_naming.Given as goal
+use Rattle.glob_search.proofs.active.last_naming.Given as goal
 
 -- no list from here on names the path
 abbrev pub invariant-loop-left : goal.invariant-loop-left

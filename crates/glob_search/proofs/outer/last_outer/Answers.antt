@@ -1,7 +1,7 @@
 use Rattle.std.proofs.Common.{◌-◌, ap, sym, ◌∙◌, arith}
 use Rattle.std.specs.Prelude.{option_map}
 use Rattle.glob_search.proofs.DecidingLemmas.{found-at_outer, names-here_outer}
-use Rattle.glob_search.proofs.deciding.last_outer.Goals as goal
+use Rattle.glob_search.proofs.outer.last_outer.Goals as goal
 
 pub loop-left-preserved : goal.loop-left-preserved
 loop-left-preserved g c = record {

@@ -1,6 +1,6 @@
 use Rattle.std.proofs.Common.{◌≡◌, ◌≤◌, drop, length, None}
 use Rattle.glob_search.specs.Private.Asked.{last_of, seen_by_outer}
-use Rattle.glob_search.proofs.deciding.last_outer.Given as goal
+use Rattle.glob_search.proofs.outer.last_outer.Given as goal
 
 -- no list from here on names the path
 abbrev pub invariant-loop-left : goal.invariant-loop-left

@@ -3,7 +3,7 @@ use Rattle.std.specs.Prelude.{IfOk}
 use Rattle.glob_rules.specs.Deciding.{naming_rule}
 use Rattle.glob_tree.specs.Paths.{join}
 use Rattle.glob_search.proofs.ActiveLemmas.{join-nothing}
-use Rattle.glob_search.proofs.deciding.naming_below.Goals as goal
+use Rattle.glob_search.proofs.outer.naming_below.Goals as goal
 
 pub returns-then-is_empty : goal.returns-then-is_empty
 returns-then-is_empty g c =
