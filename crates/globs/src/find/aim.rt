@@ -32,7 +32,8 @@ pub fn settings_of<A: Allocator + Copy>(
         options: settings.options,
         depth: depth_at(last.is_ignored, settings.depth),
         wanted: wanted_of(settings.kinds),
-        kinds: sifts(settings.kinds),
+        // If some kinds are not wanted, the search learns those of what it finds in any case.
+        kinds: settings.kinds.directories && sifts(settings.kinds),
         limit: settings.limit,
         first,
         last: last.lists,
