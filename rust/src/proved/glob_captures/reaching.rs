@@ -1,4 +1,4 @@
-//! Made by `bin/rust_crate` from `crates/glob_captures/src/reaching.rt`, where its contracts are: sha256 f7b6f4e3cd525b74.
+//! Made by `bin/rust_crate` from `crates/glob_captures/src/reaching.rt`, where its contracts are: sha256 ec28219ce0412a44.
 //! Not derived there: `Reached`.
 //! `Vec::with_capacity` and `resize` are there `vec![x; n]`: memory that is asked for as zeros is never what was freed
 //! last, and costs more.
@@ -21,15 +21,15 @@ use crate::proved::glob_pattern::{characters_of, opens, tokens_len, MatchOptions
 /// ```
 #[derive(Debug, Clone, PartialEq, Eq)]
 pub struct Reached {
-    /// The last place, in bytes, up to which some number of first tokens take the text.
+    /// The farthest place, in bytes, that some number of first tokens reaches.
     pub place: usize,
     /// The numbers of the tokens that wait there for a character, ascending, counted from 0.
     pub waiting: Vec<usize>,
 }
 
-/// How far the pattern gets in the text: the last place, in bytes, up to which some number of its first tokens take the
-/// text, and the numbers of all tokens that wait for a character there. If the text does not match, this is where it
-/// fails, and what the pattern expected there.
+/// How far the pattern gets in the text: the farthest place, in bytes, that its first tokens can reach, however many of
+/// them that takes, and the numbers of all tokens that wait for a character there. If the text does not match, this is
+/// where it fails, and what the pattern expected there.
 ///
 /// For `*.rs` and `a.rc` the place is the end: `*` took all, and `*` and `.` wait. For `a[0-9]b` and `a1c` the place is
 /// 2, where token 2, the `b`, waits.
@@ -71,7 +71,7 @@ pub fn reach(pattern: &Pattern, text: &str, options: MatchOptions) -> Result<Rea
     Ok(Reached { place: bytes_of(&characters[..place]), waiting })
 }
 
-/// The last place up to which some number of first tokens take the text.
+/// The farthest place that some number of first tokens reaches.
 fn farthest(pattern: &Pattern, options: MatchOptions, text: &[char]) -> usize {
     let mut whole = fronts_at_start(text);
     let mut alive = fronts_at_start(text);
@@ -100,7 +100,7 @@ fn waiting_at(pattern: &Pattern, options: MatchOptions, text: &[char], place: us
     waiting
 }
 
-/// The row for no tokens: they take the text up to its start and no further.
+/// The row for zero tokens, which reach only the start of the text.
 fn fronts_at_start(text: &[char]) -> Vec<bool> {
     let mut places = Vec::with_capacity(text.len() + 1);
     places.resize(text.len() + 1, false);

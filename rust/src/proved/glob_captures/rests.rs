@@ -1,8 +1,8 @@
-//! Made by `bin/rust_crate` from `crates/glob_captures/src/rests.rt`, where its contracts are: sha256 8e47fb328cca8786.
+//! Made by `bin/rust_crate` from `crates/glob_captures/src/rests.rt`, where its contracts are: sha256 31fb2a7173f096ee.
 //! `Vec::with_capacity` and `resize` are there `vec![x; n]`: memory that is asked for as zeros is never what was freed
 //! last, and costs more.
 //!
-//! From which places the last tokens take the rest of a text.
+//! For the last tokens of a pattern: the places from which they match all that is left of a text.
 
 use crate::proved::glob_captures::span::WildcardSpan;
 use crate::proved::glob_captures::steps::{form_of, takes_if, Form};

@@ -1,9 +1,9 @@
-//! Made by `bin/rust_crate` from `crates/glob_search/src/active.rt`, where its contracts are: sha256 97c518bd4c8bc14b.
+//! Made by `bin/rust_crate` from `crates/glob_search/src/active.rt`, where its contracts are: sha256 5a79739008be2e77.
 //!
 //! The ignore rules that are active in a directory: those that may name a path in it.
 
-use crate::proved::glob_rules::IgnoreList;
-use crate::proved::glob_search::outer::{outer_said, OuterRules};
+use crate::proved::glob_rules::{IgnoreList, Rule};
+use crate::proved::glob_search::outer::{last_outer, OuterRules};
 
 /// The rules of a file, for the paths below its directory.
 pub struct FileRules {
@@ -28,22 +28,19 @@ impl ActiveRules {
         ActiveRules { first: from_start(first), files: Vec::new(), last }
     }
 
-    /// Whether there are any rules.
-    pub fn is_any(&self) -> bool {
-        !self.first.is_empty() || !self.files.is_empty() || !self.last.is_empty()
-    }
-
     /// Whether the deciding rule ignores the path. The directories above it are not checked: they were checked when they
     /// were entered.
     pub fn ignores(&self, path: &str, is_dir: bool) -> bool {
-        if let Some(ignored) = last_said(self.first.as_slice(), path, is_dir) {
-            return ignored;
+        if let Some((_, rule)) = last_naming(self.first.as_slice(), path, is_dir) {
+            return !rule.negative;
         }
-        if let Some(ignored) = last_said(self.files.as_slice(), path, is_dir) {
-            return ignored;
+        if let Some((_, rule)) = last_naming(self.files.as_slice(), path, is_dir) {
+            return !rule.negative;
         }
-        let said = outer_said(self.last.as_slice(), path, is_dir);
-        said.unwrap_or(false)
+        match last_outer(self.last.as_slice(), path, is_dir) {
+            Some((_, rule)) => !rule.negative,
+            None => false,
+        }
     }
 }
 
@@ -56,30 +53,22 @@ fn from_start(lists: Vec<IgnoreList>) -> Vec<FileRules> {
     rules
 }
 
-/// Whether the last list with a rule that names the path ignores it; `None` if no list has such a rule.
-fn last_said(rules: &[FileRules], path: &str, is_dir: bool) -> Option<bool> {
+/// The last of some lists with a rule that names the path: its number, and its last such rule.
+pub fn last_naming(rules: &[FileRules], path: &str, is_dir: bool) -> Option<(usize, Rule)> {
     let mut left = rules.len();
     while left > 0 {
         left -= 1;
         let file = &rules[left];
         let below = below(path, file.above);
-        if let Some(ignored) = said(&file.list, below, is_dir) {
-            return Some(ignored);
+        if let Some(rule) = file.list.naming_rule(below, is_dir) {
+            return Some((left, rule));
         }
     }
     None
 }
 
-/// Whether a list ignores a path; `None` if none of its rules names it.
-pub fn said(list: &IgnoreList, path: &str, is_dir: bool) -> Option<bool> {
-    match list.naming_rule(path, is_dir) {
-        Some(rule) => Some(!rule.negative),
-        None => None,
-    }
-}
-
 /// The path without its first `above` bytes.
-pub fn below(path: &str, above: usize) -> &str {
+fn below(path: &str, above: usize) -> &str {
     match path.split_at_checked(above) {
         Some((_, rest)) => rest,
         None => path,

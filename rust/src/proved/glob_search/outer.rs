@@ -1,9 +1,8 @@
-//! Made by `bin/rust_crate` from `crates/glob_search/src/outer.rt`, where its contracts are: sha256 df111e39fda66860.
+//! Made by `bin/rust_crate` from `crates/glob_search/src/outer.rt`, where its contracts are: sha256 ba324290e9f09ca2.
 //!
 //! Ignore rules from the start and the directories above it.
 
-use crate::proved::glob_rules::IgnoreList;
-use crate::proved::glob_search::active::said;
+use crate::proved::glob_rules::{IgnoreList, Rule};
 use crate::proved::glob_tree::join;
 
 /// A list of rules for the paths below its directory, which is the start or a directory above it.
@@ -18,34 +17,36 @@ impl OuterRules {
     pub fn at_start(list: IgnoreList) -> Self {
         OuterRules { prefix: String::new(), list }
     }
-
-    /// Whether the list ignores a path below the start; `None` if none of its rules names it.
-    pub fn said(&self, path: &str, is_dir: bool) -> Option<bool> {
-        said_below(&self.list, self.prefix.as_str(), path, is_dir)
-    }
 }
 
-/// Whether a list ignores a path below a directory whose path, from the list's directory on, is `prefix`.
-fn said_below(list: &IgnoreList, prefix: &str, path: &str, is_dir: bool) -> Option<bool> {
+/// The last of some lists with a rule that names a path below the start: its number, and its last such rule.
+pub fn last_outer(lists: &[OuterRules], path: &str, is_dir: bool) -> Option<(usize, Rule)> {
+    let mut left = lists.len();
+    while left > 0 {
+        left -= 1;
+        if let Some(rule) = naming_below(&lists[left], path, is_dir) {
+            return Some((left, rule));
+        }
+    }
+    None
+}
+
+/// The last rule of a list that names a path below the start.
+fn naming_below(outer: &OuterRules, path: &str, is_dir: bool) -> Option<Rule> {
+    let prefix = outer.prefix.as_str();
     if prefix.is_empty() {
-        return said(list, path, is_dir);
+        return outer.list.naming_rule(path, is_dir);
     }
     let path = join(prefix, path);
-    said(list, path.as_str(), is_dir)
-}
-
-/// Whether the last list with a rule that names a path below the start ignores it; `None` if no list has such a rule.
-pub fn outer_said(lists: &[OuterRules], path: &str, is_dir: bool) -> Option<bool> {
-    let mut last = None;
-    for list in lists {
-        last = list.said(path, is_dir).or(last);
-    }
-    last
+    outer.list.naming_rule(path.as_str(), is_dir)
 }
 
 /// Whether the lists ignore a directory of this name that is directly in the start.
 pub fn ignores_directory(lists: &[OuterRules], name: &str) -> bool {
-    outer_said(lists, name, true).unwrap_or(false)
+    match last_outer(lists, name, true) {
+        Some((_, rule)) => !rule.negative,
+        None => false,
+    }
 }
 
 /// The same lists, as seen from the directory with this name in the start.

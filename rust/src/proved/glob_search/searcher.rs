@@ -1,4 +1,4 @@
-//! Made by `bin/rust_crate` from `crates/glob_search/src/searcher.rt`, where its contracts are: sha256 b08be8549bd7dbd6.
+//! Made by `bin/rust_crate` from `crates/glob_search/src/searcher.rt`, where its contracts are: sha256 6e021b63f2940d40.
 //!
 //! The turns of a search.
 //!
@@ -112,8 +112,12 @@ impl Searcher {
         if !is_found && !goes_on {
             return Ok(None);
         }
-        let path = child(frame.path.as_str(), entry.name.as_str());
         let known = frame.kind_of(&entry);
+        let may_enter = known.unwrap_or(true);
+        if !is_found && !may_enter {
+            return Ok(None);
+        }
+        let path = child(frame.path.as_str(), entry.name.as_str());
         let is_dir = self.kind_at(tree, path.as_str(), known, goes_on)?;
         if self.is_left_out(texts, path.as_str(), is_dir.unwrap_or(false)) {
             return Ok(None);
@@ -129,7 +133,7 @@ impl Searcher {
         known: Option<bool>,
         goes_on: bool,
     ) -> Result<Option<bool>, SearchFault> {
-        if known.is_some() || (!goes_on && !self.needs_kinds()) {
+        if known.is_some() || !(goes_on || self.needs_kind(path)) {
             return Ok(known);
         }
         let seen = look_at(&mut self.meter, tree, path)?;
@@ -161,9 +165,14 @@ impl Searcher {
         Ok(None)
     }
 
-    /// Whether the kind of each path that is found matters.
-    fn needs_kinds(&self) -> bool {
-        self.kinds || self.wanted != Wanted::All || self.active.is_any()
+    /// Whether the kind of what is found at a path matters: to the caller, or to the rules.
+    fn needs_kind(&self, path: &str) -> bool {
+        if self.kinds || self.wanted != Wanted::All {
+            return true;
+        }
+        let ignores_directory = self.active.ignores(path, true);
+        let ignores_file = self.active.ignores(path, false);
+        ignores_directory != ignores_file
     }
 
     /// Reads, in the last directory, the ignore file with the name at index `number`.

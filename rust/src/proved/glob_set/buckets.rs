@@ -1,12 +1,13 @@
-//! Made by `bin/rust_crate` from `crates/glob_set/src/buckets.rt`, where its contracts are: sha256 0920eab2f3361576.
+//! Made by `bin/rust_crate` from `crates/glob_set/src/buckets.rt`, where its contracts are: sha256 3141f9c318016333.
 //! Not derived there: `Bucket`, `Buckets`.
 //!
-//! The patterns without a key that may match a text, listed by the class of the text's last two bytes.
+//! The patterns without a key that may match a text, listed by the class of the text's last two bytes: a number below
+//! 128 that `pair_class` makes of them. `rarest` says which patterns have keys.
 
 use crate::proved::glob_set::key::Key;
 use crate::proved::glob_set::pairs::Need;
 
-/// The number of classes.
+/// The number of classes: each is a bit of a `u128` (`class_bit`), so there cannot be more.
 const CLASSES: usize = 128;
 
 /// Numbers of patterns, in ascending order.

@@ -1,4 +1,4 @@
-//! Made by `bin/rust_crate` from `crates/glob_search/src/searcher/entering.rt`, where its contracts are: sha256 4402dcbf2cd92c31.
+//! Made by `bin/rust_crate` from `crates/glob_search/src/searcher/entering.rt`, where its contracts are: sha256 fbd56954709eb294.
 //!
 //! How a directory is entered.
 
@@ -28,14 +28,14 @@ impl Searcher {
     }
 
     /// How to learn the entries of a directory. If only literals lead on, their names are looked up. Otherwise the
-    /// directory is listed, without kinds if no kinds are needed and only entries named by literals may be entered.
+    /// directory is listed, with kinds only if the caller wants them or entries that wildcards take may be entered.
     fn source_of(&self, opening: &Opening) -> Source {
         let alive = opening.alive.as_slice();
         if self.beginnings.is_literal(alive) {
             return Source::LookedUp;
         }
         let enters = self.way.frames.len() + 1 < self.depth && self.beginnings.enters_many(alive);
-        if enters || self.needs_kinds() {
+        if enters || self.kinds {
             Source::Listed
         } else {
             Source::Named
