@@ -40,16 +40,17 @@ help_words (Some name) = codes "try globs help " ++ name_word name
 -- which operand is missing
 abbrev pub bare_words : Option Name → Text
 bare_words None = codes "missing PATTERN"
-bare_words (Some Find) = codes "missing PATTERN"
-bare_words (Some Match) = codes "missing PATTERN"
-bare_words (Some Ignore) = codes "missing FILE"
-bare_words (Some Explain) = codes "missing PATTERN"
-bare_words (Some Escape) = codes "missing TEXT"
+bare_words (Some Find) = codes "missing PATTERN, as in globs find '**/*.rs'"
+bare_words (Some Match) = codes "missing PATTERN, as in globs match '*.rs' <FILE"
+bare_words (Some Ignore) = codes "missing FILE, as in git ls-files | globs ignore .gitignore"
+bare_words (Some Explain) = codes "missing PATTERN, as in globs explain '*.rs' a.rs"
+bare_words (Some Escape) =
+    codes "missing TEXT, as in globs escape 'a[1]', or for lines xargs -d '\\n' globs escape --"
 
 -- what is wrong with a word of a command line
 abbrev pub why_words : Option Name → Why → Text
 why_words name why.Unknown = codes " is not an option"
-why_words name why.Valueless = codes " needs a value"
+why_words name why.Valueless = codes " needs a value, which is the next word or follows ="
 why_words name why.Limit = codes " is not a limit: -n needs a whole number below 2^64"
 why_words name why.Depth = codes " is not a depth: --max-depth needs a whole number below 2^64"
 why_words name why.Kind = codes " is not a kind: use -t f, -t d or -t l, or several of them"
@@ -57,7 +58,7 @@ why_words name why.RuleFile = codes " is not a file name: --ignore-files needs o
 why_words name why.Late = codes " comes after an operand, where it could be a name: put options first"
 why_words name why.Taken = codes " is the value of the option before it, and no PATTERN follows"
 why_words name why.Bare = bare_words name
-why_words name why.Textless = codes "missing TEXT"
+why_words name why.Textless = codes "missing TEXT, as in globs explain '*.rs' a.rs"
 why_words name why.Extra = codes " comes after the text: quote the pattern"
 why_words name why.Surplus = codes " is one word too many: ask help about one command"
 why_words name why.Command = codes " is not a command"

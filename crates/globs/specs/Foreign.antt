@@ -1,7 +1,10 @@
 -- What to write instead of the options and commands of other tools, as lines about wrong words say.
-use Rattle.std.specs.Prelude.{◌||◌, ◌&&◌, ◌==◌, ◌∷◌, Bool, false, if◌then◌else◌, List, [], bytes_eq, codes, length, nat_lt}
-use Rattle.std.specs.List.{before_first, position_or_len}
+use Rattle.std.specs.Prelude.{ℕ, ◌||◌, ◌&&◌, ◌==◌, ◌∷◌, Bool, false, if◌then◌else◌, List, [], bytes_eq, codes, length, nat_lt}
+use Rattle.std.specs.List.{before_first, list_any, position_or_len}
+use Rattle.glob_text.specs.Pieces.{is_empty}
 use Rattle.glob_text.specs.Text.{Text}
+use Rattle.glob_console.specs.Words.{is_option}
+use Rattle.globs.specs.Near.{near_command_words, near_option_words}
 use Rattle.globs.specs.Spelling.{is_equals}
 use Rattle.globs.specs.declared.name.Name.{Name}
 use Rattle.globs.specs.declared.name.Name.TheVariants.{Find, Match, Ignore, Explain, Escape}
@@ -16,86 +19,176 @@ abbrev pub option_part : (word : Text) → Text
 option_part word =
     if nat_lt (position_or_len is_equals word) (length word) then before_first is_equals word else word
 
--- for `find`, instead of `-C` or `-x` with a value in the same word
+-- for `find`, instead of an option with a value in the same word, or else the nearest option
 unfoldable pub joined_words : (word : Text) → Text
-joined_words [] = []
-joined_words (dash ∷ []) = []
-joined_words (dash ∷ letter ∷ []) = []
+joined_words [] = near_option_words []
+joined_words (dash ∷ []) = near_option_words (dash ∷ [])
+joined_words (dash ∷ letter ∷ []) = near_option_words (dash ∷ letter ∷ [])
 joined_words (dash ∷ letter ∷ first ∷ value) =
-    if dash == 45 && (letter == 67 || letter == 120) then codes "; a value is the next word, or follows =" else []
+    if dash == 45 && (letter == 67 || (letter == 120 || letter == 110))
+    then codes "; a value is the next word, or follows ="
+    else (if dash == 45 && letter == 116
+    then codes "; use -t f, -t d or -t l"
+    else (if dash == 45 && letter == 106
+    then codes "; leave it out, as it is not needed"
+    else near_option_words (dash ∷ letter ∷ first ∷ value)))
+
+-- for `find`, instead of an option that is a test of find(1)
+unfoldable pub find_test_words : (word : Text) → Text
+find_test_words word =
+    if is_one_of word (codes "-size" ∷ codes "--size" ∷ codes "-S" ∷ codes "-mtime" ∷
+    codes "-newer" ∷ codes "--changed-within" ∷ codes "-empty" ∷ codes "-perm" ∷ [])
+    then codes "; find has it: globs find -0 PATTERN | find -files0-from - -maxdepth 0 TEST"
+    else (if is_one_of word (codes "-user" ∷ codes "-xdev" ∷ codes "-xtype" ∷
+    codes "--changed-before" ∷ codes "-mmin" ∷ codes "-ctime" ∷ codes "-atime" ∷ [])
+    then codes "; find has it: globs find -0 PATTERN | find -files0-from - -maxdepth 0 TEST"
+    else (if is_one_of word (codes "-executable" ∷ codes "-readable" ∷ codes "-writable" ∷
+    codes "-group" ∷ codes "--owner" ∷ codes "-links" ∷ codes "-inum" ∷ [])
+    then codes "; find has it: globs find -0 PATTERN | find -files0-from - -maxdepth 0 TEST"
+    else (if is_one_of word (codes "-samefile" ∷ codes "--newer" ∷ codes "-newermt" ∷
+    codes "-mount" ∷ codes "--one-file-system" ∷ codes "--max-filesize" ∷ [])
+    then codes "; find has it: globs find -0 PATTERN | find -files0-from - -maxdepth 0 TEST"
+    else joined_words word)))
+
+-- for `find`, instead of an option that is not needed, or that git has
+unfoldable pub find_needless_words : (word : Text) → Text
+find_needless_words word =
+    if is_one_of word (codes "-print" ∷ codes "-P" ∷ codes "-j" ∷ codes "--threads" ∷
+    codes "--color" ∷ codes "--sort" ∷ codes "--colour" ∷ codes "--name-only" ∷ [])
+    then codes "; leave it out, as it is not needed"
+    else (if is_one_of word (codes "--strip-cwd-prefix" ∷ codes "--no-heading" ∷ codes "--stats" ∷
+    codes "--relative" ∷ codes "--dry-run" ∷ codes "--verbose" ∷ codes "--no-follow" ∷
+    codes "--sort-files" ∷ [])
+    then codes "; leave it out, as it is not needed"
+    else (if is_one_of word (codes "-r" ∷ codes "-R" ∷ codes "--recursive" ∷ codes "-Recurse" ∷ [])
+    then codes "; a pattern that begins with **/ searches below: '**/*.rs'"
+    else (if is_one_of word (codes "--absolute-path" ∷ codes "--absolute" ∷ [])
+    then codes "; a pattern that begins with / gives such paths: \"$PWD/**/*.rs\""
+    else (if is_one_of word (codes "--modified" ∷ codes "--untracked" ∷ codes "--ignored" ∷
+    codes "--stage" ∷ codes "--deleted" ∷ codes "-m" ∷ [])
+    then codes "; pipe the paths of git ls-files to globs match -s"
+    else (if is_one_of word (codes "-V" ∷ codes "--version" ∷ [])
+    then codes "; use globs --version"
+    else find_test_words word)))))
 
 -- for `find`, instead of an option about what is done with the paths
 unfoldable pub find_output_words : (word : Text) → Text
 find_output_words word =
-    if is_one_of word (codes "-print0" ∷ codes "--print0" ∷ codes "-z" ∷ codes "--null" ∷ [])
+    if is_one_of word (codes "-print0" ∷ codes "--print0" ∷ codes "-z" ∷ codes "--null" ∷
+    codes "--zero" ∷ [])
     then codes "; use -0"
-    else (if is_one_of word (codes "-exec" ∷ codes "-execdir" ∷ codes "-ok" ∷ codes "--exec" ∷ codes "--exec-batch" ∷ [])
+    else (if is_one_of word (codes "-exec" ∷ codes "-execdir" ∷ codes "-ok" ∷ codes "--exec" ∷
+    codes "--exec-batch" ∷ [])
     then codes "; use -0, and pipe the paths to xargs -0"
-    else (if bytes_eq word (codes "-delete")
+    else (if is_one_of word (codes "-delete" ∷ codes "--delete" ∷ [])
     then codes "; use -0, and pipe the paths to xargs -0r rm --"
-    else (if is_one_of word (codes "-l" ∷ codes "-ls" ∷ codes "-printf" ∷ codes "--list-details" ∷ [])
+    else (if is_one_of word (codes "-l" ∷ codes "-ls" ∷ codes "--list-details" ∷ codes "-la" ∷
+    codes "-al" ∷ codes "-lh" ∷ codes "-lt" ∷ codes "--long" ∷ [])
     then codes "; use -0, and pipe the paths to xargs -0r ls -ld --"
-    else (if is_one_of word (codes "-1" ∷ codes "-quit" ∷ codes "--max-results" ∷ [])
+    else (if is_one_of word (codes "-printf" ∷ codes "--format" ∷ [])
+    then codes "; use -0, and pipe the paths to xargs -0r stat -c FORMAT --"
+    else (if is_one_of word (codes "-1" ∷ codes "-quit" ∷ codes "--max-results" ∷ codes "--limit" ∷
+    codes "--head" ∷ codes "--max-count" ∷ [])
     then codes "; pipe the paths to head"
+    else (if bytes_eq word (codes "--count")
+    then codes "; pipe the paths to wc -l"
+    else (if is_one_of word (codes "-depth" ∷ codes "--sortr" ∷ codes "--reverse" ∷ [])
+    then codes "; pipe the paths to sort -r"
     else (if is_one_of word (codes "-q" ∷ codes "--quiet" ∷ [])
     then codes "; redirect the output to /dev/null"
+    else (if is_one_of word (codes "-fprint" ∷ codes "-fls" ∷ codes "--output" ∷ [])
+    then codes "; redirect the output to a file: >FILE"
     else (if is_one_of word (codes "-o" ∷ codes "-or" ∷ [])
     then codes "; give several patterns"
-    else (if is_one_of word (codes "-print" ∷ codes "-r" ∷ codes "-R" ∷ codes "--recursive" ∷ codes "-P" ∷ codes "-j" ∷
-    codes "--threads" ∷ codes "--color" ∷ codes "--sort" ∷ [])
-    then codes "; it is not needed"
-    else (if is_one_of word (codes "-size" ∷ codes "--size" ∷ codes "-S" ∷ codes "-mtime" ∷ codes "-newer" ∷
-    codes "--changed-within" ∷ codes "-empty" ∷ codes "-perm" ∷ codes "-user" ∷ codes "-xdev" ∷ codes "-xtype" ∷ [])
-    then codes "; find(1) has such a test"
-    else (if is_one_of word (codes "-V" ∷ codes "--version" ∷ [])
-    then codes "; use globs --version" else joined_words word)))))))))
+    else find_needless_words word))))))))))
 
 -- for `find`, instead of an option about what is left out, or where to search
 unfoldable pub find_rule_words : (word : Text) → Text
 find_rule_words word =
-    if is_one_of word (codes "-not" ∷ codes "-prune" ∷ codes "-E" ∷ codes "--exclude" ∷ codes "-T" ∷ codes "--type-not" ∷ [])
+    if is_one_of word (codes "-not" ∷ codes "-prune" ∷ codes "-E" ∷ codes "--exclude" ∷
+    codes "-T" ∷ codes "--type-not" ∷ [])
     then codes "; use -x RULE"
-    else (if is_one_of word (codes "-H" ∷ codes "--hidden" ∷ codes "-u" ∷ codes "-uu" ∷ codes "-uuu" ∷ codes "-I" ∷
-    codes "-HI" ∷ codes "-a" ∷ codes "-A" ∷ codes "--all" ∷ codes "--no-ignore" ∷ codes "--no-git" ∷ [])
+    else (if is_one_of word (codes "--prune" ∷ codes "-v" ∷ codes "--invert" ∷
+    codes "--invert-match" ∷ codes "-Exclude" ∷ [])
+    then codes "; use -x RULE"
+    else (if is_one_of word (codes "-H" ∷ codes "--hidden" ∷ codes "-u" ∷ codes "-uu" ∷
+    codes "-uuu" ∷ codes "-I" ∷ codes "-HI" ∷ codes "-a" ∷ [])
     then codes "; nothing is hidden or ignored by default"
-    else (if is_one_of word (codes "--ignore-file" ∷ codes "-X" ∷ codes "--exclude-from" ∷ [])
+    else (if is_one_of word (codes "-A" ∷ codes "--all" ∷ codes "--no-ignore" ∷ codes "--no-git" ∷
+    codes "-Force" ∷ codes "-Hidden" ∷ codes "--no-ignore-vcs" ∷ [])
+    then codes "; nothing is hidden or ignored by default"
+    else (if is_one_of word (codes "--ignore-file" ∷ codes "--exclude-from" ∷ [])
     then codes "; use --ignore FILE"
+    else (if bytes_eq word (codes "-X")
+    then codes "; use --ignore FILE, or to run a program -0 and xargs -0"
     else (if bytes_eq word (codes "--exclude-per-directory")
     then codes "; use --ignore-files NAME"
-    else (if is_one_of word (codes "--exclude-standard" ∷ codes "--gitignore" ∷ codes "-git" ∷ codes "--others" ∷
-    codes "--cached" ∷ codes "-co" ∷ [])
+    else (if is_one_of word (codes "--exclude-standard" ∷ codes "--gitignore" ∷ codes "-git" ∷
+    codes "--others" ∷ codes "--cached" ∷ codes "-co" ∷ [])
     then codes "; use --git"
-    else (if is_one_of word (codes "-follow" ∷ codes "--follow" ∷ [])
+    else (if is_one_of word (codes "-follow" ∷ codes "--follow" ∷ codes "--dereference" ∷ [])
     then codes "; use -L"
-    else (if is_one_of word (codes "--base-directory" ∷ codes "--search-path" ∷ codes "--" ∷ [])
+    else (if is_one_of word (codes "--base-directory" ∷ codes "--search-path" ∷ codes "--" ∷
+    codes "--root" ∷ codes "--cwd" ∷ codes "--path" ∷ codes "-Path" ∷ codes "--dir" ∷ [])
     then codes "; use -C DIR to search DIR"
     else (if bytes_eq word (codes "--files")
-    then codes "; use -t f '**'" else find_output_words word)))))))
+    then codes "; use -t f '**'"
+    else find_output_words word))))))))))
 
 -- for `find`, instead of an option that says which names or kinds are wanted
 unfoldable pub find_pattern_words : (word : Text) → Text
 find_pattern_words word =
-    if is_one_of word (codes "-type" ∷ codes "--type" ∷ codes "-tf" ∷ codes "-td" ∷ codes "-tl" ∷ [])
+    if is_one_of word (codes "-type" ∷ codes "--type" ∷ codes "-tf" ∷ codes "-td" ∷
+    codes "-tl" ∷ [])
     then codes "; use -t f, -t d or -t l"
-    else (if is_one_of word (codes "-maxdepth" ∷ codes "--maxdepth" ∷ codes "-max-depth" ∷ codes "--depth" ∷ [])
+    else (if is_one_of word (codes "-File" ∷ codes "-Directory" ∷ codes "--dirs" ∷
+    codes "--only-dirs" ∷ codes "--only-files" ∷ [])
+    then codes "; use -t f, -t d or -t l"
+    else (if is_one_of word (codes "-maxdepth" ∷ codes "--maxdepth" ∷ codes "-max-depth" ∷
+    codes "--depth" ∷ codes "-Depth" ∷ codes "--level" ∷ [])
     then codes "; use --max-depth N"
     else (if is_one_of word (codes "-mindepth" ∷ codes "--mindepth" ∷ codes "--min-depth" ∷ [])
     then codes "; a pattern says how deep: '*/*/**'"
-    else (if is_one_of word (codes "-name" ∷ codes "-path" ∷ codes "-wholename" ∷ codes "-g" ∷ codes "--glob" ∷
-    codes "-e" ∷ codes "--extension" ∷ [])
+    else (if is_one_of word (codes "-name" ∷ codes "-path" ∷ codes "-wholename" ∷ codes "-g" ∷
+    codes "--glob" ∷ codes "-e" ∷ codes "--extension" ∷ [])
+    then codes "; use a pattern: '**/*.rs'"
+    else (if is_one_of word (codes "--ext" ∷ codes "--include" ∷ codes "--name" ∷
+    codes "--pattern" ∷ codes "-Filter" ∷ codes "-Include" ∷ [])
     then codes "; use a pattern: '**/*.rs'"
     else (if is_one_of word (codes "-iname" ∷ codes "-ipath" ∷ codes "--iglob" ∷ [])
     then codes "; use -i and a pattern: -i '**/*.rs'"
     else (if is_one_of word (codes "-regex" ∷ codes "-iregex" ∷ codes "--regex" ∷ [])
     then codes "; a pattern is not a regular expression: '**/*.rs'"
-    else (if bytes_eq word (codes "--ignore-case")
+    else (if is_one_of word (codes "--ignore-case" ∷ codes "--nocase" ∷ codes "--case-insensitive" ∷ [])
     then codes "; use -i"
     else (if is_one_of word (codes "-s" ∷ codes "--case-sensitive" ∷ [])
-    then codes "; without -i case counts"
+    then codes "; leave it out: without -i case counts"
     else (if is_one_of word (codes "-F" ∷ codes "--fixed-strings" ∷ [])
     then codes "; globs escape writes a pattern for a name"
     else (if is_one_of word (codes "-p" ∷ codes "--full-path" ∷ [])
-    then codes "; a pattern matches a whole path" else find_rule_words word)))))))))
+    then codes "; leave it out: a pattern matches a whole path"
+    else find_rule_words word)))))))))))
+
+-- for `match`, instead of an option about what is done with the lines
+unfoldable pub match_line_words : (word : Text) → Text
+match_line_words word =
+    if is_one_of word (codes "-w" ∷ codes "--word-regexp" ∷ codes "-o" ∷
+    codes "--only-matching" ∷ [])
+    then codes "; a pattern matches a whole line: '*a*' if the line contains a"
+    else (if is_one_of word (codes "-c" ∷ codes "--count" ∷ [])
+    then codes "; pipe the lines to wc -l"
+    else (if is_one_of word (codes "-m" ∷ codes "--max-count" ∷ codes "-m1" ∷ [])
+    then codes "; pipe the lines to head"
+    else (if is_one_of word (codes "-n" ∷ codes "--line-number" ∷ [])
+    then codes "; number the lines first, as in cat -n FILE | globs match '*.rs'"
+    else (if is_one_of word (codes "-q" ∷ codes "--quiet" ∷ [])
+    then codes "; redirect the output to /dev/null"
+    else (if is_one_of word (codes "-f" ∷ codes "--file" ∷ [])
+    then codes "; give the patterns as words"
+    else (if is_one_of word (codes "-H" ∷ codes "--color" ∷ codes "--colour" ∷
+    codes "--line-buffered" ∷ [])
+    then codes "; leave it out, as it is not needed"
+    else []))))))
 
 -- for `match`
 unfoldable pub match_words : (word : Text) → Text
@@ -119,13 +212,8 @@ match_words word =
     else (if is_one_of word (codes "-V" ∷ codes "--version" ∷ [])
     then codes "; use globs --version"
     else (if is_one_of word (codes "-x" ∷ codes "--line-regexp" ∷ [])
-    then codes "; a pattern matches a whole line"
-    else (if is_one_of word (codes "-c" ∷ codes "--count" ∷ [])
-    then codes "; pipe the lines to wc -l"
-    else (if is_one_of word (codes "-q" ∷ codes "--quiet" ∷ [])
-    then codes "; redirect the output to /dev/null"
-    else (if is_one_of word (codes "-f" ∷ codes "--file" ∷ [])
-    then codes "; give the patterns as words" else []))))))))))))
+    then codes "; leave it out: a pattern matches a whole line"
+    else match_line_words word)))))))))
 
 -- for `ignore`
 unfoldable pub ignore_words : (word : Text) → Text
@@ -140,48 +228,77 @@ ignore_words word =
     then codes "; redirect the output to /dev/null"
     else (if bytes_eq word (codes "--verbose")
     then codes "; use -v"
+    else (if is_one_of word (codes "-i" ∷ codes "--ignore-case" ∷ [])
+    then codes "; a rule lists both cases in brackets: *.[oO]"
     else (if bytes_eq word (codes "--no-index")
-    then codes "; it is not needed" else [])))))
+    then codes "; leave it out, as it is not needed"
+    else []))))))
+
+-- what to write instead of any word where texts are taken that may begin with a hyphen
+abbrev pub text_words : Text
+text_words = codes "; write -- first if a text begins with -"
+
+-- for `escape`
+unfoldable pub escape_words : (word : Text) → Text
+escape_words word =
+    if is_one_of word (codes "-z" ∷ codes "--null" ∷ [])
+    then codes "; use -0"
+    else (if is_one_of word (codes "-" ∷ codes "--stdin" ∷ [])
+    then codes "; texts are words: for lines of input use xargs -d '\\n' globs escape --"
+    else text_words)
+
+-- the character is in patterns and paths, and in no command
+abbrev pub is_of_path : ℕ → Bool
+is_of_path c = c == 42 || (c == 46 || c == 47)
 
 -- instead of an option, a pattern or a path in the place of a command
 unfoldable pub first_words : (word : Text) → Text
-first_words [] = []
-first_words (c ∷ rest) =
-    if c == 45 then codes "; a command comes before its options"
-    else (if c == 42 || (c == 46 || c == 47) then codes "; use globs find" else [])
+first_words word =
+    if is_option word then codes "; a command comes before its options"
+    else (if list_any is_of_path word
+    then codes "; use globs find"
+    else codes "; the commands are find, match, ignore, explain and escape")
+
+-- instead of a word in the place of a command that is nearly one, or an option, a pattern or a path
+abbrev pub slip_words : (word : Text) → Text
+slip_words word = if is_empty (near_command_words word) then first_words word else near_command_words word
 
 -- instead of a word that somebody may guess to be a command
 unfoldable pub guess_words : (word : Text) → Text
 guess_words word =
-    if is_one_of word (codes "glob" ∷ codes "locate" ∷ codes "walk" ∷ codes "tree" ∷ [])
+    if is_one_of word (codes "glob" ∷ codes "locate" ∷ codes "walk" ∷ codes "tree" ∷
+    codes "where" ∷ [])
     then codes "; use globs find"
     else (if bytes_eq word (codes "fnmatch")
     then codes "; use globs match"
     else (if bytes_eq word (codes "exclude")
     then codes "; use globs ignore"
-    else (if is_one_of word (codes "why" ∷ codes "test" ∷ codes "check" ∷ [])
+    else (if is_one_of word (codes "why" ∷ codes "test" ∷ codes "check" ∷ codes "--explain" ∷ [])
     then codes "; use globs explain"
-    else (if is_one_of word (codes "man" ∷ codes "usage" ∷ codes "-?" ∷ [])
-    then codes "; use globs help" else first_words word))))
+    else (if is_one_of word (codes "man" ∷ codes "usage" ∷ codes "-?" ∷ codes "/?" ∷ codes "-help" ∷ [])
+    then codes "; use globs help"
+    else slip_words word))))
 
 -- instead of a word in the place of a command
 unfoldable pub habit_words : (word : Text) → Text
 habit_words word =
-    if is_one_of word (codes "Find" ∷ codes "fnd" ∷ codes "finds" ∷ codes "search" ∷ codes "ls" ∷ codes "ls-files" ∷
-    codes "list" ∷ codes "fd" ∷ codes "files" ∷ codes "--files" ∷ [])
+    if is_one_of word (codes "Find" ∷ codes "FIND" ∷ codes "--find" ∷ codes "finds" ∷
+    codes "search" ∷ codes "ls" ∷ [])
     then codes "; use globs find"
-    else (if is_one_of word (codes "Match" ∷ codes "matches" ∷ codes "filter" ∷ codes "grep" ∷ codes "rg" ∷ [])
+    else (if is_one_of word (codes "ls-files" ∷ codes "list" ∷ codes "fd" ∷ codes "files" ∷
+    codes "--files" ∷ codes "dir" ∷ [])
+    then codes "; use globs find"
+    else (if is_one_of word (codes "Match" ∷ codes "MATCH" ∷ codes "--match" ∷ codes "matches" ∷
+    codes "filter" ∷ codes "grep" ∷ codes "rg" ∷ codes "findstr" ∷ [])
     then codes "; use globs match"
-    else (if is_one_of word (codes "check-ignore" ∷ codes "ignores" ∷ codes "gitignore" ∷ [])
+    else (if is_one_of word (codes "check-ignore" ∷ codes "ignores" ∷ codes "gitignore" ∷
+    codes "--ignore" ∷ [])
     then codes "; use globs ignore"
-    else (if bytes_eq word (codes "quote")
+    else (if is_one_of word (codes "quote" ∷ codes "--escape" ∷ [])
     then codes "; use globs escape"
     else (if is_one_of word (codes "-v" ∷ codes "-V" ∷ codes "version" ∷ [])
-    then codes "; use globs --version" else guess_words word))))
-
--- what to write instead of any word where texts are taken that may begin with a hyphen
-abbrev pub text_words : Text
-text_words = codes "; write -- first if a text begins with -"
+    then codes "; use globs --version"
+    else guess_words word)))))
 
 -- what to write instead of an option that the command does not have
 abbrev pub foreign_words : Name → (word : Text) → Text
@@ -189,4 +306,4 @@ foreign_words Find word = find_pattern_words (option_part word)
 foreign_words Match word = match_words (option_part word)
 foreign_words Ignore word = ignore_words (option_part word)
 foreign_words Explain word = text_words
-foreign_words Escape word = text_words
+foreign_words Escape word = escape_words (option_part word)

@@ -13,6 +13,7 @@ pub mod Ignoring
 pub mod IgnoringPaths
 pub mod Matching
 pub mod Naming
+pub mod Near
 pub mod Options
 pub mod Outcomes
 pub mod Patterns

@@ -100,7 +100,7 @@ fn check_alternatives<A: Allocator + Copy, E: Write>(
 }
 
 /// Why the command refuses a pattern; `None` if it accepts the pattern, or if an allocation fails.
-fn pattern_fault<A: Allocator + Copy>(
+pub fn pattern_fault<A: Allocator + Copy>(
     alloc: A,
     name: Name,
     pattern: &str,

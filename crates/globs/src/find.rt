@@ -8,7 +8,7 @@ ghost use Rattle.globs.specs.Find.Outcomes.{Finds, FindsAll, FindsPaths, FindsUn
 ghost use Rattle.globs.specs.Find.Writing.{status_of};
 
 mod aim;
-mod astray;
+pub mod astray;
 mod beginning;
 pub mod below;
 mod directories;
@@ -133,7 +133,7 @@ where
     let expanded = match expand_words(alloc, Name::Find, words, errors) {
         Ok(expanded) => expanded,
         Err(Reported) => {
-            note_astray(alloc, words, errors);
+            note_astray(alloc, options, words, errors);
             note_refused(alloc, words, errors);
             return FAULT;
         }

@@ -119,7 +119,9 @@ not change the status. There are hints about
 
   * a bracket [^a], words such as !a or :!a that exclude nothing, a dash that is not -, a kind
     without its own -t, and a name with a bracket that does not match itself as a pattern
-  * a rule of -x that ignores nothing, or is the name of a program such as rm
+  * a rule of -x that ignores nothing, or all that a pattern matches, or is a regular expression,
+    a path from the root on, or the name of a program such as rm
+  * braces such as {c, h}, and words such as and, |, > or /s that were meant for another program
   * directories as the first or last words, if nothing else was found
   * a last word that is only the beginning of a path, as src/main is of src/main.rs
   * if nothing was found: ~/, part of a name, quotes, spaces and \\ in a pattern, upper-case

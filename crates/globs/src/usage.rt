@@ -3,7 +3,8 @@ ghost use Rattle.std.specs.Prelude.{◌≡◌, Some};
 ghost use Rattle.globs.specs.Faults.{help_words, instead_words, subject_words, usage_words, why_words};
 ghost use Rattle.globs.specs.declared.usage.UsageFault.TheVariants.{Word};
 
-use crate::foreign::{foreign, habit};
+use crate::foreign::commands::habit;
+use crate::foreign::foreign;
 use crate::name::Name;
 use crate::visible::Visible;
 use std::alloc::{AllocError, AllocFailed};
@@ -135,7 +136,7 @@ impl Why {
     {
         match self {
             Why::Unknown => " is not an option",
-            Why::Valueless => " needs a value",
+            Why::Valueless => " needs a value, which is the next word or follows =",
             Why::Limit => " is not a limit: -n needs a whole number below 2^64",
             Why::Depth => " is not a depth: --max-depth needs a whole number below 2^64",
             Why::Kind => " is not a kind: use -t f, -t d or -t l, or several of them",
@@ -143,11 +144,16 @@ impl Why {
             Why::Late => " comes after an operand, where it could be a name: put options first",
             Why::Taken => " is the value of the option before it, and no PATTERN follows",
             Why::Bare => match name {
-                Some(Name::Ignore) => "missing FILE",
-                Some(Name::Escape) => "missing TEXT",
-                Some(Name::Find | Name::Match | Name::Explain) | None => "missing PATTERN",
+                Some(Name::Find) => "missing PATTERN, as in globs find '**/*.rs'",
+                Some(Name::Match) => "missing PATTERN, as in globs match '*.rs' <FILE",
+                Some(Name::Ignore) => "missing FILE, as in git ls-files | globs ignore .gitignore",
+                Some(Name::Explain) => "missing PATTERN, as in globs explain '*.rs' a.rs",
+                Some(Name::Escape) => {
+                    "missing TEXT, as in globs escape 'a[1]', or for lines xargs -d '\\n' globs escape --"
+                }
+                None => "missing PATTERN",
             },
-            Why::Textless => "missing TEXT",
+            Why::Textless => "missing TEXT, as in globs explain '*.rs' a.rs",
             Why::Extra => " comes after the text: quote the pattern",
             Why::Surplus => " is one word too many: ask help about one command",
             Why::Command => " is not a command",

@@ -5,8 +5,10 @@ ghost use Rattle.globs.specs.Faults.{quoted};
 ghost use Rattle.globs.specs.Visible.{visible};
 
 use crate::explain::foreign::native_forms;
+use crate::find::astray::note_braces;
 use crate::find::slips::line::Slip;
-use crate::find::slips::{is_foreign, note_escaped, note_valid, unquoted};
+use crate::find::slips::syntax::{is_foreign, note_escaped};
+use crate::find::slips::{note_valid, unquoted};
 use crate::forms::note_form;
 use crate::input::FirstRecord;
 use crate::visible::Visible;
@@ -28,7 +30,7 @@ pub fn note_invalid<A: Allocator + Copy, E: Write>(
     errors: &mut ErrorLines<'_, A, E>,
 ) {
     for word in words {
-        if word.contains('{') {
+        if note_braces(words, word, errors) || word.contains('{') {
             return;
         }
         if Pattern::new(alloc, word).is_err() {

@@ -2,6 +2,8 @@
 use crate::find::below::is_below;
 use crate::find::leads::split_lead;
 use crate::find::missing::is_plain;
+use crate::options::Options;
+use crate::quoting::ShellWord;
 use crate::visible::Visible;
 use glob_console::ErrorLines;
 use glob_pattern::Pattern;
@@ -13,23 +15,106 @@ use std::io::Write;
 /// certain.
 pub fn note_astray<A: Allocator + Copy, E: Write>(
     alloc: A,
+    options: &Options<'_, A>,
     words: &[&str],
     errors: &mut ErrorLines<'_, A, E>,
 ) {
     for word in words {
+        if note_braces(words, word, errors) {
+            return;
+        }
         if !is_below(word) {
-            if words.len() > 1 && (*word == "." || *word == "./") {
+            if let Some((_, path)) = word.split_once("://") {
+                errors.write(&AddressLine { path });
+            } else if words.len() > 1 && (*word == "." || *word == "./") {
                 errors.write(&HereLine { word });
             } else if let Some(line) = InsteadLine::new(word) {
                 errors.write(&line);
             } else if let Some(line) = ShorterLine::new(word) {
                 errors.write(&line);
+            } else if let Some(line) = UpLine::new(word) {
+                if options.directory.is_empty() {
+                    errors.write(&line);
+                }
             }
             return;
         }
         if Pattern::new(alloc, word).is_err() {
             return;
         }
+    }
+}
+
+/// Writes what to write instead of a word whose braces are not closed, and returns whether they are not.
+pub fn note_braces<A: Allocator + Copy, E: Write>(
+    words: &[&str],
+    word: &str,
+    errors: &mut ErrorLines<'_, A, E>,
+) -> bool {
+    let Some((_, after)) = word.rsplit_once('{') else {
+        return false;
+    };
+    if after.contains(['}', ']'].as_slice()) {
+        return false;
+    }
+    let is_split = word.ends_with(',') && words.iter().any(|other| other.ends_with('}'));
+    if is_split {
+        errors.write(&"quote the word, and leave out the blank in its braces: '*.{c,h}'");
+    } else {
+        errors.write(&"close the { with a }, or write [{] for the character {");
+    }
+    true
+}
+
+/// The line about an address such as `file:///a`, whose path is what follows `://`.
+#[derive(Clone, Copy)]
+struct AddressLine<'a> {
+    path: &'a str,
+}
+
+impl Display for AddressLine<'_> {
+    fn fmt<W: fmt::Write>(&self, f: &mut fmt::Formatter<W>) -> fmt::Result {
+        if self.path.starts_with('/') {
+            let path = Visible { text: self.path };
+            write!(f, "write instead: '{path}'")
+        } else {
+            f.write_str("an address of the network is not a path: globs find searches directories")
+        }
+    }
+}
+
+/// The line that says what to write instead of a word with a `..` after the name of a directory.
+#[derive(Clone, Copy)]
+struct UpLine<'a> {
+    directory: &'a str,
+    /// What follows the `..` and its `/`.
+    below: &'a str,
+}
+
+impl<'a> UpLine<'a> {
+    /// The line about a refused word; `None` if it is not certain what to write.
+    fn new(word: &'a str) -> Option<Self> {
+        let (directory, below) = word.split_once("/../")?;
+        let (_, name) = split_lead(directory);
+        let (_, rest) = split_lead(below);
+        if is_plain(name)
+            && is_below(rest)
+            && !word.contains(|c: char| c == '\'' || c.is_control())
+        {
+            Some(UpLine { directory, below })
+        } else {
+            None
+        }
+    }
+}
+
+impl Display for UpLine<'_> {
+    fn fmt<W: fmt::Write>(&self, f: &mut fmt::Formatter<W>) -> fmt::Result {
+        let directory = ShellWord {
+            text: self.directory,
+        };
+        let below = Visible { text: self.below };
+        write!(f, "write instead: -C {directory} '../{below}'")
     }
 }
 

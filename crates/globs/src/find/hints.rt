@@ -73,7 +73,7 @@ pub fn note_words<A: Allocator + Copy, E: Write>(
     status: u8,
     errors: &mut ErrorLines<'_, A, E>,
 ) {
-    note_rules(options, errors);
+    note_rules(alloc, options, patterns, status, errors);
     if let [first, _, ..] = words {
         if options.settings.options.require_literal_leading_dot && is_number(first) {
             errors.write(&Hint::Dots(first));

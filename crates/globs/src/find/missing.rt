@@ -8,6 +8,7 @@ use crate::find::way::note_way;
 use crate::input::is_help;
 use crate::name::Name;
 use crate::options::Options;
+use crate::quoting::ShellWord;
 use crate::usage::HelpWord;
 use crate::visible::Visible;
 use glob_console::ErrorLines;
@@ -25,6 +26,12 @@ enum Missing<'a> {
     Name(&'a str, &'a str, &'a str),
     /// This word is the beginning of a path, which ends in this name after this directory.
     Beginning(&'a str, &'a str, &'a str),
+    /// This word has a colon, and this part of it is a path.
+    Part(&'a str, &'a str),
+    /// This word is an option of Windows.
+    Switch(&'a str),
+    /// This word repeats the command.
+    Command(&'a str),
 }
 
 impl Display for Missing<'_> {
@@ -37,6 +44,18 @@ impl Display for Missing<'_> {
                     "`{lead}{pattern}` matches one path: '{lead}**/*{name}*' matches each name that contains {name}"
                 )
             }
+            Missing::Part(word, path) => {
+                let (word, path) = (Visible { text: *word }, ShellWord { text: *path });
+                write!(
+                    f,
+                    "`{word}` is not there, but {path} is: leave out the rest"
+                )
+            }
+            Missing::Switch(word) => write!(
+                f,
+                "`{word}` was read as a path: options begin with -, and globs help find lists them"
+            ),
+            Missing::Command(word) => { write!(f, "`{word}` was read as a PATTERN: leave it out") }
             Missing::Beginning(word, directory, name) => {
                 let (word, directory) = (Visible { text: *word }, Visible { text: *directory });
                 let name = Visible { text: *name };
@@ -60,18 +79,32 @@ pub fn note_missing<P: Places, F: PathKinds, E: Write>(
     is_found: bool,
     errors: &mut ErrorLines<'_, P::Alloc, E>,
 ) {
+    for word in words {
+        if is_switch(word) && is_missing(alloc, files, options, word) {
+            errors.write(&Missing::Switch(word));
+            return;
+        }
+    }
     if let [_, .., last] = words {
         note_beginning(alloc, places, files, options, last, errors);
     }
     if is_found {
         return;
     }
+    if let [first, _, ..] = words {
+        if *first == "find" && is_missing(alloc, files, options, first) {
+            errors.write(&Missing::Command(first));
+            return;
+        }
+    }
     if is_help(words) {
         errors.write(&HelpWord { name: Name::Find });
         return;
     }
     if let [pattern, ..] = patterns {
-        if note_way(alloc, places, files, options, pattern, errors) {
+        if note_way(alloc, places, files, options, pattern, errors)
+            || note_part(alloc, files, options, pattern, errors)
+        {
             return;
         }
     }
@@ -84,6 +117,34 @@ pub fn note_missing<P: Places, F: PathKinds, E: Write>(
     if let [pattern, ..] = patterns {
         note_name(alloc, files, options, pattern, errors);
     }
+}
+
+/// Whether a word looks like an option of Windows: a `/`, and a letter or a `?`.
+fn is_switch(word: &str) -> bool {
+    match word.as_bytes() {
+        [b'/', letter] => letter.is_ascii_alphabetic() || *letter == b'?',
+        _ => false,
+    }
+}
+
+/// Writes which part of a word with a colon, such as `a.c:12` or `HEAD:a.c`, is a path, and returns whether one is.
+fn note_part<A: Allocator + Copy, F: PathKinds, E: Write>(
+    alloc: A,
+    files: &F,
+    options: &Options<'_, A>,
+    pattern: &str,
+    errors: &mut ErrorLines<'_, A, E>,
+) -> bool {
+    let Some((before, after)) = pattern.split_once(':') else {
+        return false;
+    };
+    let is_line = after.starts_with(|c: char| c.is_ascii_digit());
+    let part = if is_line { before } else { after };
+    let is_path = is_plain(part) && !is_missing(alloc, files, options, part);
+    if is_path {
+        errors.write(&Missing::Part(pattern, part));
+    }
+    is_path
 }
 
 /// Writes how to find names that have a text in them, if a pattern is only a text, perhaps between `^` and `$` or white

@@ -1,5 +1,6 @@
 //! Names in a directory of the disk, for lines about words. No clause speaks of them.
 use crate::find::places::{Place, Places};
+use crate::foreign::near::is_near;
 use glob_tree::{Entry, Tree};
 use std::alloc::Allocator;
 
@@ -10,6 +11,8 @@ pub enum Wanted<'a> {
     Beginning(&'a str),
     /// Those that differ from this text only in the case of ASCII letters.
     AnyCase(&'a str),
+    /// Those that differ from this text by one byte, or by the order of two neighbours.
+    Near(&'a str),
 }
 
 impl Wanted<'_> {
@@ -18,6 +21,7 @@ impl Wanted<'_> {
         match self {
             Wanted::Beginning(start) => name.starts_with(start),
             Wanted::AnyCase(text) => name.eq_ignore_ascii_case(text),
+            Wanted::Near(text) => is_near(name.as_bytes(), text.as_bytes()),
         }
     }
 }

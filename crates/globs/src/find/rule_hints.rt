@@ -1,14 +1,17 @@
 //! Lines about rules of the command line that ignore nothing or cannot be read. No clause is about these lines.
 ghost use Rattle.std.specs.Prelude.{◌≡◌};
 
+use crate::explain::foreign::native_forms;
+use crate::find::leads::split_lead;
+use crate::find::slips::syntax::{is_foreign, is_regex};
 use crate::ignoring::RulesFault;
 use crate::options::Options;
 use crate::quoting::ShellWord;
 use crate::visible::Visible;
-use glob_console::ErrorLines;
+use glob_console::{ErrorLines, UNFOUND};
 use std::alloc::Allocator;
 use std::fmt::{self, Display};
-use std::io::Write;
+use std::io::{ErrorKind, Write};
 
 /// A line about a rule, or about a name of ignore files.
 #[derive(Clone, Copy)]
@@ -19,6 +22,18 @@ enum RuleHint<'a> {
     Braces(&'a str),
     /// This rule re-includes what no other rule ignores.
     Negative(&'a str),
+    /// This rule is empty.
+    Empty(&'a str),
+    /// This rule is a comment.
+    Comment(&'a str),
+    /// This rule has a `[` that is not closed.
+    Unclosed(&'a str),
+    /// This rule is a regular expression.
+    Regex(&'a str),
+    /// This rule is a regular expression, and means this.
+    Meant(&'a str, &'a str),
+    /// This rule ignores all that this pattern matches.
+    Opposed(&'a str, &'a str),
     /// This name of ignore files has wildcards.
     Wild(&'a str),
     /// This name of an ignore file looks like a rule.
@@ -31,7 +46,7 @@ impl Display for RuleHint<'_> {
             RuleHint::Dotted(rule) => write_rule(
                 f,
                 rule,
-                "ignores nothing: paths never contain . or ..",
+                "ignores nothing: paths never contain . or .. For ./a write /a",
             ),
             RuleHint::Braces(rule) => {
                 write_rule(
@@ -44,7 +59,39 @@ impl Display for RuleHint<'_> {
                 write_rule(
                     f,
                     rule,
-                    "ignores nothing: ! takes back what earlier rules ignore",
+                    "ignores nothing: ! takes back what earlier rules ignore. Leave it out",
+                )
+            }
+            RuleHint::Empty(rule) => {
+                let typed = ShellWord { text: *rule };
+                write!(f, "-x {typed} ignores nothing: leave it out")
+            }
+            RuleHint::Comment(rule) => {
+                write_rule(
+                    f,
+                    rule,
+                    "ignores nothing, as # begins a comment: write \\# for a name",
+                )
+            }
+            RuleHint::Unclosed(rule) => write_rule(
+                f,
+                rule,
+                "ignores nothing, as its [ is not closed: write \\[ for the character",
+            ),
+            RuleHint::Regex(rule) => write_rule(
+                f,
+                rule,
+                "is not a regular expression: * is any characters, as in '*.o'",
+            ),
+            RuleHint::Meant(rule, form) => {
+                let (rule, form) = (Visible { text: *rule }, ShellWord { text: *form });
+                write!(f, "-x {rule} is not a regular expression: use -x {form}")
+            }
+            RuleHint::Opposed(rule, pattern) => {
+                let (rule, pattern) = (Visible { text: *rule }, Visible { text: *pattern });
+                write!(
+                    f,
+                    "-x {rule} ignores all that `{pattern}` matches: leave out one of them"
                 )
             }
             RuleHint::Wild(name) => {
@@ -69,8 +116,8 @@ fn write_rule<W: fmt::Write>(f: &mut fmt::Formatter<W>, rule: &str, words: &str)
     write!(f, "-x {rule} {words}")
 }
 
-/// Reports why rules could not be read and, if the file's name has wildcards, that --ignore takes a file and not a
-/// rule. Returns the status of a fault.
+/// Reports why rules could not be read and, if the file is a directory or its name has wildcards, that --ignore takes a
+/// file and not a rule. Returns the status of a fault.
 pub fn report_rules<A: Allocator + Copy, E: Write>(
     fault: RulesFault<'_>,
     errors: &mut ErrorLines<'_, A, E>,
@@ -78,13 +125,13 @@ pub fn report_rules<A: Allocator + Copy, E: Write>(
     ensures { result ≡ 2 }
 {
     let file = match &fault {
-        RulesFault::NoText(file) | RulesFault::Unread(file, _) => Some(*file),
-        RulesFault::Refused(_, _, _) | RulesFault::Rule(_, _) | RulesFault::Memory => None,
+        RulesFault::Unread(file, error) if error.kind() == ErrorKind::IsADirectory => Some(*file),
+        RulesFault::NoText(file) | RulesFault::Unread(file, _) if is_wild(file) => Some(*file),
+        _ => None,
     };
     let status = errors.fault(fault);
-    match file {
-        Some(file) if is_wild(file) => errors.write(&RuleHint::Rule(file)),
-        Some(_) | None => {}
+    if let Some(file) = file {
+        errors.write(&RuleHint::Rule(file));
     }
     status
 }
@@ -94,18 +141,20 @@ fn is_wild(name: &str) -> bool {
     name.contains(['*', '?', '['].as_slice())
 }
 
-/// Writes the lines about rules of the command line that ignore nothing.
+/// Writes the lines about rules of the command line that ignore nothing, or all that a search looked for. The patterns
+/// are those of a search that has ended with 0 or 1.
 pub fn note_rules<A: Allocator + Copy, E: Write>(
+    alloc: A,
     options: &Options<'_, A>,
+    patterns: &[&str],
+    status: u8,
     errors: &mut ErrorLines<'_, A, E>,
 ) {
     for rule in options.rules.as_slice() {
-        if is_dotted(rule) {
-            errors.write(&RuleHint::Dotted(rule));
-        }
-        if has_choice(rule) {
-            errors.write(&RuleHint::Braces(rule));
-        }
+        note_rule(alloc, rule, errors);
+    }
+    if status == UNFOUND {
+        note_opposed(options, patterns, errors);
     }
     if let [rule, ..] = options.rules.as_slice() {
         if has_only_negatives(options) {
@@ -116,6 +165,93 @@ pub fn note_rules<A: Allocator + Copy, E: Write>(
         if is_wild(name) {
             errors.write(&RuleHint::Wild(name));
         }
+    }
+}
+
+/// Writes the line about a rule that ignores nothing.
+fn note_rule<A: Allocator + Copy, E: Write>(
+    alloc: A,
+    rule: &str,
+    errors: &mut ErrorLines<'_, A, E>,
+) {
+    if rule.trim().is_empty() {
+        errors.write(&RuleHint::Empty(rule));
+    } else if rule.starts_with('#') {
+        errors.write(&RuleHint::Comment(rule));
+    } else if is_dotted(rule) {
+        errors.write(&RuleHint::Dotted(rule));
+    } else if has_choice(rule) {
+        errors.write(&RuleHint::Braces(rule));
+    } else if is_unclosed(rule) {
+        errors.write(&RuleHint::Unclosed(rule));
+    } else if is_regex(rule) {
+        note_regex(alloc, rule, errors);
+    }
+}
+
+/// Writes what to write instead of a rule that is a regular expression.
+fn note_regex<A: Allocator + Copy, E: Write>(
+    alloc: A,
+    rule: &str,
+    errors: &mut ErrorLines<'_, A, E>,
+) {
+    let Ok(forms) = native_forms(alloc, rule) else {
+        return;
+    };
+    match forms.as_slice() {
+        [form, ..] if !is_foreign(form.as_str()) => {
+            errors.write(&RuleHint::Meant(rule, form.as_str()));
+        }
+        _ => errors.write(&RuleHint::Regex(rule)),
+    }
+}
+
+/// Writes the line about a rule that ignores all that a pattern matches, unless a rule takes something back.
+fn note_opposed<A: Allocator + Copy, E: Write>(
+    options: &Options<'_, A>,
+    patterns: &[&str],
+    errors: &mut ErrorLines<'_, A, E>,
+) {
+    let rules = options.rules.as_slice();
+    let is_cased = options.settings.options.case_sensitive;
+    if !is_cased || rules.iter().any(|rule| rule.starts_with('!')) {
+        return;
+    }
+    for pattern in patterns {
+        let (_, below) = split_lead(pattern);
+        for rule in rules {
+            if is_opposed(rule, below) {
+                errors.write(&RuleHint::Opposed(rule, pattern));
+                return;
+            }
+        }
+    }
+}
+
+/// Whether a rule ignores all that a pattern matches, because it is the pattern or one of its components.
+fn is_opposed(rule: &str, pattern: &str) -> bool {
+    let is_certain = !rule.is_empty() && !rule.contains(['[', '\\', '{', '#'].as_slice());
+    if !is_certain {
+        return false;
+    }
+    if rule == pattern {
+        return true;
+    }
+    match rule.strip_suffix('/') {
+        // A component that is not the last names a directory.
+        Some(name) => match pattern.rsplit_once('/') {
+            Some((before, _)) => before.split('/').any(|component| component == name),
+            None => false,
+        },
+        None => pattern.split('/').any(|component| component == rule),
+    }
+}
+
+/// Whether a `[` of a rule is not closed.
+fn is_unclosed(rule: &str) -> bool {
+    match rule.rsplit_once('[') {
+        Some((before, after)) => !before.ends_with('\\') && !after.contains(']'),
+        None => false,
     }
 }
 

@@ -1,18 +1,21 @@
 //! Lines about slips in the words of a search: exclusions as in other tools, dashes and quotes as in printed texts,
 //! several patterns in one word, and patterns that do not mean what they look like. No clause is about these lines.
 pub mod line;
+pub mod syntax;
 
-use crate::explain::foreign::native_forms;
+use crate::braces::pattern_fault;
 use crate::explain::instead::{is_accepted, valid_forms};
-use crate::find::below::is_below;
 use crate::find::kinds::{PathKind, PathKinds};
 use crate::find::leads::split_lead;
+use crate::name::Name;
 use crate::options::{Kinds, Options};
+use crate::patterns::PatternFault;
 use glob_console::{ErrorLines, UNFOUND};
 use glob_pattern::{MatchOptions, Pattern};
 use line::Slip;
 use std::alloc::Allocator;
 use std::io::Write;
+use syntax::{magic_of, note_syntax};
 
 /// Beginnings of words by which other tools exclude what follows.
 static EXCLUDING: &[&str] = &[":(exclude)", ":!", ":^", "!"];
@@ -31,8 +34,10 @@ static BETWEEN: &[(char, &str)] = &[
     ('|', "a |"),
 ];
 
-/// Parts of regular expressions that are hardly parts of names.
-static REGEX: &[&str] = &["\\.", "\\w", "\\d", "\\b", "\\s", "(?"];
+/// Words of shells and other tools that join words.
+static JOINTS: &[&str] = &[
+    "|", ">", ">>", "<", "&&", "||", ";", "and", "or", "AND", "OR",
+];
 
 /// Characters that look like `-`.
 const DASHES: &str = "\u{2010}\u{2011}\u{2012}\u{2013}\u{2014}\u{2015}\u{2212}";
@@ -56,6 +61,12 @@ pub fn note_slips<A: Allocator + Copy, E: Write>(
     if is_unfound || words.len() > 1 {
         for word in words {
             has_any = note_beginning(word, errors) || has_any;
+        }
+    }
+    for word in words {
+        if is_blank_choice(word, is_unfound) {
+            errors.write(&Slip::Blank(word));
+            has_any = true;
         }
     }
     if is_unfound {
@@ -132,10 +143,8 @@ fn note_pattern<A: Allocator + Copy, E: Write>(
         errors.write(&Slip::Quoted(pattern, bare));
     } else if let Some(between) = several(pattern) {
         errors.write(&Slip::Several(pattern, between));
-    } else if let Some(path) = pattern.strip_prefix(":/") {
-        errors.write(&Slip::Top(path));
-    } else if pattern.contains('\\') {
-        return note_backslash(alloc, pattern, errors);
+    } else if note_syntax(alloc, pattern, errors) {
+        return true;
     } else if is_cased && is_upper(pattern) {
         errors.write(&Slip::Upper(pattern));
     } else {
@@ -180,55 +189,19 @@ fn is_upper(pattern: &str) -> bool {
     }
 }
 
-/// Writes what to write instead of a pattern with a `\`, unless the `\` is in a bracket or in a regular expression.
-fn note_backslash<A: Allocator + Copy, E: Write>(
-    alloc: A,
-    pattern: &str,
-    errors: &mut ErrorLines<'_, A, E>,
-) -> bool {
-    if pattern.contains('[') {
-        return false;
-    }
-    let beginning = if pattern.contains('/') { "" } else { "**/" };
-    if note_escaped(alloc, beginning, pattern, errors) {
-        return true;
-    }
-    let is_regex = REGEX.iter().any(|sign| pattern.contains(*sign));
-    if !is_regex {
-        errors.write(&Slip::Backslash(pattern));
-    }
-    !is_regex
-}
-
-/// Writes what to write instead of a pattern in which a `\` escapes characters, if that is certain, and returns whether
-/// it is. `beginning` comes before it.
-pub fn note_escaped<A: Allocator + Copy, E: Write>(
-    alloc: A,
-    beginning: &'static str,
-    pattern: &str,
-    errors: &mut ErrorLines<'_, A, E>,
-) -> bool {
-    if !pattern.contains('\\') {
-        return false;
-    }
-    let Ok(forms) = native_forms(alloc, pattern) else {
-        return false;
-    };
-    match forms.as_slice() {
-        [form, ..] if !is_foreign(form.as_str()) => {
-            errors.write(&Slip::Escaped(beginning, form.as_str()));
-            true
-        }
-        _ => false,
+/// Whether braces in a word have a blank after a comma: before an extension, or in a word that finds nothing.
+fn is_blank_choice(word: &str, is_unfound: bool) -> bool {
+    match word.split_once('{') {
+        Some((before, after)) => match after.split_once('}') {
+            Some((inside, _)) => inside.contains(", ") && (is_unfound || before.ends_with('.')),
+            None => false,
+        },
+        None => false,
     }
 }
 
-/// Whether a pattern still has a part of a regular expression, and so is no advice.
-pub fn is_foreign(form: &str) -> bool {
-    form.contains('|') || form.contains("(?") || form.starts_with('^') || form.ends_with('$')
-}
-
-/// Writes what to write instead of the first refused word, if it has a `**` that is not a whole component.
+/// Writes what to write instead of the first refused word, if it has git's syntax, a `**` that is not a whole component
+/// or a `[` that is not closed.
 pub fn note_refused<A: Allocator + Copy, E: Write>(
     alloc: A,
     words: &[&str],
@@ -239,13 +212,18 @@ pub fn note_refused<A: Allocator + Copy, E: Write>(
         ..MatchOptions::new()
     };
     for word in words {
-        if !is_below(word) || word.contains('{') {
-            return;
+        let fault = pattern_fault(alloc, Name::Find, word);
+        if fault.is_none() && !word.contains('{') {
+            continue;
         }
-        if Pattern::new(alloc, word).is_err() {
-            note_valid(alloc, options, word, errors);
-            return;
+        match (magic_of(word), fault) {
+            (Some((magic, path)), _) => errors.write(&Slip::Magic(magic, path)),
+            (None, Some(PatternFault::Syntax(_, _))) if !word.contains('{') => {
+                note_valid(alloc, options, word, errors);
+            }
+            (None, _) => {}
         }
+        return;
     }
 }
 
@@ -265,6 +243,8 @@ pub fn note_valid<A: Allocator + Copy, E: Write>(
             errors.write(&Slip::Several(word, between));
         } else if word.contains("**") && is_valid {
             errors.write(&Slip::Instead(form.as_str()));
+        } else if is_valid {
+            errors.write(&Slip::Unclosed(form.as_str()));
         }
     }
 }
@@ -313,9 +293,19 @@ pub fn note_names<A: Allocator + Copy, F: PathKinds, E: Write>(
             errors.write(&Slip::Unmatched(pattern));
         }
     }
+    if let [_, between @ .., _] = patterns {
+        for word in between {
+            if JOINTS.contains(word) && !is_there(alloc, files, directory, word) {
+                errors.write(&Slip::Joint(word));
+            }
+        }
+    }
     for rule in options.rules.as_slice() {
         if let Some(between) = joined(alloc, files, directory, rule) {
             errors.write(&Slip::Joined(rule, between));
+        }
+        if is_absolute(alloc, files, directory, rule, patterns) {
+            errors.write(&Slip::Absolute(rule));
         }
         if PROGRAMS.contains(rule) && !is_there(alloc, files, directory, rule) {
             errors.write(&Slip::Program(rule));
@@ -340,6 +330,23 @@ fn is_there<A: Allocator + Copy, F: PathKinds>(
 ) -> bool {
     let kind = files.kind(alloc, false, directory, path);
     kind.is_ok_and(|kind| kind != PathKind::Other)
+}
+
+/// Whether a rule is the path of something from the root on, although all patterns are searched for from elsewhere.
+fn is_absolute<A: Allocator + Copy, F: PathKinds>(
+    alloc: A,
+    files: &F,
+    directory: &str,
+    rule: &str,
+    patterns: &[&str],
+) -> bool {
+    let Some(path) = rule.strip_prefix('/') else {
+        return false;
+    };
+    path.contains('/')
+        && !patterns.iter().any(|pattern| pattern.starts_with('/'))
+        && is_there(alloc, files, directory, rule)
+        && !is_there(alloc, files, directory, path)
 }
 
 /// What separates the names in a rule, if the first name exists and what the whole rule names does not.

@@ -17,6 +17,8 @@ use std::io::Write;
 enum Way<'a> {
     /// Nothing has this path.
     Absent(&'a str),
+    /// Nothing has this path, but in this directory is this name, which is nearly the path's last.
+    Near(&'a str, &'a str, &'a str),
     /// Nothing has this path, but in this directory is this name, which differs from the path's last only in case.
     Cased(&'a str, &'a str, &'a str),
     /// This path is a symbolic link to a directory.
@@ -31,6 +33,11 @@ impl Display for Way<'_> {
             Way::Absent(path) => {
                 let path = Visible { text: *path };
                 write!(f, "`{path}` is not there, so nothing is found below it")
+            }
+            Way::Near(path, directory, name) => {
+                let (path, directory) = (Visible { text: *path }, Visible { text: *directory });
+                let name = Visible { text: *name };
+                write!(f, "`{path}` is not there, but '{directory}{name}' is")
             }
             Way::Cased(path, directory, name) => {
                 let (path, directory) = (Visible { text: *path }, Visible { text: *directory });
@@ -77,9 +84,7 @@ pub fn note_way<P: Places, F: PathKinds, E: Write>(
         match kind_at(alloc, files, options, path) {
             Some(PathKind::Directory) => {}
             Some(PathKind::Other) => {
-                if !note_cased(alloc, places, options, path, errors) {
-                    errors.write(&Way::Absent(path));
-                }
+                note_absent(alloc, places, options, path, errors);
                 return true;
             }
             Some(PathKind::Link) => {
@@ -98,6 +103,38 @@ pub fn note_way<P: Places, F: PathKinds, E: Write>(
     is_absent && note_cased(alloc, places, options, pattern, errors)
 }
 
+/// Writes that a path is not there, and which name is there instead of its last.
+fn note_absent<P: Places, E: Write>(
+    alloc: P::Alloc,
+    places: &P,
+    options: &Options<'_, P::Alloc>,
+    path: &str,
+    errors: &mut ErrorLines<'_, P::Alloc, E>,
+) {
+    if note_cased(alloc, places, options, path, errors) {
+        return;
+    }
+    let (directory, last) = split_last(path);
+    if last.len() > 2 {
+        if let Ok(place) = place_at(alloc, options.directory, directory) {
+            if let Some(name) = least_name(alloc, places, place.as_str(), Wanted::Near(last)) {
+                errors.write(&Way::Near(path, directory, name.as_str()));
+                return;
+            }
+        }
+    }
+    errors.write(&Way::Absent(path));
+}
+
+/// The directory of a path, with its `/`, and the path's last name.
+fn split_last(path: &str) -> (&str, &str) {
+    let last = match path.rsplit_once('/') {
+        Some((_, last)) => last,
+        None => path,
+    };
+    (path.strip_suffix(last).unwrap_or(""), last)
+}
+
 /// Writes which name is there instead of the last name of a path, if it differs only in case.
 fn note_cased<P: Places, E: Write>(
     alloc: P::Alloc,
@@ -106,11 +143,7 @@ fn note_cased<P: Places, E: Write>(
     path: &str,
     errors: &mut ErrorLines<'_, P::Alloc, E>,
 ) -> bool {
-    let last = match path.rsplit_once('/') {
-        Some((_, last)) => last,
-        None => path,
-    };
-    let directory = path.strip_suffix(last).unwrap_or("");
+    let (directory, last) = split_last(path);
     let Ok(place) = place_at(alloc, options.directory, directory) else {
         return false;
     };

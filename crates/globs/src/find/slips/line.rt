@@ -32,6 +32,24 @@ pub enum Slip<'a> {
     Shallow(&'a str, &'a str),
     /// This word is the name of an entry, but does not match it.
     Unmatched(&'a str),
+    /// The pattern of git with this between its parentheses is this pattern here.
+    Magic(&'a str, &'a str),
+    /// This is a drive of Windows.
+    Drive(&'a str),
+    /// This pattern is a regular expression.
+    Regex(&'a str),
+    /// This pattern is a regular expression, and means this pattern, after this beginning.
+    Meant(&'a str, &'static str, &'a str),
+    /// What is before and after the `\*` of a pattern.
+    Either(&'a str, &'a str),
+    /// The braces of this word have a blank after a comma.
+    Blank(&'a str),
+    /// A pattern with a `[` that is not closed was perhaps meant as this one.
+    Unclosed(&'a str),
+    /// This word joins others in a shell or another tool.
+    Joint(&'a str),
+    /// This rule is a path from the root on.
+    Absolute(&'a str),
     /// This rule is the name of a program.
     Program(&'a str),
     /// This rule has several names, separated by this.
@@ -117,6 +135,65 @@ impl Display for Slip<'_> {
                 write!(
                     f,
                     "`{name}` is a name, but does not match itself as a pattern: quote the pattern, or use globs escape"
+                )
+            }
+            Slip::Magic(magic, path) => {
+                let flag = if *magic == "icase" { "-i " } else { "" };
+                let (magic, path) = (Visible { text: *magic }, Visible { text: *path });
+                write!(f, "`:({magic})` is git's syntax: write {flag}'{path}'")
+            }
+            Slip::Drive(drive) => {
+                write!(
+                    f,
+                    "`{drive}` is a drive of Windows: here paths begin with /, as in '/mnt/c/*'"
+                )
+            }
+            Slip::Regex(pattern) => {
+                let pattern = Visible { text: *pattern };
+                write!(
+                    f,
+                    "`{pattern}` is not read as a regular expression: * is any characters, as in '**/*.c'"
+                )
+            }
+            Slip::Meant(pattern, beginning, form) => {
+                let (pattern, form) = (Visible { text: *pattern }, Visible { text: *form });
+                write!(
+                    f,
+                    "`{pattern}` is not read as a regular expression: write '{beginning}{form}'"
+                )
+            }
+            Slip::Either(before, after) => {
+                let (before, after) = (Visible { text: *before }, Visible { text: *after });
+                write!(
+                    f,
+                    "\\ is an ordinary character here: write '{before}/*{after}', or '{before}[*]{after}' for the character *"
+                )
+            }
+            Slip::Blank(word) => {
+                let word = Visible { text: *word };
+                write!(
+                    f,
+                    "`{word}` has a blank after a comma, which belongs to the alternative: leave it out"
+                )
+            }
+            Slip::Unclosed(form) => {
+                let form = Visible { text: *form };
+                write!(
+                    f,
+                    "close the [ with a ], or write for the character [: '{form}'"
+                )
+            }
+            Slip::Joint(word) => {
+                write!(
+                    f,
+                    "`{word}` was read as a pattern: patterns follow each other, each in quotes"
+                )
+            }
+            Slip::Absolute(rule) => {
+                let rule = Visible { text: *rule };
+                write!(
+                    f,
+                    "-x {rule} ignores nothing: the / of a rule is where the search begins, not the root"
                 )
             }
             Slip::Program(program) => {

@@ -1,0 +1,6 @@
+-- The word gets shorter with each call.
+use Rattle.std.proofs.Common.{length}
+use Rattle.globs.proofs.foreign.near.+is_near.Given as goal
+
+abbrev pub decreases-is_near : goal.decreases-is_near
+decreases-is_near l = length l.word.now
