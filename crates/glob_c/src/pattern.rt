@@ -1,4 +1,4 @@
-//! Patterns for C.
+//! Patterns for C. The calls and numbers are those of `include/cadmiumdove.h`: change both.
 ghost use Rattle.std.specs.Prelude.{◌≡◌, ◌≤◌, ℕ, List, IsUtf8, IsSome, chars};
 ghost use Rattle.std.specs.declared.option.Option.TheVariants.{None, Some};
 ghost use Rattle.glob_pattern.specs.Grammar.Units.{IsAccepted};

@@ -40,11 +40,12 @@ abbrev pub IsQuerySound : {A : Type 0} → Content → Option (Query A) → Type
 IsQuerySound c None = Unit {0}
 IsQuerySound c (Some q) = IsKindSound c (string_bytes q.path) q.kind
 
--- a listing is for a component, and nothing else comes first
+-- a directory is listed for a component of the plan
 abbrev pub IsKindOpened : {A : Type 0} → Plan A → ℕ → QueryKind → Type 0
 IsKindOpened plan component (kind.Look w) = Unit {0}
 IsKindOpened plan component (kind.List recursive kinds) = IsListedFor plan component recursive kinds
 
+-- and no item is ready before the query
 abbrev pub IsQueryOpened : {A : Type 0} → Stack A → Option (Query A) → Type 0
 IsQueryOpened s None = Unit {0}
 IsQueryOpened s (Some q) = (s.next ≡ None) × IsKindOpened s.plan q.component q.kind
