@@ -27,7 +27,7 @@
 //! Nothing here recurses. For t tokens and c characters a match asks at most t × c + t times whether a token takes a
 //! character. Between the ends of the pattern, which are the one-character tokens before its first `*` or `**` and
 //! after its last, a proved clause counts each question; at the ends the code asks each token at most once, the first
-//! perhaps twice, but no clause counts there.
+//! and the last perhaps twice, but no clause counts there.
 
 #![forbid(unsafe_code)]
 #![warn(missing_debug_implementations, missing_docs, clippy::missing_errors_doc)]
