@@ -117,8 +117,9 @@ lib and what is below lib, and src/main.c lists no directory. What is ignored is
 Hints on standard error say where a word was perhaps meant otherwise, as in another tool. They do
 not change the status. There are hints about
 
-  * a bracket [^a], words such as !a or :!a that exclude nothing, a dash that is not -, a kind
-    without its own -t, and a name with a bracket that does not match itself as a pattern
+  * a bracket [^a], words such as !a or :!a that exclude nothing, a typographic dash in place of -,
+    a second kind after one -t, as in -t f d, and a name with a bracket that does not match itself
+    as a pattern
   * a rule of -x that ignores nothing, or all that a pattern matches, or is a regular expression,
     a path from the root on, or the name of a program such as rm
   * braces such as {c, h}, and words such as and, |, > or /s that were meant for another program
