@@ -11,8 +11,8 @@ use std::cell::Cell;
 use std::fmt::{self, Display};
 use std::io::Write;
 
-/// The first record of the input: whether there is one, whether it has a NUL, which shows that NULs separate what is
-/// read as lines, and how it begins and ends.
+/// What is noted of the first record of the input: whether there is one, how it begins and ends, and whether it has a
+/// NUL. If it has, the input was probably meant to be read with `-0`.
 #[derive(Drop)]
 pub struct FirstRecord {
     has_nul: Cell<Option<bool>>,
@@ -51,8 +51,8 @@ impl FirstRecord {
         self.has_nul.get() == Some(true)
     }
 
-    /// Writes a line about the beginning or the end of the first record, if a pattern that matched nothing may lack it,
-    /// and returns whether it does.
+    /// For a pattern that matched nothing: writes a line if only one of the pattern and the first record begins with
+    /// `./`, or if the record ends in a carriage return. Returns whether it wrote one.
     pub fn note_ends<A: Allocator + Copy, E: Write>(
         &self,
         pattern: &str,
@@ -119,7 +119,8 @@ impl Display for HereLine<'_> {
     }
 }
 
-/// Writes what a command reads from a terminal, for somebody who expects it to read a file, or to write its help page.
+/// Says that a command reads standard input, which is a terminal here, since its user may have expected it to read a
+/// file. For `match help` it also says how to get the help page.
 pub fn note_terminal<A: Allocator + Copy, E: Write>(
     name: Name,
     operands: &[&str],

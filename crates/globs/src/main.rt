@@ -191,7 +191,7 @@ where
     }
 }
 
-/// Writes what the command that the words ask for reads from a terminal.
+/// Says that a terminal is read, if the words ask for a command that reads standard input.
 fn note_input(rt: HostRuntime, words: &[&str]) {
     if let Ok(Command::Run(name, asked)) = Command::parse(rt.alloc(), words) {
         note_terminal(

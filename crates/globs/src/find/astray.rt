@@ -143,7 +143,8 @@ struct ShorterLine<'a> {
 }
 
 impl<'a> ShorterLine<'a> {
-    /// The line about a refused word; `None` if it has no such component, or ends in one, or has a `..` after its lead.
+    /// The line about a refused word. `None` if there is no such component inside, or if the answer is not certain: if
+    /// one is last, or if a `..`, `{`, `'` or `:` comes after the lead.
     fn new(word: &'a str) -> Option<Self> {
         let (lead, below) = split_lead(word);
         let is_inside = below.contains("//") || below.contains("/./");

@@ -26,7 +26,7 @@ pub struct DirectoryWords<'p, 'v> {
 }
 
 impl<'p, 'v> DirectoryWords<'p, 'v> {
-    /// Those of some patterns, from the directory of the options on.
+    /// The directory words among these patterns, looked up from the directory of the options on.
     pub fn new<A: Allocator + Copy, F: PathKinds>(
         alloc: A,
         files: &F,
@@ -55,7 +55,7 @@ impl<'p, 'v> DirectoryWords<'p, 'v> {
         self.patterns.get(start..).unwrap_or(&[])
     }
 
-    /// Notes a path that was found after the lead of its patterns.
+    /// Notes a found path, given by the lead of its patterns and what comes after that.
     pub fn note_found(&self, lead: &str, path: &str) {
         if !self.has_others.get() && !self.has_word(lead, path) {
             self.has_others.set(true);
@@ -67,7 +67,8 @@ impl<'p, 'v> DirectoryWords<'p, 'v> {
         is_among(self.first(), lead, path) || is_among(self.last(), lead, path)
     }
 
-    /// Writes a line for each of the words, if nothing else was found. Those at the start count only if they were found.
+    /// Writes a line for each of the words, if nothing else was found. Words at the start count only if something was
+    /// found.
     pub fn report<A: Allocator + Copy, E: Write>(
         &self,
         is_found: bool,

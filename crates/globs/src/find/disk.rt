@@ -32,7 +32,7 @@ pub struct Start {
     path: String,
 }
 
-/// The texts of the files on it, without byte order marks.
+/// The texts of the files on a disk, without byte order marks.
 #[derive(Drop)]
 pub struct StartTexts {
     start: Start,
@@ -115,7 +115,7 @@ impl Start {
         }
     }
 
-    /// A path on it, from the current directory.
+    /// A path on the disk, as it is from the current directory.
     fn at(&self, path: &str) -> Result<String, AllocError> {
         child(self.rt.alloc(), self.path.as_str(), path)
     }

@@ -114,7 +114,8 @@ const CARET: FormLine = FormLine {
     words: "lists a ^ here: write [!a] for any character except a",
 };
 
-/// Writes what the beginning of the only pattern of a search that found nothing was probably meant to say.
+/// For a search that found nothing by its only pattern: writes what the beginning of the pattern, or a `$` in it, means
+/// here.
 fn note_start<A: Allocator + Copy, E: Write>(pattern: &str, errors: &mut ErrorLines<'_, A, E>) {
     for (form, words) in STARTS {
         if pattern.starts_with(*form) {

@@ -67,7 +67,7 @@ impl<R: Files> PathKinds for DiskFiles<R> {
     }
 }
 
-/// The kind of what a system has looked up, or this kind if the lookup failed.
+/// The kind of what a system has looked up; `absent` if the lookup failed.
 fn kind_of(answer: io::Result<Metadata>, absent: PathKind) -> Result<PathKind, AllocError> {
     match answer {
         Ok(found) if found.is_dir() => Ok(PathKind::Directory),
@@ -94,7 +94,7 @@ pub struct Sieve<'f, 'd, 'w, 'p, 'v, F> {
 }
 
 impl<'f, 'd, 'w, 'p, 'v, F: PathKinds> Sieve<'f, 'd, 'w, 'p, 'v, F> {
-    /// A sieve for paths that patterns with a lead match, from the place to which it leads.
+    /// A sieve for a search by the patterns with this lead, which begins at this place.
     pub fn new(
         files: &'f F,
         settings: Settings,

@@ -22,9 +22,9 @@ const SPECIAL: &str = "*?[]{}\\|^$()+!:'\"";
 /// A line about a word that names nothing.
 #[derive(Clone, Copy)]
 enum Missing<'a> {
-    /// After this lead, this pattern is only of names that are this text.
+    /// After this lead, this pattern matches a single path. Names that contain this text may have been meant.
     Name(&'a str, &'a str, &'a str),
-    /// This word is the beginning of a path, which ends in this name after this directory.
+    /// This word is only the beginning of a path, which consists of this directory and this name.
     Beginning(&'a str, &'a str, &'a str),
     /// This word has a colon, and this part of it is a path.
     Part(&'a str, &'a str),
@@ -181,8 +181,8 @@ fn is_missing<A: Allocator + Copy, F: PathKinds>(
     kind_at(alloc, files, options, path).is_some_and(|kind| kind == PathKind::Other)
 }
 
-/// What is at a path from the directory of the options on; `None` if memory runs out. A link to something other than a
-/// directory is what it leads to.
+/// What is at a path from the directory of the options on; `None` if memory runs out. A symbolic link counts as what it
+/// leads to, but a link to a directory as a link, unless the search follows links.
 pub fn kind_at<A: Allocator + Copy, F: PathKinds>(
     alloc: A,
     files: &F,

@@ -30,7 +30,7 @@ enum RuleHint<'a> {
     Unclosed(&'a str),
     /// This rule is a regular expression.
     Regex(&'a str),
-    /// This rule is a regular expression, and means this.
+    /// This rule is a regular expression, for which this rule may be written.
     Meant(&'a str, &'a str),
     /// This rule ignores all that this pattern matches.
     Opposed(&'a str, &'a str),

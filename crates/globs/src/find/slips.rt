@@ -119,7 +119,8 @@ pub fn is_dashed(word: &str) -> bool {
     word.chars().next().is_some_and(|c| DASHES.contains(c))
 }
 
-/// The rule in a word by which another tool excludes what the rule names. A group of bash, `!(a)`, is not such a word.
+/// What follows the `!` of a word such as `!a`, by which another tool excludes `a`; `RULE` if nothing follows. Other
+/// beginnings are in [`EXCLUDING`]. A group of bash, as in `!(a)`, excludes nothing.
 fn excluded(word: &str) -> Option<&str> {
     if word.starts_with("!(") {
         return None;
@@ -227,7 +228,7 @@ pub fn note_refused<A: Allocator + Copy, E: Write>(
     }
 }
 
-/// Writes the pattern made from a refused one under these options, if it is accepted.
+/// Writes what was probably meant by a word that is refused as a pattern, if that is accepted under these options.
 pub fn note_valid<A: Allocator + Copy, E: Write>(
     alloc: A,
     options: MatchOptions,
@@ -268,7 +269,8 @@ pub fn note_shallow<A: Allocator + Copy, E: Write>(
     }
 }
 
-/// Whether a pattern has wildcards, and otherwise only characters of names.
+/// Whether a pattern is a single component such as `*.rs`: with `*` or `?`, and without `**`, brackets or syntax of
+/// another tool.
 fn is_shallow(pattern: &str) -> bool {
     let is_plain = !pattern.contains(['/', '[', ']', '\\', '|', '(', '$', '^', '\''].as_slice());
     is_plain

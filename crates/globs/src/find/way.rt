@@ -17,9 +17,9 @@ use std::io::Write;
 enum Way<'a> {
     /// Nothing has this path.
     Absent(&'a str),
-    /// Nothing has this path, but in this directory is this name, which is nearly the path's last.
+    /// Nothing has this path, but this directory has this name, which is nearly the last name of the path.
     Near(&'a str, &'a str, &'a str),
-    /// Nothing has this path, but in this directory is this name, which differs from the path's last only in case.
+    /// Nothing has this path, but this directory has this name, which is the last name of the path in another case.
     Cased(&'a str, &'a str, &'a str),
     /// This path is a symbolic link to a directory.
     Link(&'a str),

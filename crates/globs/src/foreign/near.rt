@@ -2,7 +2,7 @@
 ghost use Rattle.std.specs.Prelude.{◌≡◌};
 ghost use Rattle.globs.specs.Near.{are_swapped, is_near, near_command_words, near_option_words};
 
-/// The option of `find` that a word is nearly.
+/// What a line about a word says of the option of `find` that is spelt nearly like it; empty if there is none.
 #[tactic(auto, unfolding(crate::specs::Near::near_option_words))]
 pub fn near_option(word: &str) -> &'static str
     ensures { result.now ≡ near_option_words word.now }
@@ -25,7 +25,7 @@ pub fn near_option(word: &str) -> &'static str
     }
 }
 
-/// The command that a word is nearly.
+/// What a line about a word says of the command that is spelt nearly like it; empty if there is none.
 #[tactic(auto, unfolding(crate::specs::Near::near_command_words))]
 pub fn near_command(word: &str) -> &'static str
     ensures { result.now ≡ near_command_words word.now }

@@ -113,8 +113,8 @@ impl<A: Allocator + Copy, X: RuleTexts<Alloc = A>> Around<X, A> {
         Some(DecidingRule { list, rule })
     }
 
-    /// Writes lines about the files that could not be read, and about their refused lines. Returns the status of a run
-    /// that had this one: 2 if there is such a line.
+    /// Writes lines about files that could not be read, and about refused lines of files. Returns 2 if it wrote one,
+    /// and otherwise `status`.
     pub fn report<E: Write>(
         &mut self,
         alloc: A,

@@ -13,7 +13,8 @@ use std::io::Write;
 /// Parts of the names of ignore files.
 static PARTS: &[&str] = &["ignore", "exclude"];
 
-/// Reports why rules could not be read, and that a FILE is not a path to be checked. Returns the status of a fault.
+/// Reports why rules could not be read. If that is because of an operand that may have been meant as a path, or as a
+/// request for help, says so, too. Returns the status of a fault.
 pub fn report_rules<A: Allocator + Copy, E: Write>(
     fault: RulesFault<'_>,
     errors: &mut ErrorLines<'_, A, E>,
@@ -38,7 +39,8 @@ fn unread<'a>(fault: &RulesFault<'a>) -> Option<&'a str> {
     }
 }
 
-/// Writes that the first operand that looks like a path was read for rules, as no path came.
+/// Called if no path came from standard input: if an operand looks like a path, says of the first such one that it was
+/// read as a file of rules.
 pub fn note_operands<A: Allocator + Copy, E: Write>(
     operands: &[&str],
     errors: &mut ErrorLines<'_, A, E>,

@@ -213,7 +213,7 @@ impl Display for Slip<'_> {
     }
 }
 
-/// Writes what to write instead of a word with a dash that is not `-`.
+/// Says what to write instead of a word that begins with a typographic dash.
 fn write_dash<W: fmt::Write>(f: &mut fmt::Formatter<W>, word: &str, name: &str) -> fmt::Result {
     let hyphens = if name.chars().count() == 1 { "-" } else { "--" };
     let (word, name) = (Visible { text: word }, Visible { text: name });
