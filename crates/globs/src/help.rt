@@ -72,8 +72,8 @@ globs help shows what a PATTERN may have: ?, *, **, brackets and braces.
   --directory DIR
                  the same as -C DIR
   -L             treat a symbolic link to a directory as that directory, and enter it. A link that
-                 leads back to a directory on the way from the start to it is reported, and not
-                 entered. Without -L nothing is below a link: link/a is not found
+                 leads back, to a directory on the way down to it, is reported, and not entered.
+                 Without -L nothing is below a link: link/a is not found
   -n LIMIT       the search spends at most LIMIT units: one for each lookup, listing, entry and file
                  of rules. If it would take more, paths may be missing, and a line says so
   -t KIND        write only paths of this kind: f is a regular file, d a directory, and l a symbolic
