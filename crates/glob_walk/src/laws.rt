@@ -1,5 +1,6 @@
 //! Laws about the definitions in the contracts, for patterns and for walks, with worked examples. Each is the contract
-//! of a function that does nothing. No program needs them.
+//! of a function: those of `calls` make the calls that they are about, the others have empty bodies. No program needs
+//! them.
 
 pub mod calls;
 pub mod patterns;

@@ -12,7 +12,7 @@ use Rattle.globs.specs.Explain.Verdict.{by_find, is_taken, verdict_of, verdict_w
 
 -- The lines about a text: what `match` and `find` do with it; the pieces that tokens match, or where the match stops;
 -- if `match` does not accept it, which single changes give a match; and what to write instead. Nothing is specified
--- about the second part.
+-- about the pieces and the place.
 unfoldable pub AreLines : MatchOptions → (patterns : List Text) → (text lines : Text) → Type 0
 AreLines o patterns text lines =
     (reasons hints offer deeper : Text)
