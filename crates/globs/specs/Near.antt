@@ -35,7 +35,9 @@ near_option_words word =
     then codes "; the nearest is --git"
     else (if is_near word (codes "--utf8-only")
     then codes "; the nearest is --utf8-only"
-    else [])))))
+    else (if is_near word (codes "--help")
+    then codes "; the nearest is --help"
+    else []))))))
 
 -- the command that a word is nearly
 unfoldable pub near_command_words : (word : Text) → Text

@@ -20,6 +20,8 @@ pub fn near_option(word: &str) -> &'static str
         "; the nearest is --git"
     } else if is_near(word, b"--utf8-only") {
         "; the nearest is --utf8-only"
+    } else if is_near(word, b"--help") {
+        "; the nearest is --help"
     } else {
         ""
     }
