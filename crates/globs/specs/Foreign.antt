@@ -4,7 +4,7 @@ use Rattle.std.specs.List.{before_first, list_any, position_or_len}
 use Rattle.glob_text.specs.Pieces.{is_empty}
 use Rattle.glob_text.specs.Text.{Text}
 use Rattle.glob_console.specs.Words.{is_option}
-use Rattle.globs.specs.Near.{near_command_words, near_option_words}
+use Rattle.globs.specs.Near.{near_command_words, near_help_words}
 use Rattle.globs.specs.Spelling.{is_equals}
 use Rattle.globs.specs.declared.name.Name.{Name}
 use Rattle.globs.specs.declared.name.Name.TheVariants.{Find, Match, Ignore, Explain, Escape}
@@ -21,9 +21,9 @@ option_part word =
 
 -- for `find`, instead of an option with a value in the same word, or else the nearest option
 unfoldable pub joined_words : (word : Text) → Text
-joined_words [] = near_option_words []
-joined_words (dash ∷ []) = near_option_words (dash ∷ [])
-joined_words (dash ∷ letter ∷ []) = near_option_words (dash ∷ letter ∷ [])
+joined_words [] = near_help_words []
+joined_words (dash ∷ []) = near_help_words (dash ∷ [])
+joined_words (dash ∷ letter ∷ []) = near_help_words (dash ∷ letter ∷ [])
 joined_words (dash ∷ letter ∷ first ∷ value) =
     if dash == 45 && (letter == 67 || (letter == 120 || letter == 110))
     then codes "; a value is the next word, or follows ="
@@ -31,7 +31,18 @@ joined_words (dash ∷ letter ∷ first ∷ value) =
     then codes "; use -t f, -t d or -t l"
     else (if dash == 45 && letter == 106
     then codes "; leave it out, as it is not needed"
-    else near_option_words (dash ∷ letter ∷ first ∷ value)))
+    else near_help_words (dash ∷ letter ∷ first ∷ value)))
+
+-- for `find`, instead of an option that is a rare test of find(1)
+unfoldable pub rare_test_words : (word : Text) → Text
+rare_test_words word =
+    if is_one_of word (codes "-cmin" ∷ codes "-amin" ∷ codes "-anewer" ∷ codes "-cnewer" ∷
+    codes "-uid" ∷ codes "-gid" ∷ codes "-nouser" ∷ codes "-nogroup" ∷ [])
+    then codes "; find has it: globs find -0 PATTERN | find -files0-from - -maxdepth 0 TEST"
+    else (if is_one_of word (codes "-lname" ∷ codes "-ilname" ∷ codes "-fstype" ∷ codes "-used" ∷
+    codes "-context" ∷ [])
+    then codes "; find has it: globs find -0 PATTERN | find -files0-from - -maxdepth 0 TEST"
+    else joined_words word)
 
 -- for `find`, instead of an option that is a test of find(1)
 unfoldable pub find_test_words : (word : Text) → Text
@@ -48,13 +59,7 @@ find_test_words word =
     else (if is_one_of word (codes "-samefile" ∷ codes "--newer" ∷ codes "-newermt" ∷
     codes "-mount" ∷ codes "--one-file-system" ∷ codes "--max-filesize" ∷ [])
     then codes "; find has it: globs find -0 PATTERN | find -files0-from - -maxdepth 0 TEST"
-    else (if is_one_of word (codes "-cmin" ∷ codes "-amin" ∷ codes "-anewer" ∷ codes "-cnewer" ∷
-    codes "-uid" ∷ codes "-gid" ∷ codes "-nouser" ∷ codes "-nogroup" ∷ [])
-    then codes "; find has it: globs find -0 PATTERN | find -files0-from - -maxdepth 0 TEST"
-    else (if is_one_of word (codes "-lname" ∷ codes "-ilname" ∷ codes "-fstype" ∷ codes "-used" ∷
-    codes "-context" ∷ [])
-    then codes "; find has it: globs find -0 PATTERN | find -files0-from - -maxdepth 0 TEST"
-    else joined_words word)))))
+    else rare_test_words word)))
 
 -- for `find`, instead of an option of a habit: to read a list of paths, to search contents, or to run a program
 unfoldable pub find_habit_words : (word : Text) → Text

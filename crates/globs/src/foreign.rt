@@ -7,11 +7,11 @@ pub mod near;
 ghost use Rattle.std.specs.Prelude.{◌≡◌};
 ghost use Rattle.globs.specs.Foreign.{find_habit_words, find_needless_words, find_output_words, find_pattern_words};
 ghost use Rattle.globs.specs.Foreign.{find_rule_words, find_test_words, foreign_words, joined_words, option_list};
-ghost use Rattle.globs.specs.Foreign.{option_part, unknown_words};
+ghost use Rattle.globs.specs.Foreign.{option_part, rare_test_words, unknown_words};
 
 use crate::name::Name;
 use filters::{of_escape, of_explain, of_ignore, of_match};
-use near::near_option;
+use near::near_help;
 
 /// What to write instead of an option of another tool; nothing for other words.
 pub fn foreign(name: Name, word: &str) -> &'static str
@@ -214,6 +214,16 @@ fn of_tests(word: &str) -> &'static str
             "; find has it: globs find -0 PATTERN | find -files0-from - -maxdepth 0 TEST",
         "-samefile" | "--newer" | "-newermt" | "-mount" | "--one-file-system" | "--max-filesize" =>
             "; find has it: globs find -0 PATTERN | find -files0-from - -maxdepth 0 TEST",
+        _ => of_rare_tests(word),
+    }
+}
+
+/// What to write instead of an option of `find` that is a rare test of find(1).
+#[tactic(auto, unfolding(crate::specs::Foreign::rare_test_words))]
+fn of_rare_tests(word: &str) -> &'static str
+    ensures { result.now ≡ rare_test_words word.now }
+{
+    match word {
         "-cmin" | "-amin" | "-anewer" | "-cnewer" | "-uid" | "-gid" | "-nouser" | "-nogroup" =>
             "; find has it: globs find -0 PATTERN | find -files0-from - -maxdepth 0 TEST",
         "-lname" | "-ilname" | "-fstype" | "-used" | "-context" =>
@@ -231,6 +241,6 @@ fn of_joined(word: &str) -> &'static str
         [b'-', b'C' | b'x' | b'n', _, ..] => "; a value is the next word, or follows =",
         [b'-', b't', _, ..] => "; use -t f, -t d or -t l",
         [b'-', b'j', _, ..] => "; leave it out, as it is not needed",
-        _ => near_option(word),
+        _ => near_help(word),
     }
 }

@@ -46,6 +46,9 @@ static STARTS: &[(&str, &str)] = &[
         "`",
         "is an ordinary character here. A shell runs `pwd` except in single quotes: use double quotes",
     ),
+    ("(?i)", "means nothing here: use -i for both cases"),
+    ("\"", "is part of the pattern here: leave out the quotes"),
+    ("'", "is part of the pattern here: leave out the quotes"),
     (
         "!",
         "is an ordinary character here, and negates nothing: use match -v or find -x",

@@ -1,10 +1,10 @@
 //! Options and commands that a word is probably meant to be.
 ghost use Rattle.std.specs.Prelude.{◌≡◌};
-ghost use Rattle.globs.specs.Near.{are_swapped, is_near, near_command_words, near_option_words};
+ghost use Rattle.globs.specs.Near.{are_swapped, is_near, near_command_words, near_help_words, near_option_words};
 
 /// The option of `find` that a word is nearly.
 #[tactic(auto, unfolding(crate::specs::Near::near_option_words))]
-pub fn near_option(word: &str) -> &'static str
+fn near_option(word: &str) -> &'static str
     ensures { result.now ≡ near_option_words word.now }
 {
     let word = word.as_bytes();
@@ -20,10 +20,20 @@ pub fn near_option(word: &str) -> &'static str
         "; the nearest is --git"
     } else if is_near(word, b"--utf8-only") {
         "; the nearest is --utf8-only"
-    } else if is_near(word, b"--help") {
-        "; the nearest is --help"
     } else {
         ""
+    }
+}
+
+/// The option for help, if a word is nearly that, or else the option of `find` that it is nearly.
+#[tactic(auto, unfolding(crate::specs::Near::near_help_words))]
+pub fn near_help(word: &str) -> &'static str
+    ensures { result.now ≡ near_help_words word.now }
+{
+    if is_near(word.as_bytes(), b"--help") {
+        "; the nearest is --help"
+    } else {
+        near_option(word)
     }
 }
 

@@ -72,9 +72,13 @@ fn note_backslash<A: Allocator + Copy, E: Write>(
 
 /// Whether a pattern is names with a `\` between them.
 pub fn is_of_windows(pattern: &str) -> bool {
+    pattern.contains('\\') && pattern.split('\\').all(|name| is_simple(name))
+}
+
+/// Whether a text is not empty, and has only letters, digits, `_`, `-`, `.` and blanks.
+fn is_simple(text: &str) -> bool {
     let is_of_name = |c: char| c.is_alphanumeric() || "_-. ".contains(c);
-    pattern.contains('\\')
-        && pattern.split('\\').all(|name| { !name.is_empty() && name.chars().all(is_of_name) })
+    !text.is_empty() && text.chars().all(is_of_name)
 }
 
 /// Whether a text has braces with two dots, and no comma, between them.
