@@ -9,7 +9,7 @@ use Rattle.glob_set.specs.Words.{brace_error_words}
 use Rattle.glob_set.specs.declared.braces.error.BraceError.{BraceError}
 use Rattle.glob_set.specs.declared.braces.error.BraceError.TheVariants.{Unmatched, Unclosed, TooMany}
 use Rattle.glob_text.specs.Text.{Text}
-use Rattle.globs.specs.Foreign.{foreign_words, habit_words}
+use Rattle.globs.specs.Foreign.{foreign_words, habit_words, unknown_words}
 use Rattle.globs.specs.Reading.{Request, Runs, Helps, VersionLine, Refused}
 use Rattle.globs.specs.Visible.{caret_lines, visible}
 use Rattle.globs.specs.declared.braces.AlternativeLines.{AlternativeLines}
@@ -85,22 +85,39 @@ subject_words why.Surplus word = quoted word
 subject_words why.Command word = quoted word
 subject_words why.Empty word = []
 
--- the fault is about an option that the command does not know, or that comes too late
-abbrev pub is_of_option : Why → Bool
-is_of_option why.Unknown = true
-is_of_option why.Valueless = false
-is_of_option why.Limit = false
-is_of_option why.Depth = false
-is_of_option why.Kind = false
-is_of_option why.RuleFile = false
-is_of_option why.Late = true
-is_of_option why.Taken = false
-is_of_option why.Bare = false
-is_of_option why.Textless = false
-is_of_option why.Extra = false
-is_of_option why.Surplus = false
-is_of_option why.Command = false
-is_of_option why.Empty = false
+-- the fault is about an option that the command does not know
+abbrev pub is_of_unknown : Why → Bool
+is_of_unknown why.Unknown = true
+is_of_unknown why.Valueless = false
+is_of_unknown why.Limit = false
+is_of_unknown why.Depth = false
+is_of_unknown why.Kind = false
+is_of_unknown why.RuleFile = false
+is_of_unknown why.Late = false
+is_of_unknown why.Taken = false
+is_of_unknown why.Bare = false
+is_of_unknown why.Textless = false
+is_of_unknown why.Extra = false
+is_of_unknown why.Surplus = false
+is_of_unknown why.Command = false
+is_of_unknown why.Empty = false
+
+-- the fault is about an option that comes too late
+abbrev pub is_of_late : Why → Bool
+is_of_late why.Unknown = false
+is_of_late why.Valueless = false
+is_of_late why.Limit = false
+is_of_late why.Depth = false
+is_of_late why.Kind = false
+is_of_late why.RuleFile = false
+is_of_late why.Late = true
+is_of_late why.Taken = false
+is_of_late why.Bare = false
+is_of_late why.Textless = false
+is_of_late why.Extra = false
+is_of_late why.Surplus = false
+is_of_late why.Command = false
+is_of_late why.Empty = false
 
 -- the fault is about a word that is not a command
 abbrev pub is_of_command : Why → Bool
@@ -122,7 +139,9 @@ is_of_command why.Empty = false
 -- what to write instead of a word that another tool would know
 abbrev pub instead_words : Option Name → Why → (word : Text) → Text
 instead_words None w word = if is_of_command w then habit_words word else []
-instead_words (Some name) w word = if is_of_option w then foreign_words name word else []
+instead_words (Some name) w word =
+    if is_of_unknown w then unknown_words name word
+    else (if is_of_late w then foreign_words name word else [])
 
 -- the text about a wrong word, after a command or in its place
 abbrev pub word_fault_words : Option Name → Why → (word : Text) → Text

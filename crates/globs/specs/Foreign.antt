@@ -4,7 +4,7 @@ use Rattle.std.specs.List.{before_first, list_any, position_or_len}
 use Rattle.glob_text.specs.Pieces.{is_empty}
 use Rattle.glob_text.specs.Text.{Text}
 use Rattle.glob_console.specs.Words.{is_option}
-use Rattle.globs.specs.Near.{near_command_words, near_option_words}
+use Rattle.globs.specs.Near.{near_command_words, near_help_words}
 use Rattle.globs.specs.Spelling.{is_equals}
 use Rattle.globs.specs.declared.name.Name.{Name}
 use Rattle.globs.specs.declared.name.Name.TheVariants.{Find, Match, Ignore, Explain, Escape}
@@ -21,9 +21,9 @@ option_part word =
 
 -- for `find`, instead of an option with a value in the same word, or else the nearest option
 unfoldable pub joined_words : (word : Text) → Text
-joined_words [] = near_option_words []
-joined_words (dash ∷ []) = near_option_words (dash ∷ [])
-joined_words (dash ∷ letter ∷ []) = near_option_words (dash ∷ letter ∷ [])
+joined_words [] = near_help_words []
+joined_words (dash ∷ []) = near_help_words (dash ∷ [])
+joined_words (dash ∷ letter ∷ []) = near_help_words (dash ∷ letter ∷ [])
 joined_words (dash ∷ letter ∷ first ∷ value) =
     if dash == 45 && (letter == 67 || (letter == 120 || letter == 110))
     then codes "; a value is the next word, or follows ="
@@ -31,7 +31,18 @@ joined_words (dash ∷ letter ∷ first ∷ value) =
     then codes "; use -t f, -t d or -t l"
     else (if dash == 45 && letter == 106
     then codes "; leave it out, as it is not needed"
-    else near_option_words (dash ∷ letter ∷ first ∷ value)))
+    else near_help_words (dash ∷ letter ∷ first ∷ value)))
+
+-- for `find`, instead of an option that is a rare test of find(1)
+unfoldable pub rare_test_words : (word : Text) → Text
+rare_test_words word =
+    if is_one_of word (codes "-cmin" ∷ codes "-amin" ∷ codes "-anewer" ∷ codes "-cnewer" ∷
+    codes "-uid" ∷ codes "-gid" ∷ codes "-nouser" ∷ codes "-nogroup" ∷ [])
+    then codes "; find has it: globs find -0 PATTERN | find -files0-from - -maxdepth 0 TEST"
+    else (if is_one_of word (codes "-lname" ∷ codes "-ilname" ∷ codes "-fstype" ∷ codes "-used" ∷
+    codes "-context" ∷ [])
+    then codes "; find has it: globs find -0 PATTERN | find -files0-from - -maxdepth 0 TEST"
+    else joined_words word)
 
 -- for `find`, instead of an option that is a test of find(1)
 unfoldable pub find_test_words : (word : Text) → Text
@@ -48,7 +59,26 @@ find_test_words word =
     else (if is_one_of word (codes "-samefile" ∷ codes "--newer" ∷ codes "-newermt" ∷
     codes "-mount" ∷ codes "--one-file-system" ∷ codes "--max-filesize" ∷ [])
     then codes "; find has it: globs find -0 PATTERN | find -files0-from - -maxdepth 0 TEST"
-    else joined_words word)))
+    else rare_test_words word)))
+
+-- for `find`, instead of an option of a habit: to read a list of paths, to search contents, or to run a program
+unfoldable pub find_habit_words : (word : Text) → Text
+find_habit_words word =
+    if is_one_of word (codes "-" ∷ codes "-files0-from" ∷ codes "--stdin" ∷ codes "--files0-from" ∷
+    codes "--files-from" ∷ [])
+    then codes "; find reads no list of paths: globs match and globs ignore do"
+    else (if is_one_of word (codes "-w" ∷ codes "--word-regexp" ∷ codes "--files-with-matches" ∷
+    codes "--line-number" ∷ codes "-c" ∷ [])
+    then codes "; find looks at names, not into files: use -0, and pipe the paths to xargs -0 grep"
+    else (if bytes_eq word (codes "-x")
+    then codes "; -x RULE runs nothing: to run a program use -0 and xargs -0"
+    else (if is_one_of word (codes "--unrestricted" ∷ codes "--no-ignore-parent" ∷
+    codes "--no-ignore-global" ∷ codes "--no-hidden" ∷ [])
+    then codes "; nothing is hidden or ignored by default"
+    else (if is_one_of word (codes "-noleaf" ∷ codes "-warn" ∷ codes "-nowarn" ∷ codes "-daystart" ∷
+    codes "-xautofs" ∷ codes "--no-messages" ∷ codes "--show-errors" ∷ codes "--hyperlink" ∷ [])
+    then codes "; leave it out, as it is not needed"
+    else find_test_words word))))
 
 -- for `find`, instead of an option that is not needed, or that git has
 unfoldable pub find_needless_words : (word : Text) → Text
@@ -69,7 +99,7 @@ find_needless_words word =
     then codes "; pipe the paths of git ls-files to globs match -s"
     else (if is_one_of word (codes "-V" ∷ codes "--version" ∷ [])
     then codes "; use globs --version"
-    else find_test_words word)))))
+    else find_habit_words word)))))
 
 -- for `find`, instead of an option about what is done with the paths
 unfoldable pub find_output_words : (word : Text) → Text
@@ -77,8 +107,8 @@ find_output_words word =
     if is_one_of word (codes "-print0" ∷ codes "--print0" ∷ codes "-z" ∷ codes "--null" ∷
     codes "--zero" ∷ [])
     then codes "; use -0"
-    else (if is_one_of word (codes "-exec" ∷ codes "-execdir" ∷ codes "-ok" ∷ codes "--exec" ∷
-    codes "--exec-batch" ∷ [])
+    else (if is_one_of word (codes "-exec" ∷ codes "-execdir" ∷ codes "-ok" ∷ codes "-okdir" ∷
+    codes "--exec" ∷ codes "--exec-batch" ∷ [])
     then codes "; use -0, and pipe the paths to xargs -0"
     else (if is_one_of word (codes "-delete" ∷ codes "--delete" ∷ [])
     then codes "; use -0, and pipe the paths to xargs -0r rm --"
@@ -105,7 +135,7 @@ find_output_words word =
 -- for `find`, instead of an option about what is left out, or where to search
 unfoldable pub find_rule_words : (word : Text) → Text
 find_rule_words word =
-    if is_one_of word (codes "-not" ∷ codes "-prune" ∷ codes "-E" ∷ codes "--exclude" ∷
+    if is_one_of word (codes "-not" ∷ codes "--not" ∷ codes "-prune" ∷ codes "-E" ∷ codes "--exclude" ∷
     codes "-T" ∷ codes "--type-not" ∷ [])
     then codes "; use -x RULE"
     else (if is_one_of word (codes "--prune" ∷ codes "-v" ∷ codes "--invert" ∷
@@ -147,7 +177,8 @@ find_pattern_words word =
     else (if is_one_of word (codes "-maxdepth" ∷ codes "--maxdepth" ∷ codes "-max-depth" ∷
     codes "--depth" ∷ codes "-Depth" ∷ codes "--level" ∷ [])
     then codes "; use --max-depth N"
-    else (if is_one_of word (codes "-mindepth" ∷ codes "--mindepth" ∷ codes "--min-depth" ∷ [])
+    else (if is_one_of word (codes "-mindepth" ∷ codes "--mindepth" ∷ codes "--min-depth" ∷
+    codes "--exact-depth" ∷ [])
     then codes "; a pattern says how deep: '*/*/**'"
     else (if is_one_of word (codes "-name" ∷ codes "-path" ∷ codes "-wholename" ∷ codes "-g" ∷
     codes "--glob" ∷ codes "-e" ∷ codes "--extension" ∷ [])
@@ -157,9 +188,11 @@ find_pattern_words word =
     then codes "; use a pattern: '**/*.rs'"
     else (if is_one_of word (codes "-iname" ∷ codes "-ipath" ∷ codes "--iglob" ∷ [])
     then codes "; use -i and a pattern: -i '**/*.rs'"
-    else (if is_one_of word (codes "-regex" ∷ codes "-iregex" ∷ codes "--regex" ∷ [])
+    else (if is_one_of word (codes "-regex" ∷ codes "-iregex" ∷ codes "--regex" ∷
+    codes "-regextype" ∷ [])
     then codes "; a pattern is not a regular expression: '**/*.rs'"
-    else (if is_one_of word (codes "--ignore-case" ∷ codes "--nocase" ∷ codes "--case-insensitive" ∷ [])
+    else (if is_one_of word (codes "--ignore-case" ∷ codes "--nocase" ∷
+    codes "--case-insensitive" ∷ codes "--smart-case" ∷ [])
     then codes "; use -i"
     else (if is_one_of word (codes "-s" ∷ codes "--case-sensitive" ∷ [])
     then codes "; leave it out: without -i case counts"
@@ -188,16 +221,21 @@ match_line_words word =
     else (if is_one_of word (codes "-H" ∷ codes "--color" ∷ codes "--colour" ∷
     codes "--line-buffered" ∷ [])
     then codes "; leave it out, as it is not needed"
-    else []))))))
+    else (if is_one_of word (codes "-g" ∷ codes "--glob" ∷ codes "--include" ∷ codes "--exclude" ∷
+    codes "--exclude-dir" ∷ codes "-t" ∷ codes "--type" ∷ [])
+    then codes "; globs find searches directories"
+    else (if is_one_of word (codes "-A" ∷ codes "-B" ∷ codes "-C" ∷ codes "--context" ∷ [])
+    then codes "; leave it out: only the lines that match are copied"
+    else []))))))))
 
 -- for `match`
 unfoldable pub match_words : (word : Text) → Text
 match_words word =
     if is_one_of word (codes "-z" ∷ codes "--null" ∷ codes "--null-data" ∷ [])
     then codes "; use -0"
-    else (if bytes_eq word (codes "--invert-match")
+    else (if is_one_of word (codes "--invert-match" ∷ codes "--not" ∷ codes "-not" ∷ [])
     then codes "; use -v"
-    else (if bytes_eq word (codes "--ignore-case")
+    else (if is_one_of word (codes "--ignore-case" ∷ codes "--smart-case" ∷ codes "-S" ∷ [])
     then codes "; use -i"
     else (if is_one_of word (codes "-e" ∷ codes "--regexp" ∷ [])
     then codes "; give several patterns"
@@ -214,6 +252,20 @@ match_words word =
     else (if is_one_of word (codes "-x" ∷ codes "--line-regexp" ∷ [])
     then codes "; leave it out: a pattern matches a whole line"
     else match_line_words word)))))))))
+
+-- for `ignore`, instead of an option that names files of rules, or about the paths
+unfoldable pub ignore_file_words : (word : Text) → Text
+ignore_file_words word =
+    if is_one_of word (codes "--ignore" ∷ codes "--ignore-file" ∷ codes "--ignore-files" ∷
+    codes "--exclude-from" ∷ codes "-X" ∷ codes "-f" ∷ [])
+    then codes "; give the FILE as a word"
+    else (if is_one_of word (codes "--exclude-standard" ∷ codes "--gitignore" ∷ codes "-git" ∷ [])
+    then codes "; use --git"
+    else (if is_one_of word (codes "-n" ∷ codes "--non-matching" ∷ [])
+    then codes "; without -v the paths that no rule ignores are written"
+    else (if is_one_of word (codes "-C" ∷ codes "--directory" ∷ [])
+    then codes "; go there first: (cd DIR && git ls-files | globs ignore .gitignore)"
+    else [])))
 
 -- for `ignore`
 unfoldable pub ignore_words : (word : Text) → Text
@@ -232,16 +284,27 @@ ignore_words word =
     then codes "; a rule lists both cases in brackets: *.[oO]"
     else (if bytes_eq word (codes "--no-index")
     then codes "; leave it out, as it is not needed"
-    else []))))))
+    else ignore_file_words word))))))
 
 -- what to write instead of any word where texts are taken that may begin with a hyphen
 abbrev pub text_words : Text
 text_words = codes "; write -- first if a text begins with -"
 
+-- for `explain`
+unfoldable pub explain_words : (word : Text) → Text
+explain_words word =
+    if is_one_of word (codes "--ignore-case" ∷ codes "--nocase" ∷ [])
+    then codes "; use -i"
+    else (if is_one_of word (codes "-v" ∷ codes "--verbose" ∷ [])
+    then codes "; leave it out, as it is not needed"
+    else (if is_one_of word (codes "--git" ∷ codes "-x" ∷ codes "--ignore" ∷ [])
+    then codes "; globs ignore -v says which rule ignores a path"
+    else text_words))
+
 -- for `escape`
 unfoldable pub escape_words : (word : Text) → Text
 escape_words word =
-    if is_one_of word (codes "-z" ∷ codes "--null" ∷ [])
+    if is_one_of word (codes "-z" ∷ codes "--null" ∷ codes "--zero" ∷ [])
     then codes "; use -0"
     else (if is_one_of word (codes "-" ∷ codes "--stdin" ∷ [])
     then codes "; texts are words: for lines of input use xargs -d '\\n' globs escape --"
@@ -305,5 +368,19 @@ abbrev pub foreign_words : Name → (word : Text) → Text
 foreign_words Find word = find_pattern_words (option_part word)
 foreign_words Match word = match_words (option_part word)
 foreign_words Ignore word = ignore_words (option_part word)
-foreign_words Explain word = text_words
+foreign_words Explain word = explain_words (option_part word)
 foreign_words Escape word = escape_words (option_part word)
+
+-- all options of a command
+abbrev pub option_list : Name → Text
+option_list Find =
+    codes "; the options are -0, -C, -d, -i, -L, -n, -t, -x, --directory, --git, --ignore, --ignore-files, --max-depth and --utf8-only"
+option_list Match = codes "; the options are -0, -d, -i, -s and -v"
+option_list Ignore = codes "; the options are -0, -v and --git"
+option_list Explain = codes "; the options are -d, -i and -s"
+option_list Escape = codes "; the only option is -0"
+
+-- what to write instead of an option that the command does not have, if it is certain, or else the command's options
+abbrev pub unknown_words : Name → (word : Text) → Text
+unknown_words name word =
+    if is_empty (foreign_words name word) then option_list name else foreign_words name word

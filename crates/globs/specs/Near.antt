@@ -37,6 +37,13 @@ near_option_words word =
     then codes "; the nearest is --utf8-only"
     else [])))))
 
+-- the option for help, if a word is nearly that, or else the option of `find` that it is nearly
+unfoldable pub near_help_words : (word : Text) → Text
+near_help_words word =
+    if is_near word (codes "--help")
+    then codes "; the nearest is --help"
+    else near_option_words word
+
 -- the command that a word is nearly
 unfoldable pub near_command_words : (word : Text) → Text
 near_command_words word =

@@ -23,6 +23,7 @@ mod swapped;
 mod verdict;
 
 use crate::braces::brace_fault;
+use crate::find::astray::note_braces;
 use crate::find::leads::{led_patterns, split_lead};
 use crate::name::Name;
 use crate::patterns::{FaultLines, PatternFault, read_set};
@@ -83,10 +84,12 @@ fn explain_word<A: Allocator + Copy, W: Write, E: Write>(
     let expanded = match expand(alloc, word) {
         Ok(expanded) => expanded,
         Err(refusal) => {
-            return errors.fault(FaultLines {
+            let status = errors.fault(FaultLines {
                 name: Name::Explain,
                 fault: brace_fault(word, refusal),
             });
+            note_braces(&[word], word, errors);
+            return status;
         }
     };
     let Ok(patterns) = as_strs(alloc, expanded.as_slice()) else {

@@ -5,12 +5,13 @@ mod filters;
 pub mod near;
 
 ghost use Rattle.std.specs.Prelude.{◌≡◌};
-ghost use Rattle.globs.specs.Foreign.{find_needless_words, find_output_words, find_pattern_words, find_rule_words};
-ghost use Rattle.globs.specs.Foreign.{find_test_words, foreign_words, joined_words, option_part};
+ghost use Rattle.globs.specs.Foreign.{find_habit_words, find_needless_words, find_output_words, find_pattern_words};
+ghost use Rattle.globs.specs.Foreign.{find_rule_words, find_test_words, foreign_words, joined_words, option_list};
+ghost use Rattle.globs.specs.Foreign.{option_part, rare_test_words, unknown_words};
 
 use crate::name::Name;
-use filters::{of_escape, of_ignore, of_match};
-use near::near_option;
+use filters::{of_escape, of_explain, of_ignore, of_match};
+use near::near_help;
 
 /// What to write instead of an option of another tool; nothing for other words.
 pub fn foreign(name: Name, word: &str) -> &'static str
@@ -20,8 +21,36 @@ pub fn foreign(name: Name, word: &str) -> &'static str
         Name::Find => of_patterns(option_part(word)),
         Name::Match => of_match(option_part(word)),
         Name::Ignore => of_ignore(option_part(word)),
-        Name::Explain => "; write -- first if a text begins with -",
+        Name::Explain => of_explain(option_part(word)),
         Name::Escape => of_escape(option_part(word)),
+    }
+}
+
+/// What to write instead of an option that the command does not have: if that is not certain, the line lists its
+/// options.
+pub fn unknown(name: Name, word: &str) -> &'static str
+    ensures { result.now ≡ unknown_words name word.now }
+{
+    let words = foreign(name, word);
+    if words.is_empty() {
+        options_of(name)
+    } else {
+        words
+    }
+}
+
+/// The options of a command.
+fn options_of(name: Name) -> &'static str
+    ensures { result.now ≡ option_list name }
+{
+    match name {
+        Name::Find => {
+            "; the options are -0, -C, -d, -i, -L, -n, -t, -x, --directory, --git, --ignore, --ignore-files, --max-depth and --utf8-only"
+        }
+        Name::Match => "; the options are -0, -d, -i, -s and -v",
+        Name::Ignore => "; the options are -0, -v and --git",
+        Name::Explain => "; the options are -d, -i and -s",
+        Name::Escape => "; the only option is -0",
     }
 }
 
@@ -46,14 +75,16 @@ fn of_patterns(word: &str) -> &'static str
             "; use -t f, -t d or -t l",
         "-maxdepth" | "--maxdepth" | "-max-depth" | "--depth" | "-Depth" | "--level" =>
             "; use --max-depth N",
-        "-mindepth" | "--mindepth" | "--min-depth" => "; a pattern says how deep: '*/*/**'",
+        "-mindepth" | "--mindepth" | "--min-depth" | "--exact-depth" =>
+            "; a pattern says how deep: '*/*/**'",
         "-name" | "-path" | "-wholename" | "-g" | "--glob" | "-e" | "--extension" =>
             "; use a pattern: '**/*.rs'",
         "--ext" | "--include" | "--name" | "--pattern" | "-Filter" | "-Include" =>
             "; use a pattern: '**/*.rs'",
         "-iname" | "-ipath" | "--iglob" => "; use -i and a pattern: -i '**/*.rs'",
-        "-regex" | "-iregex" | "--regex" => "; a pattern is not a regular expression: '**/*.rs'",
-        "--ignore-case" | "--nocase" | "--case-insensitive" => "; use -i",
+        "-regex" | "-iregex" | "--regex" | "-regextype" =>
+            "; a pattern is not a regular expression: '**/*.rs'",
+        "--ignore-case" | "--nocase" | "--case-insensitive" | "--smart-case" => "; use -i",
         "-s" | "--case-sensitive" => "; leave it out: without -i case counts",
         "-F" | "--fixed-strings" => "; globs escape writes a pattern for a name",
         "-p" | "--full-path" => "; leave it out: a pattern matches a whole path",
@@ -67,7 +98,7 @@ fn of_rules(word: &str) -> &'static str
     ensures { result.now ≡ find_rule_words word.now }
 {
     match word {
-        "-not" | "-prune" | "-E" | "--exclude" | "-T" | "--type-not" => "; use -x RULE",
+        "-not" | "--not" | "-prune" | "-E" | "--exclude" | "-T" | "--type-not" => "; use -x RULE",
         "--prune" | "-v" | "--invert" | "--invert-match" | "-Exclude" => "; use -x RULE",
         "-H" | "--hidden" | "-u" | "-uu" | "-uuu" | "-I" | "-HI" | "-a" =>
             "; nothing is hidden or ignored by default",
@@ -99,7 +130,7 @@ fn of_output(word: &str) -> &'static str
 {
     match word {
         "-print0" | "--print0" | "-z" | "--null" | "--zero" => "; use -0",
-        "-exec" | "-execdir" | "-ok" | "--exec" | "--exec-batch" =>
+        "-exec" | "-execdir" | "-ok" | "-okdir" | "--exec" | "--exec-batch" =>
             "; use -0, and pipe the paths to xargs -0",
         "-delete" | "--delete" => "; use -0, and pipe the paths to xargs -0r rm --",
         "-l" | "-ls" | "--list-details" | "-la" | "-al" | "-lh" | "-lt" | "--long" =>
@@ -139,6 +170,32 @@ fn of_needless(word: &str) -> &'static str
         "--modified" | "--untracked" | "--ignored" | "--stage" | "--deleted" | "-m" =>
             "; pipe the paths of git ls-files to globs match -s",
         "-V" | "--version" => "; use globs --version",
+        _ => of_habits(word),
+    }
+}
+
+/// What to write instead of an option of `find` by which other tools read a list of paths, search contents or run a
+/// program, or that is not needed.
+#[tactic(auto, unfolding(crate::specs::Foreign::find_habit_words))]
+fn of_habits(word: &str) -> &'static str
+    ensures { result.now ≡ find_habit_words word.now }
+{
+    match word {
+        "-" | "-files0-from" | "--stdin" | "--files0-from" | "--files-from" =>
+            "; find reads no list of paths: globs match and globs ignore do",
+        "-w" | "--word-regexp" | "--files-with-matches" | "--line-number" | "-c" =>
+            "; find looks at names, not into files: use -0, and pipe the paths to xargs -0 grep",
+        "-x" => "; -x RULE runs nothing: to run a program use -0 and xargs -0",
+        "--unrestricted" | "--no-ignore-parent" | "--no-ignore-global" | "--no-hidden" =>
+            "; nothing is hidden or ignored by default",
+        "-noleaf"
+        | "-warn"
+        | "-nowarn"
+        | "-daystart"
+        | "-xautofs"
+        | "--no-messages"
+        | "--show-errors"
+        | "--hyperlink" => "; leave it out, as it is not needed",
         _ => of_tests(word),
     }
 }
@@ -157,6 +214,20 @@ fn of_tests(word: &str) -> &'static str
             "; find has it: globs find -0 PATTERN | find -files0-from - -maxdepth 0 TEST",
         "-samefile" | "--newer" | "-newermt" | "-mount" | "--one-file-system" | "--max-filesize" =>
             "; find has it: globs find -0 PATTERN | find -files0-from - -maxdepth 0 TEST",
+        _ => of_rare_tests(word),
+    }
+}
+
+/// What to write instead of an option of `find` that is a rare test of find(1).
+#[tactic(auto, unfolding(crate::specs::Foreign::rare_test_words))]
+fn of_rare_tests(word: &str) -> &'static str
+    ensures { result.now ≡ rare_test_words word.now }
+{
+    match word {
+        "-cmin" | "-amin" | "-anewer" | "-cnewer" | "-uid" | "-gid" | "-nouser" | "-nogroup" =>
+            "; find has it: globs find -0 PATTERN | find -files0-from - -maxdepth 0 TEST",
+        "-lname" | "-ilname" | "-fstype" | "-used" | "-context" =>
+            "; find has it: globs find -0 PATTERN | find -files0-from - -maxdepth 0 TEST",
         _ => of_joined(word),
     }
 }
@@ -170,6 +241,6 @@ fn of_joined(word: &str) -> &'static str
         [b'-', b'C' | b'x' | b'n', _, ..] => "; a value is the next word, or follows =",
         [b'-', b't', _, ..] => "; use -t f, -t d or -t l",
         [b'-', b'j', _, ..] => "; leave it out, as it is not needed",
-        _ => near_option(word),
+        _ => near_help(word),
     }
 }

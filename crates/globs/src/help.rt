@@ -64,8 +64,9 @@ globs find: the paths below a directory that patterns match and no rule ignores
 
 globs help shows what a PATTERN may have: ?, *, **, brackets and braces.
 
-  -0             each path ends in a NUL instead of a line feed. Paths may begin with -, so put --
-                 before them: globs find -0 '**/*~' | xargs -0r rm --
+  -0             each path ends in a NUL instead of a line feed, so that names may have line feeds.
+                 To count them: globs find -0 '**' | tr -dc '\\0' | wc -c. Paths may begin with -,
+                 so put -- before them: globs find -0 '**/*~' | xargs -0r rm --
   -i             case-insensitive, for ASCII letters
   -d             no wildcard or bracket matches a . at the start of a name
   -C DIR         search below DIR: patterns, rules and paths are relative to it, but FILE is not
@@ -122,12 +123,14 @@ not change the status. There are hints about
     as a pattern
   * a rule of -x that ignores nothing, or all that a pattern matches, or is a regular expression,
     a path from the root on, or the name of a program such as rm
+  * a NAME of --ignore-files that is a pattern, an option or several names
   * braces such as {c, h}, and words such as and, |, > or /s that were meant for another program
   * directories as the first or last words, if nothing else was found
   * a last word that is only the beginning of a path, as src/main is of src/main.rs
   * if nothing was found: ~/, part of a name, quotes, spaces and \\ in a pattern, upper-case
     extensions, patterns that match no names below the start, a beginning such as src in src/*.rs
-    that is not there, differs in case or is a symbolic link, and the word help
+    that is not there, differs in case or is a symbolic link, a path that -t or --max-depth leaves
+    out, a word such as src/a.c, or b/src/a.c that only has a path in it, and the word help
 
 Status:
   0         a path was written
@@ -159,8 +162,10 @@ matches a line that is not UTF-8. No file is opened: write globs match '*.rs' <F
 
 Hints on standard error do not change the status. There are hints about
 
-  * if a single pattern matches nothing: a form of another tool, such as ~/ or [^a], quotes, a ./
-    at the start of the first line or a carriage return at its end, and the word help
+  * if a single pattern matches nothing: a form of another tool, such as ~/ or [^a], quotes,
+    several patterns in one word, upper-case extensions, a ./ at the start of the first line or a
+    carriage return at its end, and the word help
+  * braces such as {c, h}, and a dash that is not -
   * standard input, if it is a terminal, or if no line came and the last of several patterns may be
     a FILE
   * -0, if the first line has a NUL
@@ -253,7 +258,8 @@ Otherwise a caret is under the character of TEXT where the match stops. The line
   * what to write instead of a form of another tool or a regular expression; if that does not match
     TEXT, the line says so
 
-A control character is written as \\r or \\u{1b}.
+A control character is written as \\r or \\u{1b}. A piece can be part of a new name: with -s
+globs explain -s 'a*.JPG' a1.JPG | sed -n 's/^\\*\\t//p' writes 1.
 
 If find does not find TEXT, the last line may suggest a pattern that does: **/*.rs for *.rs and
 a/b.rs.

@@ -11,7 +11,7 @@ use crate::name::Name;
 use crate::options::Settings;
 use crate::patterns::{FaultLines, is_any_match, read_set};
 use crate::usage::HelpWord;
-use crate::whole::{note_invalid, note_unmatched};
+use crate::whole::{note_invalid, note_unmatched, note_words};
 use glob_console::{ErrorLines, FAULT, UNFOUND, as_strs};
 use glob_lines::{Selection, Watch};
 use glob_set::PatternSet;
@@ -57,12 +57,14 @@ pub fn match_words<A: Allocator + Copy, R: Read, W: Write, E: Write>(
         errors,
     );
     first.report(errors);
+    let has_slip = note_words(words, status == UNFOUND, errors);
     if status == UNFOUND && is_help(words) {
         errors.write(&HelpWord { name: Name::Match });
     } else if status == UNFOUND && first.is_missing() {
         note_file(words, errors);
-    } else if status == UNFOUND && !settings.inverts && !first.has_nul() {
-        note_unmatched(alloc, &first, patterns.as_slice(), errors);
+    } else if status == UNFOUND && !settings.inverts && !first.has_nul() && !has_slip {
+        let is_cased = settings.options.case_sensitive;
+        note_unmatched(alloc, is_cased, &first, patterns.as_slice(), errors);
     }
     status
 }

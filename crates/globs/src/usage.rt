@@ -4,7 +4,7 @@ ghost use Rattle.globs.specs.Faults.{help_words, instead_words, subject_words, u
 ghost use Rattle.globs.specs.declared.usage.UsageFault.TheVariants.{Word};
 
 use crate::foreign::commands::habit;
-use crate::foreign::foreign;
+use crate::foreign::{foreign, unknown};
 use crate::name::Name;
 use crate::visible::Visible;
 use std::alloc::{AllocError, AllocFailed};
@@ -168,7 +168,9 @@ fn instead_of(name: Option<Name>, why: Why, word: &str) -> &'static str
 {
     match name {
         Some(name) => {
-            if matches!(why, Why::Unknown | Why::Late) {
+            if matches!(why, Why::Unknown) {
+                unknown(name, word)
+            } else if matches!(why, Why::Late) {
                 foreign(name, word)
             } else {
                 ""

@@ -7,8 +7,11 @@ ghost use Rattle.globs.specs.Visible.{visible};
 use crate::explain::foreign::native_forms;
 use crate::find::astray::note_braces;
 use crate::find::slips::line::Slip;
-use crate::find::slips::syntax::{is_foreign, note_escaped};
-use crate::find::slips::{note_valid, unquoted};
+use crate::find::slips::syntax::{
+    backward, has_numbers, is_blank_choice, is_foreign, is_marked, is_of_windows, is_repeated,
+    is_upper, note_escaped, note_regex,
+};
+use crate::find::slips::{is_dashed, note_dash, note_valid, several, unquoted};
 use crate::forms::note_form;
 use crate::input::FirstRecord;
 use crate::visible::Visible;
@@ -21,8 +24,8 @@ use std::io::Write;
 /// The characters that are special here or in another tool.
 const SPECIAL: &str = "*?[]{}\\|^$()!~";
 
-/// Writes what to write instead of the first refused word, if it has a `**` that is not a whole component. Writes
-/// nothing if that word or an earlier one has a `{`.
+/// Writes what to write instead of the first refused word, if it has braces or a bracket that are not closed, or a `**`
+/// that is not a whole component. Writes nothing if an earlier word has a `{`.
 pub fn note_invalid<A: Allocator + Copy, E: Write>(
     alloc: A,
     options: MatchOptions,
@@ -30,20 +33,47 @@ pub fn note_invalid<A: Allocator + Copy, E: Write>(
     errors: &mut ErrorLines<'_, A, E>,
 ) {
     for word in words {
-        if note_braces(words, word, errors) || word.contains('{') {
+        if note_braces(words, word, errors) {
             return;
         }
         if Pattern::new(alloc, word).is_err() {
             note_valid(alloc, options, word, errors);
             return;
         }
+        if word.contains('{') {
+            return;
+        }
     }
 }
 
-/// If the only pattern matched no line, says why: the ends of the first line, quotes, syntax of another tool, or a
-/// pattern that is only part of a line.
+/// Writes the line about a word that begins with a dash that is not `-`, if there are several words, about one with a
+/// blank in its braces and, if nothing matched, about one with a range in its braces. Returns whether there is a line.
+pub fn note_words<A: Allocator + Copy, E: Write>(
+    words: &[&str],
+    is_unfound: bool,
+    errors: &mut ErrorLines<'_, A, E>,
+) -> bool {
+    let mut has_any = false;
+    for word in words {
+        if words.len() > 1 && is_dashed(word) {
+            note_dash(word, errors);
+            has_any = true;
+        } else if is_blank_choice(word) {
+            errors.write(&Slip::Blank(word));
+            has_any = true;
+        } else if is_unfound && has_numbers(word) {
+            errors.write(&Slip::Numbers);
+            has_any = true;
+        }
+    }
+    has_any
+}
+
+/// If the only pattern matched no line, says why: the ends of the first line, quotes, several patterns in one word,
+/// upper-case letters, syntax of another tool, or a pattern that is only part of a line.
 pub fn note_unmatched<A: Allocator + Copy, E: Write>(
     alloc: A,
+    is_cased: bool,
     first: &FirstRecord,
     patterns: &[&str],
     errors: &mut ErrorLines<'_, A, E>,
@@ -56,6 +86,18 @@ pub fn note_unmatched<A: Allocator + Copy, E: Write>(
     }
     if let Some(bare) = unquoted(pattern) {
         errors.write(&Slip::Quoted(pattern, bare));
+    } else if is_marked(pattern) {
+        errors.write(&Slip::Marked(pattern));
+    } else if let Some(between) = several(pattern) {
+        errors.write(&Slip::Several(pattern, between));
+    } else if is_repeated(pattern) {
+        note_regex(alloc, "", pattern, errors);
+    } else if is_of_windows(pattern) {
+        errors.write(&Slip::Backslash(pattern));
+    } else if is_cased && is_upper(pattern) {
+        errors.write(&Slip::Upper(pattern));
+    } else if let Some(bracket) = backward(pattern) {
+        errors.write(&Slip::Range(bracket));
     } else if is_plain(pattern) {
         errors.write(&WholeLine { pattern });
     } else if !note_escaped(alloc, "", pattern, errors) && !note_anchor(alloc, pattern, errors) {

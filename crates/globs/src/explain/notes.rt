@@ -39,6 +39,17 @@ static STARTS: &[(&str, &str)] = &[
         "is not the home directory here. A shell expands it if it is not quoted",
     ),
     (
+        "$",
+        "is an ordinary character here. A shell expands $HOME except in single quotes: use double quotes",
+    ),
+    (
+        "`",
+        "is an ordinary character here. A shell runs `pwd` except in single quotes: use double quotes",
+    ),
+    ("(?i)", "means nothing here: use -i for both cases"),
+    ("\"", "is part of the pattern here: leave out the quotes"),
+    ("'", "is part of the pattern here: leave out the quotes"),
+    (
         "!",
         "is an ordinary character here, and negates nothing: use match -v or find -x",
     ),

@@ -32,10 +32,8 @@ pub fn note_astray<A: Allocator + Copy, E: Write>(
                 errors.write(&line);
             } else if let Some(line) = ShorterLine::new(word) {
                 errors.write(&line);
-            } else if let Some(line) = UpLine::new(word) {
-                if options.directory.is_empty() {
-                    errors.write(&line);
-                }
+            } else {
+                note_up(options.directory, word, errors);
             }
             return;
         }
@@ -45,25 +43,45 @@ pub fn note_astray<A: Allocator + Copy, E: Write>(
     }
 }
 
-/// Writes what to write instead of a word whose braces are not closed, and returns whether they are not.
+/// Writes what to write instead of a word that has a `..` after its lead.
+fn note_up<A: Allocator + Copy, E: Write>(
+    directory: &str,
+    word: &str,
+    errors: &mut ErrorLines<'_, A, E>,
+) {
+    match UpLine::new(word) {
+        Some(line) if directory.is_empty() => errors.write(&line),
+        _ => errors.write(
+            &"leave out this component, or begin the search elsewhere, as in -C .. '*.c'",
+        ),
+    }
+}
+
+/// Writes what to write instead of a word whose braces are not closed or not opened, and returns whether they are not.
 pub fn note_braces<A: Allocator + Copy, E: Write>(
     words: &[&str],
     word: &str,
     errors: &mut ErrorLines<'_, A, E>,
 ) -> bool {
-    let Some((_, after)) = word.rsplit_once('{') else {
-        return false;
-    };
-    if after.contains(['}', ']'].as_slice()) {
+    let opened = word.split('{').count();
+    let closed = word.split('}').count();
+    if opened == closed || word.contains('[') {
         return false;
     }
-    let is_split = word.ends_with(',') && words.iter().any(|other| other.ends_with('}'));
-    if is_split {
+    let is_split = word.ends_with(',') && words.iter().any(|other| is_closing(other));
+    if closed > opened {
+        errors.write(&"open the } with a {, or write [}] for the character }");
+    } else if is_split {
         errors.write(&"quote the word, and leave out the blank in its braces: '*.{c,h}'");
     } else {
         errors.write(&"close the { with a }, or write [{] for the character {");
     }
     true
+}
+
+/// Whether a word has a `}`, but no `{`.
+fn is_closing(word: &str) -> bool {
+    word.contains('}') && !word.contains('{')
 }
 
 /// The line about an address such as `file:///a`, whose path is what follows `://`.

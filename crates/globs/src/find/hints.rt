@@ -1,6 +1,9 @@
 //! Lines about what the words of a search were probably meant to say: forms of other tools, and words that were taken
 //! for patterns. No clause is about these lines.
+use crate::find::leads::split_lead;
 use crate::find::rule_hints::note_rules;
+use crate::find::slips::line::Slip;
+use crate::find::slips::syntax::{backward, has_numbers};
 use crate::find::slips::{note_shallow, note_slips};
 use crate::forms::{FormLine, note_form};
 use crate::options::Options;
@@ -19,20 +22,16 @@ const ANCHOR: &str =
 /// Beginnings of patterns that mean something in other tools, and what each means here.
 static STARTS: &[(&str, &str)] = &[
     (":(", "is git's syntax, and means nothing here"),
-    (
-        "$",
-        "is an ordinary character here. A shell expands $HOME except in single quotes: use -C \"$HOME\"",
-    ),
     ("^", ANCHOR),
 ];
 
 /// A line about some words of the command line.
 #[derive(Clone, Copy)]
 enum Hint<'a> {
-    /// This bracket has a range that goes backwards.
-    Range(&'a str),
-    /// These braces have a range of numbers.
-    Numbers,
+    /// The braces of this word have no comma.
+    Alone(&'a str),
+    /// This pattern matches only paths with more names than this.
+    Deep(&'a str, u64),
     /// This word is a number after `-d`.
     Dots(&'a str),
     /// A `$` inside a pattern.
@@ -42,15 +41,19 @@ enum Hint<'a> {
 impl Display for Hint<'_> {
     fn fmt<W: fmt::Write>(&self, f: &mut fmt::Formatter<W>) -> fmt::Result {
         match self {
-            Hint::Range(bracket) => {
-                let bracket = Visible { text: *bracket };
+            Hint::Alone(word) => {
+                let word = Visible { text: *word };
                 write!(
                     f,
-                    "{bracket} matches no character: its range goes backwards"
+                    "`{word}` has braces without a comma, which choose nothing: write {{a,b}} for a or b"
                 )
             }
-            Hint::Numbers => {
-                f.write_str("{1..3} is not a range here: write {1,2,3}, or [1-3] for a character")
+            Hint::Deep(pattern, depth) => {
+                let pattern = Visible { text: *pattern };
+                write!(
+                    f,
+                    "`{pattern}` matches only paths of more names than --max-depth {depth} allows: use a greater depth"
+                )
             }
             Hint::Variable => f.write_str(
                 "$ is an ordinary character here. A shell expands it except in single quotes",
@@ -92,12 +95,17 @@ pub fn note_words<A: Allocator + Copy, E: Write>(
     note_shallow(options, patterns, errors);
     for word in words {
         if has_numbers(word) {
-            errors.write(&Hint::Numbers);
+            errors.write(&Slip::Numbers);
+        } else if is_alone(word) {
+            errors.write(&Hint::Alone(word));
         }
+    }
+    if let Some(depth) = options.settings.depth {
+        note_deep(depth, patterns, errors);
     }
     for pattern in patterns {
         if let Some(bracket) = backward(pattern) {
-            errors.write(&Hint::Range(bracket));
+            errors.write(&Slip::Range(bracket));
         }
     }
     if let [pattern] = patterns {
@@ -143,11 +151,34 @@ fn has_variable(pattern: &str) -> bool {
     }
 }
 
-/// Whether a text has braces with two dots, and no comma, between them.
-fn has_numbers(text: &str) -> bool {
+/// Writes the line about the first pattern that matches only paths with more names than a search writes.
+fn note_deep<A: Allocator + Copy, E: Write>(
+    depth: u64,
+    patterns: &[&str],
+    errors: &mut ErrorLines<'_, A, E>,
+) {
+    for pattern in patterns {
+        let (_, below) = split_lead(pattern);
+        let mut names = 0u64;
+        for component in below.split('/') {
+            if component != "**" {
+                names = names.saturating_add(1);
+            }
+        }
+        if names > depth {
+            errors.write(&Hint::Deep(pattern, depth));
+            return;
+        }
+    }
+}
+
+/// Whether a text has braces with neither a comma nor two dots between them, and no `${` of a shell.
+fn is_alone(text: &str) -> bool {
     match text.split_once('{') {
         Some((_, after)) => match after.split_once('}') {
-            Some((inside, _)) => inside.contains("..") && !inside.contains(','),
+            Some((inside, _)) => {
+                !inside.contains(',') && !inside.contains("..") && !text.contains("${")
+            }
             None => false,
         },
         None => false,
@@ -157,20 +188,6 @@ fn has_numbers(text: &str) -> bool {
 /// Whether a text is a number.
 fn is_number(text: &str) -> bool {
     !text.is_empty() && text.chars().all(|c| c.is_ascii_digit())
-}
-
-/// The first bracket of a pattern, if it is only a range that goes backwards, such as `[z-a]`.
-fn backward(pattern: &str) -> Option<&str> {
-    let start = pattern.find('[')?;
-    let rest = pattern.get(start..)?;
-    let (bracket, _) = rest.split_once(']')?;
-    let mut characters = bracket.strip_prefix('[')?.chars();
-    let (low, dash, high) = (characters.next()?, characters.next()?, characters.next()?);
-    if characters.next().is_none() && dash == '-' && high < low {
-        rest.get(..bracket.len().saturating_add(1))
-    } else {
-        None
-    }
 }
 
 /// Whether a bracket of one of the patterns begins with `^`.

@@ -7,7 +7,7 @@ use crate::find::slips::is_dashed;
 use crate::find::way::note_way;
 use crate::input::is_help;
 use crate::name::Name;
-use crate::options::Options;
+use crate::options::{Kinds, Options};
 use crate::quoting::ShellWord;
 use crate::usage::HelpWord;
 use crate::visible::Visible;
@@ -17,7 +17,7 @@ use std::fmt::{self, Display};
 use std::io::Write;
 
 /// The characters that are no part of a plain path: those of patterns here, and of regular expressions.
-const SPECIAL: &str = "*?[]{}\\|^$()+!:'\"";
+const SPECIAL: &str = "*?[]{}\\|^$()+!:'\"`";
 
 /// A line about a word that names nothing.
 #[derive(Clone, Copy)]
@@ -28,6 +28,8 @@ enum Missing<'a> {
     Beginning(&'a str, &'a str, &'a str),
     /// This word has a colon, and this part of it is a path.
     Part(&'a str, &'a str),
+    /// At this word is this kind of path, with this letter, which is not wanted.
+    Kind(&'a str, &'static str, &'static str),
     /// This word is an option of Windows.
     Switch(&'a str),
     /// This word repeats the command.
@@ -49,6 +51,13 @@ impl Display for Missing<'_> {
                 write!(
                     f,
                     "`{word}` is not there, but {path} is: leave out the rest"
+                )
+            }
+            Missing::Kind(word, kind, letter) => {
+                let word = Visible { text: *word };
+                write!(
+                    f,
+                    "`{word}` is a {kind}, which -t leaves out: use -t {letter}"
                 )
             }
             Missing::Switch(word) => write!(
@@ -102,8 +111,9 @@ pub fn note_missing<P: Places, F: PathKinds, E: Write>(
         return;
     }
     if let [pattern, ..] = patterns {
-        if note_way(alloc, places, files, options, pattern, errors)
-            || note_part(alloc, files, options, pattern, errors)
+        if note_part(alloc, files, options, pattern, errors)
+            || note_kind(alloc, files, options, pattern, errors)
+            || note_way(alloc, places, files, options, pattern, errors)
         {
             return;
         }
@@ -127,7 +137,35 @@ fn is_switch(word: &str) -> bool {
     }
 }
 
-/// Writes which part of a word with a colon, such as `a.c:12` or `HEAD:a.c`, is a path, and returns whether one is.
+/// Writes which kind of path a pattern names, if only other kinds are wanted, and returns whether it does.
+fn note_kind<A: Allocator + Copy, F: PathKinds, E: Write>(
+    alloc: A,
+    files: &F,
+    options: &Options<'_, A>,
+    pattern: &str,
+    errors: &mut ErrorLines<'_, A, E>,
+) -> bool {
+    let kinds = options.settings.kinds;
+    if kinds == Kinds::new() || !is_plain(pattern) {
+        return false;
+    }
+    match kind_at(alloc, files, options, pattern) {
+        Some(PathKind::Directory) if !kinds.directories => {
+            errors.write(&Missing::Kind(pattern, "directory", "d"));
+        }
+        Some(PathKind::File) if !kinds.files => {
+            errors.write(&Missing::Kind(pattern, "regular file", "f"));
+        }
+        Some(PathKind::Link) if !kinds.links => {
+            errors.write(&Missing::Kind(pattern, "symbolic link", "l"));
+        }
+        _ => return false,
+    }
+    true
+}
+
+/// Writes which part of a word is a path, and returns whether one is. The word has a colon, such as `a.c:12` or
+/// `HEAD:a.c`, a `#`, or ends in a comma or white space, or begins like a path of a patch, such as `b/a.c`.
 fn note_part<A: Allocator + Copy, F: PathKinds, E: Write>(
     alloc: A,
     files: &F,
@@ -135,16 +173,32 @@ fn note_part<A: Allocator + Copy, F: PathKinds, E: Write>(
     pattern: &str,
     errors: &mut ErrorLines<'_, A, E>,
 ) -> bool {
-    let Some((before, after)) = pattern.split_once(':') else {
+    let Some(part) = part_of(pattern) else {
         return false;
     };
-    let is_line = after.starts_with(|c: char| c.is_ascii_digit());
-    let part = if is_line { before } else { after };
-    let is_path = is_plain(part) && !is_missing(alloc, files, options, part);
+    let is_path = is_plain(part)
+        && !is_missing(alloc, files, options, part)
+        && is_missing(alloc, files, options, pattern);
     if is_path {
         errors.write(&Missing::Part(pattern, part));
     }
     is_path
+}
+
+/// The part of a word that may be a path.
+fn part_of(word: &str) -> Option<&str> {
+    let bare = word.trim_end_matches([',', ';', ' ', '\t', '\r', '\n'].as_slice());
+    if let Some((before, after)) = word.split_once(':') {
+        let is_line = after.starts_with(|c: char| c.is_ascii_digit());
+        return Some(if is_line { before } else { after });
+    }
+    if let Some((before, _)) = word.split_once('#') {
+        return Some(before);
+    }
+    if bare.len() < word.len() {
+        return Some(bare);
+    }
+    word.strip_prefix("a/").or(word.strip_prefix("b/"))
 }
 
 /// Writes how to find names that have a text in them, if a pattern is only a text, perhaps between `^` and `$` or white

@@ -107,6 +107,21 @@ impl<'a> NoDirectory<'a> {
     }
 }
 
+/// What to write instead of the directory of a `-C`, if it has what a directory hardly has.
+fn advice(directory: &str) -> &'static str {
+    if directory.starts_with(['~', '$'].as_slice()) {
+        "; a shell expands ~ and $HOME except in single quotes"
+    } else if directory.contains(['*', '?', '[', '{'].as_slice()) {
+        "; wildcards belong in a PATTERN"
+    } else if directory.contains([',', ':'].as_slice()) {
+        "; one directory, and for several a PATTERN such as '{src,tests}/**'"
+    } else if directory.starts_with('-') {
+        "; the directory comes right after -C"
+    } else {
+        "; globs find -t d '*' finds directories"
+    }
+}
+
 impl Display for NoDirectory<'_> {
     fn fmt<W: fmt::Write>(&self, f: &mut fmt::Formatter<W>) -> fmt::Result {
         let directory = Visible {
@@ -122,7 +137,8 @@ impl Display for NoDirectory<'_> {
         };
         write!(
             f,
-            "-C `{directory}`: {what}, and -C needs one to search: {help}"
+            "-C `{directory}`: {what}, and -C needs one to search{}: {help}",
+            advice(self.directory)
         )
     }
 }

@@ -4,9 +4,12 @@ ghost use Rattle.std.specs.Prelude.{◌≡◌};
 use crate::explain::foreign::native_forms;
 use crate::find::leads::split_lead;
 use crate::find::slips::syntax::{is_foreign, is_regex};
+use crate::find::slips::unquoted;
 use crate::ignoring::RulesFault;
-use crate::options::Options;
+use crate::name::Name;
+use crate::options::{Options, Settings, Valued};
 use crate::quoting::ShellWord;
+use crate::spelling::with_flags;
 use crate::visible::Visible;
 use glob_console::{ErrorLines, UNFOUND};
 use std::alloc::Allocator;
@@ -32,6 +35,22 @@ enum RuleHint<'a> {
     Regex(&'a str),
     /// This rule is a regular expression, for which this rule may be written.
     Meant(&'a str, &'a str),
+    /// This rule is this other rule in quotes.
+    Quoted(&'a str, &'a str),
+    /// This rule has a `|`.
+    Bar(&'a str),
+    /// This rule begins with a blank.
+    Blank(&'a str),
+    /// This rule is an option.
+    Option(&'a str),
+    /// This rule begins with `~/`.
+    Home(&'a str),
+    /// These are several names of ignore files.
+    Names(&'a str),
+    /// This name of ignore files is an option.
+    Taken(&'a str),
+    /// There is no such file of rules.
+    Absent(&'a str),
     /// This rule ignores all that this pattern matches.
     Opposed(&'a str, &'a str),
     /// This name of ignore files has wildcards.
@@ -87,6 +106,58 @@ impl Display for RuleHint<'_> {
                 let (rule, form) = (Visible { text: *rule }, ShellWord { text: *form });
                 write!(f, "-x {rule} is not a regular expression: use -x {form}")
             }
+            RuleHint::Quoted(rule, bare) => {
+                let (rule, bare) = (Visible { text: *rule }, Visible { text: *bare });
+                write!(
+                    f,
+                    "-x {rule} has quotes in it, which belong to the rule: use -x '{bare}'"
+                )
+            }
+            RuleHint::Blank(rule) => {
+                let (rule, bare) = (Visible { text: *rule }, ShellWord { text: rule.trim() });
+                write!(
+                    f,
+                    "-x '{rule}' begins with a blank, which belongs to the rule: use -x {bare}"
+                )
+            }
+            RuleHint::Bar(rule) => write_rule(
+                f,
+                rule,
+                "has a |, which a rule takes literally: use -x for each",
+            ),
+            RuleHint::Option(rule) => write_rule(
+                f,
+                rule,
+                "takes this word as its RULE: write the rule after -x",
+            ),
+            RuleHint::Home(rule) => write_rule(
+                f,
+                rule,
+                "ignores nothing, as ~ is an ordinary character: rules begin where the search does",
+            ),
+            RuleHint::Names(name) => {
+                let name = Visible { text: *name };
+                write!(
+                    f,
+                    "--ignore-files {name} looks for that exact name: use --ignore-files for each name"
+                )
+            }
+            RuleHint::Taken(name) => write!(
+                f,
+                "--ignore-files takes {name} as its NAME: write the name after --ignore-files"
+            ),
+            RuleHint::Absent(file) if is_option(file) => write!(
+                f,
+                "--ignore takes {file} as its FILE: write the file after --ignore"
+            ),
+            RuleHint::Absent(file) => {
+                let typed = ShellWord { text: *file };
+                let file = Visible { text: *file };
+                write!(
+                    f,
+                    "--ignore {file} needs a file of rules, one a line: for a single rule use -x {typed}"
+                )
+            }
             RuleHint::Opposed(rule, pattern) => {
                 let (rule, pattern) = (Visible { text: *rule }, Visible { text: *pattern });
                 write!(
@@ -116,8 +187,8 @@ fn write_rule<W: fmt::Write>(f: &mut fmt::Formatter<W>, rule: &str, words: &str)
     write!(f, "-x {rule} {words}")
 }
 
-/// Reports why rules could not be read and, if the file is a directory or its name has wildcards, that --ignore takes a
-/// file and not a rule. Returns the status of a fault.
+/// Reports why rules could not be read and, if the file is not there, is a directory or has a name with wildcards, that
+/// --ignore takes a file and not a rule. Returns the status of a fault.
 pub fn report_rules<A: Allocator + Copy, E: Write>(
     fault: RulesFault<'_>,
     errors: &mut ErrorLines<'_, A, E>,
@@ -129,9 +200,15 @@ pub fn report_rules<A: Allocator + Copy, E: Write>(
         RulesFault::NoText(file) | RulesFault::Unread(file, _) if is_wild(file) => Some(*file),
         _ => None,
     };
+    let absent = match &fault {
+        RulesFault::Unread(file, error) if error.kind() == ErrorKind::NotFound => Some(*file),
+        _ => None,
+    };
     let status = errors.fault(fault);
-    if let Some(file) = file {
-        errors.write(&RuleHint::Rule(file));
+    match (file, absent) {
+        (Some(file), _) => errors.write(&RuleHint::Rule(file)),
+        (None, Some(file)) => errors.write(&RuleHint::Absent(file)),
+        (None, None) => {}
     }
     status
 }
@@ -164,6 +241,10 @@ pub fn note_rules<A: Allocator + Copy, E: Write>(
     for name in options.rule_files.as_slice() {
         if is_wild(name) {
             errors.write(&RuleHint::Wild(name));
+        } else if name.contains([',', ' '].as_slice()) {
+            errors.write(&RuleHint::Names(name));
+        } else if is_option(name) {
+            errors.write(&RuleHint::Taken(name));
         }
     }
 }
@@ -174,18 +255,28 @@ fn note_rule<A: Allocator + Copy, E: Write>(
     rule: &str,
     errors: &mut ErrorLines<'_, A, E>,
 ) {
-    if rule.trim().is_empty() {
+    if rule.trim().is_empty() || rule == "/" {
         errors.write(&RuleHint::Empty(rule));
     } else if rule.starts_with('#') {
         errors.write(&RuleHint::Comment(rule));
     } else if is_dotted(rule) {
         errors.write(&RuleHint::Dotted(rule));
+    } else if let Some(bare) = unquoted(rule) {
+        errors.write(&RuleHint::Quoted(rule, bare));
+    } else if rule.starts_with(' ') {
+        errors.write(&RuleHint::Blank(rule));
+    } else if is_option(rule) {
+        errors.write(&RuleHint::Option(rule));
+    } else if rule.starts_with("~/") {
+        errors.write(&RuleHint::Home(rule));
     } else if has_choice(rule) {
         errors.write(&RuleHint::Braces(rule));
     } else if is_unclosed(rule) {
         errors.write(&RuleHint::Unclosed(rule));
-    } else if is_regex(rule) {
+    } else if is_regex(rule) || rule.starts_with('^') || rule.ends_with('$') {
         note_regex(alloc, rule, errors);
+    } else if rule.contains('|') {
+        errors.write(&RuleHint::Bar(rule));
     }
 }
 
@@ -234,7 +325,7 @@ fn is_opposed(rule: &str, pattern: &str) -> bool {
     if !is_certain {
         return false;
     }
-    if rule == pattern {
+    if rule == pattern || matches!(rule, "*" | "/*" | "**") {
         return true;
     }
     match rule.strip_suffix('/') {
@@ -265,6 +356,12 @@ fn has_only_negatives<A: Allocator>(options: &Options<'_, A>) -> bool {
             .as_slice()
             .iter()
             .all(|rule| rule.starts_with('!'))
+}
+
+/// Whether a rule is an option of `find`.
+fn is_option(rule: &str) -> bool {
+    with_flags(Settings::new(Name::Find), Name::Find, rule).is_some()
+        || Valued::asked(Name::Find, rule).is_some()
 }
 
 /// Whether a rule begins with a component that no path has.

@@ -15,7 +15,7 @@ use glob_pattern::{MatchOptions, Pattern};
 use line::Slip;
 use std::alloc::Allocator;
 use std::io::Write;
-use syntax::{magic_of, note_syntax};
+use syntax::{is_blank_choice, is_marked, is_upper, magic_of, note_syntax};
 
 /// Beginnings of words by which other tools exclude what follows.
 static EXCLUDING: &[&str] = &[":(exclude)", ":!", ":^", "!"];
@@ -36,8 +36,11 @@ static BETWEEN: &[(char, &str)] = &[
 
 /// Words of shells and other tools that join words.
 static JOINTS: &[&str] = &[
-    "|", ">", ">>", "<", "&&", "||", ";", "and", "or", "AND", "OR",
+    "|", ">", ">>", "<", "&&", "||", ";", ",", "+", "and", "or", "AND", "OR", "in",
 ];
+
+/// Words that somebody may write before what is excluded.
+static EXCEPT: &[&str] = &["not", "NOT", "except", "without"];
 
 /// Characters that look like `-`.
 const DASHES: &str = "\u{2010}\u{2011}\u{2012}\u{2013}\u{2014}\u{2015}\u{2212}";
@@ -64,7 +67,7 @@ pub fn note_slips<A: Allocator + Copy, E: Write>(
         }
     }
     for word in words {
-        if is_blank_choice(word, is_unfound) {
+        if is_blank_choice(word) {
             errors.write(&Slip::Blank(word));
             has_any = true;
         }
@@ -101,8 +104,7 @@ fn note_beginning<A: Allocator + Copy, E: Write>(
     errors: &mut ErrorLines<'_, A, E>,
 ) -> bool {
     if is_dashed(word) {
-        let name = word.trim_start_matches(|c: char| DASHES.contains(c));
-        errors.write(&Slip::Dash(word, name));
+        note_dash(word, errors);
         return true;
     }
     match excluded(word) {
@@ -112,6 +114,12 @@ fn note_beginning<A: Allocator + Copy, E: Write>(
         }
         None => false,
     }
+}
+
+/// Writes the line about a word that begins with a dash that is not `-`.
+pub fn note_dash<A: Allocator + Copy, E: Write>(word: &str, errors: &mut ErrorLines<'_, A, E>) {
+    let name = word.trim_start_matches(|c: char| DASHES.contains(c));
+    errors.write(&Slip::Dash(word, name));
 }
 
 /// Whether a word begins with a character that looks like `-`.
@@ -142,6 +150,8 @@ fn note_pattern<A: Allocator + Copy, E: Write>(
 ) -> bool {
     if let Some(bare) = unquoted(pattern) {
         errors.write(&Slip::Quoted(pattern, bare));
+    } else if is_marked(pattern) {
+        errors.write(&Slip::Marked(pattern));
     } else if let Some(between) = several(pattern) {
         errors.write(&Slip::Several(pattern, between));
     } else if note_syntax(alloc, pattern, errors) {
@@ -167,7 +177,7 @@ pub fn unquoted(text: &str) -> Option<&str> {
 }
 
 /// What separates the patterns in a word: it has wildcards before and after it.
-fn several(word: &str) -> Option<&'static str> {
+pub fn several(word: &str) -> Option<&'static str> {
     for (mark, between) in BETWEEN {
         if let Some((before, after)) = word.split_once(*mark) {
             if before.contains('*') && after.contains('*') {
@@ -178,31 +188,8 @@ fn several(word: &str) -> Option<&'static str> {
     None
 }
 
-/// Whether a pattern with a wildcard ends in a `.` and upper-case letters.
-fn is_upper(pattern: &str) -> bool {
-    match pattern.rsplit_once('.') {
-        Some((before, extension)) => {
-            before.contains('*')
-                && !extension.is_empty()
-                && extension.chars().all(|c| c.is_ascii_uppercase())
-        }
-        None => false,
-    }
-}
-
-/// Whether braces in a word have a blank after a comma: before an extension, or in a word that finds nothing.
-fn is_blank_choice(word: &str, is_unfound: bool) -> bool {
-    match word.split_once('{') {
-        Some((before, after)) => match after.split_once('}') {
-            Some((inside, _)) => inside.contains(", ") && (is_unfound || before.ends_with('.')),
-            None => false,
-        },
-        None => false,
-    }
-}
-
-/// Writes what to write instead of the first refused word, if it has git's syntax, a `**` that is not a whole component
-/// or a `[` that is not closed.
+/// Writes what to write instead of the first refused word, if it has git's syntax, a `**` that is not a whole
+/// component, a `[` that is not closed, or a `/` in a bracket.
 pub fn note_refused<A: Allocator + Copy, E: Write>(
     alloc: A,
     words: &[&str],
@@ -219,8 +206,11 @@ pub fn note_refused<A: Allocator + Copy, E: Write>(
         }
         match (magic_of(word), fault) {
             (Some((magic, path)), _) => errors.write(&Slip::Magic(magic, path)),
-            (None, Some(PatternFault::Syntax(_, _))) if !word.contains('{') => {
-                note_valid(alloc, options, word, errors);
+            (None, Some(PatternFault::Syntax(_, _))) => note_valid(alloc, options, word, errors),
+            (None, Some(PatternFault::Parted(_, _))) => {
+                errors.write(
+                    &"write the / outside the bracket, or leave it out: a bracket is one character of a name",
+                );
             }
             (None, _) => {}
         }
@@ -228,13 +218,17 @@ pub fn note_refused<A: Allocator + Copy, E: Write>(
     }
 }
 
-/// Writes what was probably meant by a word that is refused as a pattern, if that is accepted under these options.
+/// Writes the pattern made from a refused one under these options, if it is accepted and has no braces.
 pub fn note_valid<A: Allocator + Copy, E: Write>(
     alloc: A,
     options: MatchOptions,
     word: &str,
     errors: &mut ErrorLines<'_, A, E>,
 ) {
+    if word.contains('{') {
+        errors.write(&"write [[] for the character [, and ** as a whole component");
+        return;
+    }
     let Ok(forms) = valid_forms(alloc, word, options) else {
         return;
     };
@@ -299,6 +293,8 @@ pub fn note_names<A: Allocator + Copy, F: PathKinds, E: Write>(
         for word in between {
             if JOINTS.contains(word) && !is_there(alloc, files, directory, word) {
                 errors.write(&Slip::Joint(word));
+            } else if EXCEPT.contains(word) && !is_there(alloc, files, directory, word) {
+                errors.write(&Slip::Excluding(word, "RULE"));
             }
         }
     }
@@ -358,7 +354,14 @@ fn joined<A: Allocator + Copy, F: PathKinds>(
     directory: &str,
     rule: &str,
 ) -> Option<&'static str> {
-    for (mark, between) in [(',', "a comma"), (' ', "a space")].as_slice() {
+    for (mark, between) in [
+        (',', "a comma"),
+        (' ', "a space"),
+        (';', "a semicolon"),
+        (':', "a colon"),
+    ]
+    .as_slice()
+    {
         if let Some((first, rest)) = rule.split_once(*mark) {
             let has_several = !first.is_empty() && !rest.is_empty();
             if has_several

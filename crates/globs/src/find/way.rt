@@ -15,8 +15,10 @@ use std::io::Write;
 /// A line about a path at the beginning of a pattern.
 #[derive(Clone, Copy)]
 enum Way<'a> {
-    /// Nothing has this path.
-    Absent(&'a str),
+    /// Nothing has this path, whose directory is this.
+    Absent(&'a str, &'a str),
+    /// Nothing has this path from the root on, but something has it from the start on, where it is this.
+    Rooted(&'a str, &'a str),
     /// Nothing has this path, but this directory has this name, which is nearly the last name of the path.
     Near(&'a str, &'a str, &'a str),
     /// Nothing has this path, but this directory has this name, which is the last name of the path in another case.
@@ -30,9 +32,19 @@ enum Way<'a> {
 impl Display for Way<'_> {
     fn fmt<W: fmt::Write>(&self, f: &mut fmt::Formatter<W>) -> fmt::Result {
         match self {
-            Way::Absent(path) => {
-                let path = Visible { text: *path };
-                write!(f, "`{path}` is not there, so nothing is found below it")
+            Way::Absent(path, directory) => {
+                let (path, directory) = (Visible { text: *path }, Visible { text: *directory });
+                write!(
+                    f,
+                    "`{path}` is not there, so nothing is found below it: '{directory}*' finds what is there"
+                )
+            }
+            Way::Rooted(path, below) => {
+                let (path, below) = (Visible { text: *path }, Visible { text: *below });
+                write!(
+                    f,
+                    "`{path}` is not there, but '{below}' is: a / at the beginning is the root, so leave it out"
+                )
             }
             Way::Near(path, directory, name) => {
                 let (path, directory) = (Visible { text: *path }, Visible { text: *directory });
@@ -55,7 +67,7 @@ impl Display for Way<'_> {
                 let path = Visible { text: *path };
                 write!(
                     f,
-                    "`{path}` is not a directory, so nothing is found below it"
+                    "`{path}` is not a directory, so nothing is found below it: '{path}' finds it"
                 )
             }
         }
@@ -84,7 +96,7 @@ pub fn note_way<P: Places, F: PathKinds, E: Write>(
         match kind_at(alloc, files, options, path) {
             Some(PathKind::Directory) => {}
             Some(PathKind::Other) => {
-                note_absent(alloc, places, options, path, errors);
+                note_absent(alloc, places, files, options, path, errors);
                 return true;
             }
             Some(PathKind::Link) => {
@@ -100,13 +112,16 @@ pub fn note_way<P: Places, F: PathKinds, E: Write>(
     }
     let is_absent = is_plain(below)
         && kind_at(alloc, files, options, pattern).is_some_and(|kind| kind == PathKind::Other);
-    is_absent && note_cased(alloc, places, options, pattern, errors)
+    is_absent
+        && (note_cased(alloc, places, options, pattern, errors)
+            || (below.contains('/') && note_near(alloc, places, options, pattern, errors)))
 }
 
 /// Writes that a path is not there, and which name is there instead of its last.
-fn note_absent<P: Places, E: Write>(
+fn note_absent<P: Places, F: PathKinds, E: Write>(
     alloc: P::Alloc,
     places: &P,
+    files: &F,
     options: &Options<'_, P::Alloc>,
     path: &str,
     errors: &mut ErrorLines<'_, P::Alloc, E>,
@@ -114,16 +129,41 @@ fn note_absent<P: Places, E: Write>(
     if note_cased(alloc, places, options, path, errors) {
         return;
     }
-    let (directory, last) = split_last(path);
-    if last.len() > 2 {
-        if let Ok(place) = place_at(alloc, options.directory, directory) {
-            if let Some(name) = least_name(alloc, places, place.as_str(), Wanted::Near(last)) {
-                errors.write(&Way::Near(path, directory, name.as_str()));
-                return;
-            }
+    if let Some(below) = path.strip_prefix('/') {
+        if kind_at(alloc, files, options, below).is_some_and(|kind| kind != PathKind::Other) {
+            errors.write(&Way::Rooted(path, below));
+            return;
         }
     }
-    errors.write(&Way::Absent(path));
+    if !note_near(alloc, places, options, path, errors) {
+        let (directory, _) = split_last(path);
+        errors.write(&Way::Absent(path, directory));
+    }
+}
+
+/// Writes which name is there instead of the last name of a path, if the two are nearly the same, and returns whether
+/// one is.
+fn note_near<P: Places, E: Write>(
+    alloc: P::Alloc,
+    places: &P,
+    options: &Options<'_, P::Alloc>,
+    path: &str,
+    errors: &mut ErrorLines<'_, P::Alloc, E>,
+) -> bool {
+    let (directory, last) = split_last(path);
+    if last.len() <= 2 {
+        return false;
+    }
+    let Ok(place) = place_at(alloc, options.directory, directory) else {
+        return false;
+    };
+    match least_name(alloc, places, place.as_str(), Wanted::Near(last)) {
+        Some(name) => {
+            errors.write(&Way::Near(path, directory, name.as_str()));
+            true
+        }
+        None => false,
+    }
 }
 
 /// The directory of a path, with its `/`, and the path's last name.

@@ -1,10 +1,10 @@
 //! Options and commands that a word is probably meant to be.
 ghost use Rattle.std.specs.Prelude.{◌≡◌};
-ghost use Rattle.globs.specs.Near.{are_swapped, is_near, near_command_words, near_option_words};
+ghost use Rattle.globs.specs.Near.{are_swapped, is_near, near_command_words, near_help_words, near_option_words};
 
 /// What a line about a word says of the option of `find` that is spelt nearly like it; empty if there is none.
 #[tactic(auto, unfolding(crate::specs::Near::near_option_words))]
-pub fn near_option(word: &str) -> &'static str
+fn near_option(word: &str) -> &'static str
     ensures { result.now ≡ near_option_words word.now }
 {
     let word = word.as_bytes();
@@ -22,6 +22,18 @@ pub fn near_option(word: &str) -> &'static str
         "; the nearest is --utf8-only"
     } else {
         ""
+    }
+}
+
+/// What a line about a word says of `--help`, or else of the option of `find`, if it is spelt nearly like it.
+#[tactic(auto, unfolding(crate::specs::Near::near_help_words))]
+pub fn near_help(word: &str) -> &'static str
+    ensures { result.now ≡ near_help_words word.now }
+{
+    if is_near(word.as_bytes(), b"--help") {
+        "; the nearest is --help"
+    } else {
+        near_option(word)
     }
 }
 

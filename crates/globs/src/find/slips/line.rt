@@ -14,6 +14,12 @@ pub enum Slip<'a> {
     Kind(&'a str),
     /// This pattern is this other pattern in quotes.
     Quoted(&'a str, &'a str),
+    /// This pattern has quotes in it.
+    Marked(&'a str),
+    /// This bracket has a range that goes backwards.
+    Range(&'a str),
+    /// Braces have a range of numbers.
+    Numbers,
     /// This word has several patterns, separated by this.
     Several(&'a str, &'static str),
     /// This path is from the top of a repository.
@@ -76,6 +82,23 @@ impl Display for Slip<'_> {
                     f,
                     "`{word}` has quotes in it, which belong to the pattern: write '{bare}'"
                 )
+            }
+            Slip::Marked(word) => {
+                let word = Visible { text: *word };
+                write!(
+                    f,
+                    "`{word}` has quotes in it, which belong to the pattern: leave them out"
+                )
+            }
+            Slip::Range(bracket) => {
+                let bracket = Visible { text: *bracket };
+                write!(
+                    f,
+                    "{bracket} matches no character: its range goes backwards, so write the lower end first"
+                )
+            }
+            Slip::Numbers => {
+                f.write_str("{1..3} is not a range here: write {1,2,3}, or [1-3] for a character")
             }
             Slip::Several(word, between) => {
                 let word = Visible { text: *word };

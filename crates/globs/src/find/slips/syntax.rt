@@ -12,6 +12,12 @@ static REGEX: &[&str] = &["\\.", "\\w", "\\d", "\\b", "\\s", "(?"];
 /// Parts of regular expressions that repeat something.
 static REPEATED: &[&str] = &[".+", "]+", ")+"];
 
+/// Whether a pattern repeats something as a regular expression does.
+pub fn is_repeated(pattern: &str) -> bool {
+    let is_anchored = pattern.starts_with('^') || pattern.ends_with('$');
+    REPEATED.iter().any(|sign| pattern.contains(*sign)) || (is_anchored && pattern.contains(".*"))
+}
+
 /// Writes the line about a pattern of a search that found nothing, if its syntax is that of another tool, and returns
 /// whether there is one.
 pub fn note_syntax<A: Allocator + Copy, E: Write>(
@@ -25,8 +31,9 @@ pub fn note_syntax<A: Allocator + Copy, E: Write>(
         errors.write(&Slip::Magic(magic, path));
     } else if let Some(drive) = drive_of(pattern) {
         errors.write(&Slip::Drive(drive));
-    } else if REPEATED.iter().any(|sign| pattern.contains(*sign)) {
-        note_regex(alloc, pattern, errors);
+    } else if is_repeated(pattern) {
+        let beginning = if pattern.contains('/') { "" } else { "**/" };
+        note_regex(alloc, beginning, pattern, errors);
     } else if pattern.contains('\\') {
         return note_backslash(alloc, pattern, errors);
     } else {
@@ -48,14 +55,14 @@ fn note_backslash<A: Allocator + Copy, E: Write>(
         }
     }
     let is_regex = REGEX.iter().any(|sign| pattern.contains(*sign));
-    if pattern.contains('[') && !is_regex {
+    if pattern.contains('[') && !pattern.contains("\\[") && !is_regex {
         return false;
     }
     let beginning = if pattern.contains('/') { "" } else { "**/" };
     if note_escaped(alloc, beginning, pattern, errors) {
         return true;
     }
-    if is_regex {
+    if is_regex && !is_of_windows(pattern) {
         errors.write(&Slip::Regex(pattern));
     } else {
         errors.write(&Slip::Backslash(pattern));
@@ -63,18 +70,85 @@ fn note_backslash<A: Allocator + Copy, E: Write>(
     true
 }
 
+/// Whether a pattern is names with a `\` between them.
+pub fn is_of_windows(pattern: &str) -> bool {
+    pattern.contains('\\') && pattern.split('\\').all(|name| is_simple(name))
+}
+
+/// Whether a text is not empty, and has only letters, digits, `_`, `-`, `.` and blanks.
+fn is_simple(text: &str) -> bool {
+    let is_of_name = |c: char| c.is_alphanumeric() || "_-. ".contains(c);
+    !text.is_empty() && text.chars().all(is_of_name)
+}
+
+/// Whether a text has braces with two dots, and no comma, between them.
+pub fn has_numbers(text: &str) -> bool {
+    match text.split_once('{') {
+        Some((_, after)) => match after.split_once('}') {
+            Some((inside, _)) => inside.contains("..") && !inside.contains(','),
+            None => false,
+        },
+        None => false,
+    }
+}
+
+/// The first bracket of a pattern, if it is only a range that goes backwards, such as `[z-a]`.
+pub fn backward(pattern: &str) -> Option<&str> {
+    let start = pattern.find('[')?;
+    let rest = pattern.get(start..)?;
+    let (bracket, _) = rest.split_once(']')?;
+    let mut characters = bracket.strip_prefix('[')?.chars();
+    let (low, dash, high) = (characters.next()?, characters.next()?, characters.next()?);
+    if characters.next().is_none() && dash == '-' && high < low {
+        rest.get(..bracket.len().saturating_add(1))
+    } else {
+        None
+    }
+}
+
+/// Whether a text has a pair of quotes in it, as in `"a b"/*`.
+pub fn is_marked(text: &str) -> bool {
+    match text.split_once('"') {
+        Some((_, after)) => after.contains('"'),
+        None => false,
+    }
+}
+
+/// Whether a pattern with a wildcard ends in a `.` and upper-case letters.
+pub fn is_upper(pattern: &str) -> bool {
+    match pattern.rsplit_once('.') {
+        Some((before, extension)) => {
+            before.contains('*')
+                && !extension.is_empty()
+                && extension.chars().all(|c| c.is_ascii_uppercase())
+        }
+        None => false,
+    }
+}
+
+/// Whether braces in a word have a blank after a comma.
+pub fn is_blank_choice(word: &str) -> bool {
+    match word.split_once('{') {
+        Some((_, after)) => match after.split_once('}') {
+            Some((inside, _)) => inside.contains(", "),
+            None => false,
+        },
+        None => false,
+    }
+}
+
 /// Whether a text has only letters, digits and `_`, and has some.
 fn is_name(text: &str) -> bool {
     !text.is_empty() && text.chars().all(|c| c.is_alphanumeric() || c == '_')
 }
 
-/// Writes what to write instead of a pattern that is a regular expression.
-fn note_regex<A: Allocator + Copy, E: Write>(
+/// Writes what to write instead of a pattern that is a regular expression. `beginning` comes before it.
+pub fn note_regex<A: Allocator + Copy, E: Write>(
     alloc: A,
+    beginning: &'static str,
     pattern: &str,
     errors: &mut ErrorLines<'_, A, E>,
 ) {
-    let beginning = if pattern.contains('/') { "" } else { "**/" };
     let Ok(forms) = native_forms(alloc, pattern) else {
         return;
     };
