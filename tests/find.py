@@ -1,8 +1,8 @@
 #!/usr/bin/env python3
 """Compares the output of `globs find` on random trees on the disk: with a filter of all paths by tests/lib/reference.py,
 where symbolic links are not followed, with several patterns with braces and leads, excluded paths, kinds and depths; and,
-with `--git`, with what git lists, where the trees have ignore files at any depth, and a search begins anywhere in them.
-Order and duplicates count. In a table it counts the directories that are listed. The last line counts searches: 'N
+with `--git`, with what git lists, where the trees have ignore files at any depth, and a search begins anywhere in them,
+perhaps with excluded names. Half of the searches are compared with each. Order and duplicates count. In a table it counts the directories that are listed. The last line counts searches: 'N
 passed, M failed'.
 
     tests/find.py [--seed N] [--searches N]
@@ -23,12 +23,13 @@ OPTIONS = [[], [], ["-i"], ["-d"], ["-i", "-d"], ["-t", "f"], ["-t", "d"], ["-t"
     ["-t", "l", "-t", "f"], ["-t", "d", "-t", "f"], ["--max-depth", "1"], ["--max-depth", "2"]]
 RULES = ["a", "b", "/a", "/b", "a/", "b/", "*", "!*", "!a", "!b", "!a/", "!/a/b", "a/b", "/a/*", "a/**", "**/b", "?", "!?", "[ab]",
     "*b", "!*b", ".*", "!.a", "a*", "e", "!A", "# a", "", "*.b", "\\!a", "a ", "/*/", "!*/"]
+NAMES = ["a", "b", "a/", "b/", "*", "!a", "!b", "!a/", "?", "!?", "[ab]", "*b", "!*b", ".*", "!.a", "a*", "e", "!A", "*.b"]
 GIT = {"GIT_CONFIG_NOSYSTEM": "1", "GIT_CONFIG_GLOBAL": "/dev/null"}
 
 # Lines about words that may have been meant otherwise.
 HINT = re.compile(
-    r"globs: (`.*` (is a directory|is a symbolic link|is not (there|a directory),|matches (one path|only names at the start))"
-    r"|\[\^ lists a \^ here|the start is ignored by )"
+    r"globs: (`.*` (is a directory|is a symbolic link|is not (there|a directory),|matches (one path|only (names at the start|paths of more names)))"
+    r"|-x .* ignores all that |\[\^ lists a \^ here|the start is ignored by )"
 )
 
 # Patterns, and how many directories are listed in a tree with src/{a.c,b.c,deep/c.c}, lib/{a.h,b.h} and doc/x. If the
@@ -132,13 +133,18 @@ class Searches:
         run(["git", "init", "-q", "--template=", top], env={**os.environ, **GIT})
         make.place(top, [path + "/" * is_dir for path, is_dir in tree.items()])
         make.place(top, [f"{file}={self.rules()}" for file in [*files, ".git/info/exclude"]])
-        words = ["git", "ls-files", "-co", "--exclude-standard", "-z"]
-        start = os.path.join(top, source.choice([".", source.choice([".", *(path for path in tree if tree[path])])]))
+        below = source.choice([".", source.choice([".", *(path for path in tree if tree[path])])])
+        start = os.path.join(top, below)
+        # git asks its `-x` about the start, too.
+        rules = source.choices(NAMES, k=source.choice([0, 0, 1, 2])) if below == "." else []
+        excluded = [word for rule in rules for word in ("-x", rule)]
+        words = ["git", "ls-files", "-co", "--exclude-standard", "-z", *excluded]
         listed = run(words, cwd=start, env={**os.environ, **GIT})[1].split("\0")[:-1]
         for _ in range(EACH):
-            patterns, options = some_patterns(source), source.choice([[], ["-i"], ["-d"]])
-            words = ["--git", "-t", "f", *options, *map(written, patterns)]
-            self.same(start, f"{sorted(tree)} {sorted(files)} {start}", words, matched(listed, patterns, options))
+            patterns, options = some_patterns(source), source.choice([[], ["-i"], ["-d"], ["--max-depth", "2"]])
+            words = ["--git", "-t", "f", *excluded, *options, *map(written, patterns)]
+            found = [path for path in listed if is_wanted(path, "", options)]
+            self.same(start, f"{sorted(tree)} {sorted(files)} {start}", words, matched(found, patterns, options))
 
     def rules(self):
         """The text of an ignore file."""
@@ -157,7 +163,7 @@ class Searches:
 def main():
     options = argparse.ArgumentParser()
     options.add_argument("--seed", type=int, default=1)
-    options.add_argument("--searches", type=int, default=20_000)
+    options.add_argument("--searches", type=int, default=40_000)
     options = options.parse_args()
     searches = Searches(random.Random(options.seed))
     rounds = [searches.filtered] + [searches.beside_git] * bool(has("git", "searches beside git"))
