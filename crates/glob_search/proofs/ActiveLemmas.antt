@@ -1,26 +1,29 @@
 -- Which rules are active in a directory. The last list that says something decides as the rules of the search's aim do.
-use Rattle.std.proofs.Common.{◌≡◌, ℕ, ◌+◌, ◌<◌, eqb, Bool, true, false, List, [], ◌∷◌, ◌++◌, length, take, drop, get_or, Option}
-use Rattle.std.proofs.Common.{Some, None, refl, ap, ap₂, sym, subst, ◌∙◌, arith}
-use Rattle.std.specs.Prelude.{unwrap_or, fold}
+use Rattle.std.proofs.Common.{◌≡◌, ℕ, ◌+◌, ◌<◌, ◌≤◌, ⊎_elim, eqb, Bool, true, false, List, [], ◌∷◌, ◌++◌, length, take, drop}
+use Rattle.std.proofs.Common.{get_or, Option, Some, None, refl, ap, ap₂, sym, subst, ◌∙◌, arith}
+use Rattle.std.specs.Prelude.{unwrap_or, fold, option_map, nat_le, nat_lt, slice_index, ◌||◌}
 use Rattle.std.specs.List.{All, join_with_byte}
 use Rattle.std.specs.Option.{option_or}
 use Rattle.std.specs.Path.{with_separator}
 use Rattle.std.specs.Str.{IsCharBoundary, IsUtf8}
-use Rattle.std.proofs.lemmas.Bool.{eqb-true}
+use Rattle.std.proofs.lemmas.Bool.{and_from, and_parts, cases_lt, cond-false, cond-true, cond_both, eqb-true, false_from_ne_true, le-leb, leb-true}
+use Rattle.std.proofs.lemmas.Bool.{lt-ltb, ltb-true, or_cases, or_left, or_right}
 use Rattle.std.proofs.lemmas.List.{nil_from_length}
 use Rattle.std.proofs.lemmas.List.{append_assoc, append-nil, length-map, map-append, length-append, take-map, take_at}
-use Rattle.std.proofs.lemmas.List.{drop_at, get_or_at, get_or-map, length_push}
-use Rattle.std.proofs.lemmas.List.Elements.{All-append, All-get_or, All-map}
+use Rattle.std.proofs.lemmas.List.{drop_at, get_or_at, get_or_past, length_push}
+use Rattle.std.proofs.lemmas.List.Elements.{All-append, All-cons, All-take, All-map}
 use Rattle.std.proofs.lemmas.List.Folds.{fold-map}
 use Rattle.std.proofs.lemmas.List.Sums.{fold-append}
+use Rattle.std.proofs.lemmas.Option.{same_Some}
 use Rattle.std.proofs.lemmas.Str.{IsCharBoundary-start, IsCharBoundary-after_ascii}
 use Rattle.glob_text.specs.Characters.{slash}
 use Rattle.glob_text.specs.Text.{Text}
 use Rattle.glob_tree.specs.Content.{Key}
-use Rattle.glob_tree.specs.Paths.{join}
-use Rattle.glob_rules.specs.Lists.{Ignores}
+use Rattle.glob_tree.specs.Paths.{child, is_here, join}
+use Rattle.glob_rules.specs.Lists.{Ignores, rules_of}
+use Rattle.glob_search.specs.Kept.{AreOfFiles, IsOfFile, after_bytes, given_rules, is_boundary}
 use Rattle.glob_search.specs.Private.Active.{active_lists, after, above_of, lists_in, lists_down, lists_above, lists_at}
-use Rattle.glob_search.specs.Private.Active.{active_said, AreActive}
+use Rattle.glob_search.specs.Private.Active.{active_said, AreActive, rules_here}
 use Rattle.glob_search.specs.Aims.{outer_of}
 use Rattle.glob_search.specs.Searching.{Aim, said, last_said, files_said, is_ignored, outer_said}
 use Rattle.glob_search.specs.declared.active.FileRules.{FileRules}
@@ -183,11 +186,74 @@ active-boundaries a directory n h path are_active is utf8 =
           (down-boundaries [] a [] (directory ++ n ∷ []) path is utf8 (after-boundaries 0 [] path start)),
     )
 
--- a path may be cut where one of these lists begins to see it
-pub boundary-at : {A : Type 0} (files : List (FileRules A)) (i : ℕ) (file : FileRules A) (path : Text) → i < length files
-    → file ≡ get_or files i file
-    → All (λ l. IsCharBoundary path l.0) (active_lists files) → IsCharBoundary path file.above
-boundary-at {A} files i file path lt is cuts =
-    let pair : FileRules A → ℕ × Ignores = λ f. (f.above, f.list) in
-    subst (λ l. IsCharBoundary path l.0) (get_or-map pair files i file (pair file) lt ∙ ap pair (sym is))
-    (All-get_or (λ l. IsCharBoundary path l.0) (active_lists files) i (pair file) (omega (arith, length-active_lists files)) cuts)
+-- a path may be cut where no character goes on
+pub is_boundary-at : (path : Text) (n : ℕ) → IsCharBoundary path n → is_boundary path n ≡ true
+is_boundary-at path n (within, cut) =
+    and_from (nat_le n (length path)) _ (le-leb n (length path) within) (⊎_elim inside at_end (cases_lt n (length path)))
+  where
+    byte : ℕ
+    byte = slice_index path n
+
+    inside : n < length path → (nat_lt byte 128 || nat_le 192 byte) ≡ true
+    inside lt = ⊎_elim (λ low. or_left (nat_lt byte 128) (nat_le 192 byte) (lt-ltb byte 128 low))
+        (λ high. or_right (nat_lt byte 128) (nat_le 192 byte) (le-leb 192 byte (cut lt high)))
+        (cases_lt byte 128)
+
+    at_end : length path ≤ n → (nat_lt byte 128 || nat_le 192 byte) ≡ true
+    at_end past = or_left (nat_lt byte 128) (nat_le 192 byte) (lt-ltb byte 128 (omega (arith, get_or_past path n 0 past)))
+
+-- and only there
+pub boundary-from : (path : Text) (n : ℕ) → is_boundary path n ≡ true → IsCharBoundary path n
+boundary-from path n is =
+    let byte = slice_index path n in
+    let parts = and_parts (nat_le n (length path)) (nat_lt byte 128 || nat_le 192 byte) is in (
+      leb-true n (length path) parts.0,
+      λ lt high. ⊎_elim (λ low. absurd (omega (arith, ltb-true byte 128 low, high))) (λ lead. leb-true 192 byte lead)
+          (or_cases (nat_lt byte 128) (nat_le 192 byte) parts.1),
+    )
+
+pub after_bytes-boundary : (path : Text) (n : ℕ) → IsCharBoundary path n → after_bytes n path ≡ drop n path
+after_bytes-boundary path n cut = cond-true (is_boundary path n) (drop n path) path (is_boundary-at path n cut)
+
+pub after_bytes-inside : (path : Text) (n : ℕ) → (IsCharBoundary path n → ⊥) → after_bytes n path ≡ path
+after_bytes-inside path n inside =
+    cond-false (is_boundary path n) (drop n path) path (false_from_ne_true (is_boundary path n) (λ cut. inside (boundary-from path n cut)))
+
+-- the lists before any file is read
+pub rules-given : {A : Type 0} (h : ActiveRules A) (first : List Ignores) (last : List (Text × Ignores))
+    → active_lists h.first.items ≡ after 0 first → active_lists h.files.items ≡ [] → outer_of h.last.items ≡ last
+    → rules_here h ≡ given_rules first last
+rules-given h first last is_first is_files is_last =
+    ap₂ (λ f x. record { first = f; files = x; last = outer_of h.last.items }) is_first is_files
+    ∙ ap (λ l. record { first = after 0 first; files = []; last = l }) is_last
+
+pub child-long : (d n : Text) → length n ≤ length (child d n)
+unfolding child join
+child-long d n =
+    cond_both (is_here d) n (with_separator d ++ n) (λ t. length n ≤ length t) (λ here. omega arith)
+    (λ below. omega (arith, length-append (with_separator d) n))
+
+-- the rules of one more file
+pub files-push : {A : Type 0} (known : Text → Option Text) (names : List Text) (files new : List (FileRules A)) (f : FileRules A)
+    → new ≡ files ++ f ∷ [] → AreOfFiles known names (active_lists files) → IsOfFile known names (f.above, f.list)
+    → AreOfFiles known names (active_lists new)
+files-push known names files new f items all one =
+    subst (AreOfFiles known names) (sym (ap active_lists items ∙ active_lists-push files f))
+    (All-append (IsOfFile known names) (active_lists files) ((f.above, f.list) ∷ []) all
+    (All-cons (IsOfFile known names) (f.above, f.list) [] one (λ k d lt. absurd (omega (arith, lt)))))
+
+-- the rules of files that are left
+pub files-take : {A : Type 0} (known : Text → Option Text) (names : List Text) (files new : List (FileRules A)) (n : ℕ)
+    → new ≡ take n files → AreOfFiles known names (active_lists files) → AreOfFiles known names (active_lists new)
+files-take known names files new n items all =
+    subst (AreOfFiles known names) (take-map (λ f. (f.above, f.list)) n files ∙ sym (ap active_lists items))
+    (All-take (IsOfFile known names) n (active_lists files) all)
+
+-- the text of a file whose rules were read
+pub text-of : (list : Ignores) (o : Option Text) → Some list ≡ option_map rules_of o
+    → (text : Text) × (o ≡ Some text) × (list ≡ rules_of text)
+text-of list None is = absurd (nothing is)
+  where
+    nothing : Some list ≡ None → ⊥
+    nothing e = cc
+text-of list (Some text) is = (text, refl, same_Some list (rules_of text) is)

@@ -1,6 +1,6 @@
 -- Which rule of the lists decides.
 use Rattle.std.proofs.Common.{◌≡◌, ℕ, zero, suc, ◌+◌, ◌<◌, Bool, true, false, not, ◌||◌, List, [], ◌∷◌, ◌++◌, length, drop, get_or}
-use Rattle.std.proofs.Common.{map, Option, Some, None, refl, ap, ap₂, sym, subst, ◌∙◌, arith}
+use Rattle.std.proofs.Common.{map, Option, Some, None, refl, ap, ap₂, sym, ◌∙◌, arith}
 use Rattle.std.specs.Prelude.{fold, option_map, string_bytes, unwrap_or}
 use Rattle.std.specs.List.{All, cons_option, list_all, join_with_byte}
 use Rattle.std.specs.Option.{option_or}
@@ -8,6 +8,7 @@ use Rattle.std.specs.Str.{IsCharBoundary}
 use mathlib.Core.Bool.{or-false}
 use Rattle.std.proofs.lemmas.Bool.{and_parts, cond-false, cond-true, not-true, or_right}
 use Rattle.std.proofs.lemmas.List.{append_assoc, append-nil, drop-map, drop_more, get_or-map, length-map, map-append}
+use Rattle.std.proofs.lemmas.List.Elements.{All-head, All-tail}
 use Rattle.std.proofs.lemmas.Option.{same_Some}
 use Rattle.glob_text.specs.Characters.{slash}
 use Rattle.glob_text.specs.Pieces.{pieces}
@@ -20,9 +21,11 @@ use Rattle.glob_rules.specs.declared.rule.Rule.{Rule}
 use Rattle.glob_search.specs.Aims.{outer_of, path_of, rules_from}
 use Rattle.glob_search.specs.Asking.{Asked, File, First, Last, Origin, asked, asked_below, asked_in, last_rule, numbered, rule_about}
 use Rattle.glob_search.specs.Asking.{rule_below}
+use Rattle.glob_search.specs.Kept.{after_bytes, is_ignored_by, said_after}
 use Rattle.glob_search.specs.Searching.{Aim, is_ignored, is_kept, is_nil, outer_said, said}
 use Rattle.glob_search.specs.Private.Active.{AreActive, above_of, active_lists, active_said, after, lists_down, lists_in}
-use Rattle.glob_search.specs.Private.Asked.{held_rule, last_of, seen_by, seen_by_outer, source_at}
+use Rattle.glob_search.specs.Private.Active.{rules_here}
+use Rattle.glob_search.specs.Private.Asked.{cut_by, held_rule, last_of, seen_by, seen_by_outer, source_at}
 use Rattle.glob_search.specs.Private.Entering.{IsAt, rule_names, sources_down}
 use Rattle.glob_search.specs.Private.Reading.{sources_in, sources_of}
 use Rattle.glob_search.specs.declared.active.ActiveRules.{ActiveRules}
@@ -30,7 +33,8 @@ use Rattle.glob_search.specs.declared.active.FileRules.{FileRules}
 use Rattle.glob_search.specs.declared.directories.Directories.{Directories}
 use Rattle.glob_search.specs.declared.held.HeldRules.{HeldRules}
 use Rattle.glob_search.specs.declared.outer.OuterRules.{OuterRules}
-use Rattle.glob_search.proofs.ActiveLemmas.{boundary-at, drop-above, is_ignored-active, lists_above-child, or-none, or_assoc, said-after}
+use Rattle.glob_search.proofs.ActiveLemmas.{after_bytes-boundary, drop-above, is_ignored-active, lists_above-child, or-none, or_assoc}
+use Rattle.glob_search.proofs.ActiveLemmas.{said-after}
 use Rattle.glob_search.proofs.AskingLemmas.{sources_down-child}
 use Rattle.glob_search.proofs.KeptLemmas.{long}
 use Rattle.glob_search.proofs.EngineLemmas.Paths.{AreProper}
@@ -87,17 +91,17 @@ last-within (l ∷ ls) d n p is = by_rest (last-within ls d (suc n)) (last_of ls
 -- what a list names where no later one names anything
 pub names-here : {A : Type 0} (files : List (FileRules A)) (i later : ℕ) (file : FileRules A) (path below : Text)
     (d : Bool) (answer : Option Rule)
-    → i < length files → later ≡ i + 1 → file ≡ get_or files i file → (IsCharBoundary path file.above → below ≡ drop file.above path)
-    → answer ≡ naming_rule file.list below d → All (λ l. IsCharBoundary path l.0) (active_lists files)
-    → last_of (seen_by path (drop later files)) d later ≡ None
-    → last_of (seen_by path (drop i files)) d i ≡ option_map (numbered_by i) answer
-names-here files i later file path below d answer lt next is cut says cuts silent =
-    let here : Option (ℕ × Rule) = option_map (numbered_by i) (naming_rule file.list (drop file.above path) d) in
+    → i < length files → later ≡ i + 1 → file ≡ get_or files i file → below ≡ after_bytes file.above path
+    → answer ≡ naming_rule file.list below d
+    → last_of (cut_by path (drop later files)) d later ≡ None
+    → last_of (cut_by path (drop i files)) d i ≡ option_map (numbered_by i) answer
+names-here files i later file path below d answer lt next is cut says silent =
+    let here : Option (ℕ × Rule) = option_map (numbered_by i) (naming_rule file.list (after_bytes file.above path) d) in
     let step : suc i ≡ later = omega (arith, next) in
-    ap (λ fs. last_of (seen_by path fs) d i) (drop_more files i file lt ∙ ap₂ (λ f k. f ∷ drop k files) (sym is) (sym next))
-    ∙ ap (λ k. option_or (last_of (seen_by path (drop later files)) d k) here) step
+    ap (λ fs. last_of (cut_by path fs) d i) (drop_more files i file lt ∙ ap₂ (λ f k. f ∷ drop k files) (sym is) (sym next))
+    ∙ ap (λ k. option_or (last_of (cut_by path (drop later files)) d k) here) step
     ∙ ap (λ o. option_or o here) silent
-    ∙ ap (option_map (numbered_by i)) (sym (says ∙ ap (λ p. naming_rule file.list p d) (cut (boundary-at files i file path lt is cuts))))
+    ∙ ap (option_map (numbered_by i)) (sym (says ∙ ap (λ p. naming_rule file.list p d) cut))
 
 pub names-here_outer : {A : Type 0} (lists : List (OuterRules A)) (i later : ℕ) (list : OuterRules A) (path : Text) (d : Bool)
     (answer : Option Rule)
@@ -114,10 +118,10 @@ names-here_outer lists i later list path d answer lt next is says silent =
     ∙ ap (option_map (numbered_by i)) (sym says)
 
 pub found-at : {A : Type 0} (files : List (FileRules A)) (i : ℕ) (path : Text) (d : Bool) (rule : Rule)
-    → last_of (seen_by path (drop i files)) d i ≡ Some (i, rule) → last_of (seen_by path files) d 0 ≡ Some (i, rule)
+    → last_of (cut_by path (drop i files)) d i ≡ Some (i, rule) → last_of (cut_by path files) d 0 ≡ Some (i, rule)
 found-at {A} files i path d rule is =
-    found-from (seen_by path files) i 0 i d (i, rule) (omega arith)
-    (ap (λ ls. last_of ls d i) (drop-map (λ (f : FileRules A). (f.list, drop f.above path)) i files) ∙ is)
+    found-from (cut_by path files) i 0 i d (i, rule) (omega arith)
+    (ap (λ ls. last_of ls d i) (drop-map (λ (f : FileRules A). (f.list, after_bytes f.above path)) i files) ∙ is)
 
 pub found-at_outer : {A : Type 0} (lists : List (OuterRules A)) (i : ℕ) (path : Text) (d : Bool) (rule : Rule)
     → last_of (seen_by_outer path (drop i lists)) d i ≡ Some (i, rule) → last_of (seen_by_outer path lists) d 0 ≡ Some (i, rule)
@@ -386,9 +390,44 @@ held-by-last h path d o none no_file is =
 pub length-seen : {A : Type 0} (path : Text) (files : List (FileRules A)) → length (seen_by path files) ≡ length files
 length-seen {A} path files = length-map {B = Ignores × Text} files (λ (f : FileRules A). (f.list, drop f.above path))
 
+-- a list sees a path after as many bytes as are above it, where no character goes on there
+cut-seen : {A : Type 0} (path : Text) (files : List (FileRules A)) → All (λ l. IsCharBoundary path l.0) (active_lists files)
+    → cut_by path files ≡ seen_by path files
+cut-seen path [] cuts = refl
+cut-seen path (f ∷ fs) cuts =
+    ap₂ (λ t ls. (f.list, t) ∷ ls)
+    (after_bytes-boundary path f.above (All-head (λ l. IsCharBoundary path l.0) (f.above, f.list) (active_lists fs) cuts))
+    (cut-seen path fs (All-tail (λ l. IsCharBoundary path l.0) (f.above, f.list) (active_lists fs) cuts))
+
 -- what a slice of these lists names
 pub of-slice : {A : Type 0} (slice files : List (FileRules A)) (path : Text) (d : Bool) (answer : Option (ℕ × Rule)) → slice ≡ files
-    → (All (λ l. IsCharBoundary path l.0) (active_lists slice) → answer ≡ last_of (seen_by path slice) d 0)
-    → All (λ l. IsCharBoundary path l.0) (active_lists files) → answer ≡ last_of (seen_by path files) d 0
-of-slice slice files path d answer same says =
-    subst (λ fs. All (λ l. IsCharBoundary path l.0) (active_lists fs) → answer ≡ last_of (seen_by path fs) d 0) same says
+    → answer ≡ last_of (cut_by path slice) d 0 → All (λ l. IsCharBoundary path l.0) (active_lists files)
+    → answer ≡ last_of (seen_by path files) d 0
+of-slice slice files path d answer same says cuts =
+    says ∙ ap (λ fs. last_of (cut_by path fs) d 0) same ∙ ap (λ ls. last_of ls d 0) (cut-seen path files cuts)
+
+seen-cut : {A : Type 0} (path : Text) (files : List (FileRules A))
+    → cut_by path files ≡ map (λ l. (l.1, after_bytes l.0 path)) (active_lists files)
+seen-cut path [] = refl
+seen-cut path (f ∷ fs) = ap (λ ls. (f.list, after_bytes f.above path) ∷ ls) (seen-cut path fs)
+
+cut-says : {A : Type 0} (slice files : List (FileRules A)) (path : Text) (d : Bool) (answer : Option (ℕ × Rule)) → slice ≡ files
+    → answer ≡ last_of (cut_by path slice) d 0 → said_after (active_lists files) path d ≡ option_map ignores_by answer
+cut-says slice files path d answer same is =
+    says-last (λ l. l.1) (λ l. after_bytes l.0 path) d 0 (active_lists files)
+    ∙ ap (λ ls. option_map ignores_by (last_of ls d 0)) (sym (seen-cut path files))
+    ∙ ap (λ fs. option_map ignores_by (last_of (cut_by path fs) d 0)) (sym same)
+    ∙ ap (option_map ignores_by) (sym is)
+
+-- The rules that are active decide about any path by what these lists name.
+pub read-by : {A : Type 0} (h : ActiveRules A) (path : Text) (d : Bool) (first_slice files_slice : List (FileRules A))
+    (first files last : Option (ℕ × Rule))
+    → first_slice ≡ h.first.items → first ≡ last_of (cut_by path first_slice) d 0
+    → files_slice ≡ h.files.items → files ≡ last_of (cut_by path files_slice) d 0
+    → last ≡ last_of (seen_by_outer path h.last.items) d 0
+    → is_ignored_by (rules_here h) path d
+    ≡ unwrap_or (option_or (option_map ignores_by first) (option_or (option_map ignores_by files) (option_map ignores_by last))) false
+read-by h path d first_slice files_slice first files last first_same is_first files_same is_files is_last =
+    ap₂ (λ o p. unwrap_or (option_or o p) false)
+    (cut-says first_slice h.first.items path d first first_same is_first)
+    (ap₂ option_or (cut-says files_slice h.files.items path d files files_same is_files) (outer-says h.last.items path d last is_last))

@@ -1,5 +1,6 @@
 pub mod Aims
 pub mod Asking
+pub mod Kept
 pub mod Laws
 pub mod Private
 pub mod Refusals

@@ -1,14 +1,14 @@
 //! The ignore rules that are active in a directory: those that may name a path in it.
-ghost use Rattle.std.specs.Prelude.{◌≡◌, IfOk, drop, false, ◌++◌, ◌∷◌, [], Bool, IsTrue};
-ghost use Rattle.std.specs.List.{All, list_all, join_with_byte};
-ghost use Rattle.std.specs.Str.{IsCharBoundary};
+ghost use Rattle.std.specs.Prelude.{◌≡◌, IfOk, ◌++◌, ◌∷◌, [], IsTrue};
+ghost use Rattle.std.specs.List.{list_all, join_with_byte};
 ghost use Rattle.glob_text.specs.Characters.{slash};
 ghost use Rattle.glob_text.specs.Text.{Text};
 ghost use Rattle.glob_tree.specs.Content.{Key};
 ghost use Rattle.glob_tree.specs.Paths.{is_proper};
 ghost use Rattle.glob_search.specs.Aims.{outer_of};
-ghost use Rattle.glob_search.specs.Private.Active.{active_lists, after, AreActive};
-ghost use Rattle.glob_search.specs.Private.Asked.{last_of, seen_by};
+ghost use Rattle.glob_search.specs.Kept.{after_bytes, is_ignored_by};
+ghost use Rattle.glob_search.specs.Private.Active.{active_lists, after, AreActive, rules_here};
+ghost use Rattle.glob_search.specs.Private.Asked.{cut_by, last_of};
 ghost use Rattle.glob_search.specs.Searching.{Aim, is_ignored};
 
 use crate::outer::{OuterRules, last_outer};
@@ -59,6 +59,8 @@ impl<A: Allocator + Copy> ActiveRules<A> {
             → IsTrue (list_all is_proper (directory ++ n ∷ []))
             → path.now ≡ join_with_byte slash (directory ++ n ∷ [])
             → IfOk result (λ r. r ≡ is_ignored a (directory ++ n ∷ []) is_dir) }
+        ensures read { IfOk result
+            (λ r. r ≡ is_ignored_by (rules_here self.now) path.now is_dir) }
     {
         if let Some((_, rule)) = last_naming(self.first.as_slice(), path, is_dir)? {
             return Ok(!rule.negative);
@@ -93,8 +95,7 @@ pub fn last_naming<A: Allocator + Copy>(
     path: &str,
     is_dir: bool,
 ) -> Result<Option<(usize, Rule)>, AllocError>
-    ensures { All (λ l. IsCharBoundary path.now l.0) (active_lists rules.now)
-        → IfOk result (λ answer. answer ≡ last_of (seen_by path.now rules.now) is_dir 0) }
+    ensures { IfOk result (λ answer. answer ≡ last_of (cut_by path.now rules.now) is_dir 0) }
 {
     let mut left = rules.len();
     while left > 0 {
@@ -108,9 +109,9 @@ pub fn last_naming<A: Allocator + Copy>(
     Ok(None)
 }
 
-/// The path without its first `above` bytes.
+/// The path without its first `above` bytes; all of it if they end within a character.
 fn below(path: &str, above: usize) -> &str
-    ensures { IsCharBoundary path.now above → result.now ≡ drop above path.now }
+    ensures { result.now ≡ after_bytes above path.now }
 {
     match path.split_at_checked(above) {
         Some((_, rest)) => rest,

@@ -140,7 +140,7 @@ impl<A: Allocator + Copy> Directories<A> {
         }
     }
 
-    /// The same, where an error leaves a directory half entered.
+    /// Does the work of `descend`, but after an error a directory may be half entered.
     fn enter_above<R: RuleTexts<Alloc = A>>(
         &mut self,
         texts: &mut R,

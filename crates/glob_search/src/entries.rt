@@ -1,11 +1,12 @@
 //! The entries of a directory, looked up or listed.
 ghost use Rattle.std.specs.Prelude.{◌≡◌, ℕ, ◌+◌, ◌≤◌, ◌++◌, List, IfOk, IfErr, OnOk, IsTrue, IsPermutation, IsSome, if◌then◌else◌, true, false, is_some, map, option_map, string_bytes, vec_len};
 ghost use Rattle.std.specs.Option.{ForSome};
-ghost use Rattle.glob_tree.specs.Answers.{IsListError, IsTold, entries_of, names_of};
+ghost use Rattle.glob_tree.specs.Answers.{IsListError, IsTold, entries_of, entry_count, names_of};
 ghost use Rattle.glob_tree.specs.Content.{Content, Key, children, is_content, is_dir_at, list_result, look_result};
 ghost use Rattle.glob_search.specs.Aims.{path_of};
 ghost use Rattle.glob_search.specs.Searching.{Aim, is_listed};
-ghost use Rattle.glob_search.specs.Private.Faults.{IsOfListing, is_last};
+ghost use Rattle.glob_search.specs.States.{IsPaid, is_last};
+ghost use Rattle.glob_search.specs.Private.Faults.{IsOfListing};
 ghost use Rattle.glob_search.specs.Private.Listings.{AreFalling, AreLookedUp, IsListed, IsSourceAnswer, looked, names_down};
 ghost use Rattle.glob_search.specs.Private.Nodes.{AreAlive, AreBeginnings};
 
@@ -25,6 +26,8 @@ pub fn look_at<A: Allocator + Copy, T: Tree<Alloc = A>>(
     ensures limit { meter.new.limit ≡ meter.old.limit }
     ensures spent { meter.old.spent ≤ meter.new.spent }
     ensures charged { OnOk result (meter.old.spent + 1 ≤ meter.new.spent) }
+    ensures asked { IsPaid result (T.asks tree.old) (T.asks tree.new)
+        meter.old.spent meter.new.spent }
     ensures content { T.tells tree.new ≡ T.tells tree.old }
     ensures seen { (c : Content) → IsTold (T.tells tree.old) c
         → IfOk result (λ seen. seen ≡ look_result c path.now) }
@@ -46,6 +49,8 @@ pub fn look_up<A: Allocator + Copy, T: Tree<Alloc = A>>(
     ensures spent { meter.old.spent ≤ meter.new.spent }
     ensures charged { IfOk result (λ entries.
         meter.old.spent + vec_len entries ≤ meter.new.spent) }
+    ensures asked { IsPaid result (T.asks tree.old) (T.asks tree.new)
+        meter.old.spent meter.new.spent }
     ensures content { T.tells tree.new ≡ T.tells tree.old }
     ensures entries { (c : Content) (a : Aim) (names : Key) → IsTold (T.tells tree.old) c
         → IsTrue (is_dir_at c (c.current ++ names)) → string_bytes opening.now.path ≡ path_of names
@@ -77,6 +82,8 @@ fn entry_at<A: Allocator + Copy, T: Tree<Alloc = A>>(
     ensures spent { meter.old.spent ≤ meter.new.spent }
     ensures charged { IfOk result (λ entry.
         meter.old.spent + (if is_some entry then 1 else 0) ≤ meter.new.spent) }
+    ensures asked { IsPaid result (T.asks tree.old) (T.asks tree.new)
+        meter.old.spent meter.new.spent }
     ensures content { T.tells tree.new ≡ T.tells tree.old }
     ensures entry { (c : Content) (names : Key) → IsTold (T.tells tree.old) c
         → IsTrue (is_dir_at c (c.current ++ names)) → directory.now ≡ path_of names
@@ -110,6 +117,8 @@ pub fn list<A: Allocator + Copy, T: Tree<Alloc = A>>(
     ensures spent { meter.old.spent ≤ meter.new.spent }
     ensures charged { IfOk result (λ entries.
         meter.old.spent + vec_len entries ≤ meter.new.spent) }
+    ensures asked { IsPaid result (T.asks tree.old) (T.asks tree.new)
+        meter.old.spent meter.new.spent }
     ensures content { T.tells tree.new ≡ T.tells tree.old }
     ensures entries { (c : Content) (names : Key) → IsTold (T.tells tree.old) c
         → IsTrue (is_dir_at c (c.current ++ names)) → string_bytes opening.now.path ≡ path_of names
@@ -141,6 +150,7 @@ fn listed<A: Allocator + Copy, T: Tree<Alloc = A>>(
         → IfOk result (λ v. IsSourceAnswer source (list_result c path.now) (entries_of v.items)) }
     ensures fails { (c : Content) → IsTold (T.tells tree.old) c
         → IfErr result (λ e. IsListError (list_result c path.now) e) }
+    ensures asks { T.asks tree.new ≡ T.asks tree.old + 1 + entry_count result }
 {
     if source == Source::Named {
         tree.list_names(path)

@@ -25,7 +25,7 @@ pub enum SearchFault<A: Allocator = Global> {
 }
 
 impl<A: Allocator> SearchFault<A> {
-    ghost use Rattle.glob_search.specs.Private.Faults.{is_last};
+    ghost use Rattle.glob_search.specs.States.{is_last};
 
     /// Whether the search has ended.
     pub fn is_last(&self) -> bool

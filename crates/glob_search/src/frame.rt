@@ -32,7 +32,7 @@ pub struct Frame<A: Allocator> {
     /// The beginnings that are alive in it.
     pub alive: Vec<usize, A>,
     pub source: Source,
-    /// The entries that are still to be visited, each name once, in descending order: the last is visited first.
+    /// The entries that are still to be met, each name once, in descending order: the last is met first.
     pub entries: Vec<Entry<A>, A>,
     /// How many names of ignore files are done: the file was read, or is known to be missing.
     pub files: usize,

@@ -27,8 +27,9 @@ pub fn one_file_decides_as_its_list()
     ensures { OneFileDecides }
 {}
 
-/// If a directory is not listed, because all beginnings that are alive lead on by literal names, its other entries give
-/// nothing: for `a/b` and `a/c/*`, only `b` and `c` have to be looked up in `a`.
+/// If case matters, a directory is not listed if all beginnings that are alive in it lead on by literal names, and none
+/// of them ends in `**`. Entries with other names then give nothing: for `a/b` and `a/c/*`, only `b` and `c` have to be
+/// looked up in `a`.
 pub fn only_named_entries_give()
     ensures { OnlyNamedGive }
 {}

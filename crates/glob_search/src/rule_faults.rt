@@ -1,6 +1,6 @@
 //! What could not be read of ignore files.
 ghost use Rattle.std.specs.Prelude.{◌≡◌, false, OnOk};
-ghost use Rattle.glob_search.specs.Private.Faults.{is_last};
+ghost use Rattle.glob_search.specs.States.{is_last};
 
 use crate::fault::SearchFault;
 use std::alloc::{AllocError, Allocator};

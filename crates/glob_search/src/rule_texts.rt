@@ -1,8 +1,8 @@
 //! Where the texts of ignore files come from.
 ghost use Rattle.std.specs.Prelude.{◌≡◌, ℕ, List, Option, None, Some, IfOk, IfErr, true, false, option_map, string_bytes};
 ghost use Rattle.glob_rules.specs.Lists.{refusals_of, rules_of};
-ghost use Rattle.glob_search.specs.Private.Faults.{IsOfRules, is_last};
-ghost use Rattle.glob_search.specs.States.{IsRuleFile};
+ghost use Rattle.glob_search.specs.Private.Faults.{IsOfRules};
+ghost use Rattle.glob_search.specs.States.{IsRuleFile, is_last};
 ghost use Rattle.glob_text.specs.Text.{Text};
 ghost use Rattle.glob_tree.specs.declared.tree.ListError.TheVariants.{Memory};
 

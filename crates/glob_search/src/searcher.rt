@@ -1,8 +1,8 @@
 //! The turns of a search.
 //!
 //! A search has a frame for each directory on the way down to where it is. A turn enters a directory, reads one of its
-//! ignore files, visits one of its entries, or leaves it.
-ghost use Rattle.std.specs.Prelude.{◌≡◌, ℕ, suc, ◌+◌, ◌≤◌, ◌<◌, ◌&&◌, ◌++◌, ◌∷◌, [], List, Option, None, Some, Bool, true, false, IsTrue, OnOk, IfOk, IfErr, IfSome, MatchOption, map, unwrap_or, string_bytes, length, ⊤};
+//! ignore files, meets one of its entries, or leaves it.
+ghost use Rattle.std.specs.Prelude.{◌≡◌, ℕ, suc, ◌+◌, ◌≤◌, ◌<◌, ◌&&◌, ◌++◌, ◌∷◌, [], List, Option, None, Some, Bool, true, false, IsTrue, IsSome, OnOk, IfOk, IfErr, IfSome, MatchOption, map, unwrap_or, string_bytes, length, ⊤};
 ghost use Rattle.std.specs.Option.{ForSome};
 ghost use Rattle.std.specs.List.{list_all};
 ghost use Rattle.glob_text.specs.Text.{Text};
@@ -10,13 +10,16 @@ ghost use Rattle.glob_tree.specs.Answers.{IsTold};
 ghost use Rattle.glob_tree.specs.Content.{Content, Key, is_content, is_dir, kind_found};
 ghost use Rattle.glob_tree.specs.Paths.{is_proper};
 ghost use Rattle.glob_tree.specs.declared.kind.Kind.{Kind};
-ghost use Rattle.glob_search.specs.Aims.{AreTextsOf, aim_of, files_of, path_of, wants};
+ghost use Rattle.glob_search.specs.Aims.{AreTextsOf, aim_of, path_of, wants};
 ghost use Rattle.glob_search.specs.Refusals.{AreSearchable, RefusesPatterns};
 ghost use Rattle.glob_search.specs.Searching.{Aim, is_ignored};
 ghost use Rattle.glob_search.specs.Visiting.{Gift, gifts};
 ghost use Rattle.glob_search.specs.Private.Engine.{AreAnswers, GoesOn, HasWork, IsKindless, IsReading, Turns, file_names, found_if, work_left};
-ghost use Rattle.glob_search.specs.Private.Faults.{IsOfRules, is_last};
-ghost use Rattle.glob_search.specs.Private.Active.{AreActive};
+ghost use Rattle.glob_search.specs.States.{is_last};
+ghost use Rattle.glob_search.specs.Private.Faults.{IsOfRules};
+ghost use Rattle.glob_search.specs.Kept.{AreOfFiles, IsKept, is_ignored_by};
+ghost use Rattle.glob_search.specs.Private.Active.{AreActive, AreSameLists, active_lists, rules_here};
+ghost use Rattle.glob_search.specs.Private.Nodes.{AreBeginnings};
 ghost use Rattle.glob_search.specs.Private.Order.{IsPastSearch, IsPastWork, TurnsLater};
 ghost use Rattle.glob_search.specs.Private.Steps.{MayEnter};
 ghost use Rattle.glob_search.specs.Private.Ways.{search_left};
@@ -55,17 +58,18 @@ pub struct Searcher<A: Allocator> {
 impl<A: Allocator + Copy> Searcher<A> {
     ghost use Rattle.glob_search.specs.Private.Finding.{state_of};
     ghost use Rattle.glob_search.specs.Private.Ways.{IsDone};
-    ghost use Rattle.glob_search.specs.States.{FitsFiles, GivesNext, GoesAfter, HasGiven, IsBegun};
+    ghost use Rattle.glob_search.specs.States.{Ends, FitsFiles, GivesNext, GoesAfter, HasGiven, IsBegun, IsPaid};
 
     /// A search that has asked nothing.
     pub fn new(alloc: A, patterns: &[&str], settings: Settings<A>) -> Result<Self, SetRefusal>
-        ensures begun { IfOk result
-            (λ s. IsBegun settings.limit settings.depth (files_of settings) (state_of s)) }
+        ensures begun { IfOk result (λ s. IsBegun settings (state_of s)) }
         ensures fresh { IfOk result (λ s. (c : Content) (known : Text → Option Text)
             → IsTrue (is_content c)
             → let a = aim_of (map (λ p. p.now) patterns.now) settings known in
             HasGiven (gifts c a) c a known [] (state_of s)) }
         ensures past { IfOk result (λ s. IsPastSearch [] s) }
+        ensures patterns { IfOk result (λ s. AreBeginnings settings.options
+            (map (λ p. p.now) patterns.now) s.beginnings) }
         ensures few { IfOk result (λ s. items_left s.meter s.way ≤ settings.limit + 1) }
         ensures accepted { IfOk result (λ _. AreSearchable (map (λ p. p.now) patterns.now)) }
         ensures refused { IfErr result (RefusesPatterns (map (λ p. p.now) patterns.now)) }
@@ -114,8 +118,15 @@ impl<A: Allocator + Copy> Searcher<A> {
         ensures limit { self.new.meter.limit ≡ self.old.meter.limit }
         ensures depth { self.new.depth ≡ self.old.depth }
         ensures spent { self.old.meter.spent ≤ self.new.meter.spent }
-        ensures ends { MatchOption result (IsDone self.new.way) (λ _. ⊤) }
+        ensures ends { Ends result (IsDone self.new.way) }
+        ensures stays { IsDone self.old.way → (result ≡ None) × IsDone self.new.way }
         ensures files { self.new.rule_files ≡ self.old.rule_files }
+        ensures beginnings { self.new.beginnings ≡ self.old.beginnings }
+        ensures lists { AreSameLists self.old.active self.new.active }
+        ensures read { (known : Text → Option Text) → R.texts texts.old ≡ Some known
+            → AreOfFiles known (file_names self.old) (active_lists self.old.active.files.items)
+            → AreOfFiles known (file_names self.old) (active_lists self.new.active.files.items) }
+        ensures kinds { self.new.kinds ≡ self.old.kinds }
         ensures content { T.tells tree.new ≡ T.tells tree.old }
         ensures texts { R.texts texts.new ≡ R.texts texts.old }
         ensures gives { (c : Content) (a : Aim) (known : Text → Option Text)
@@ -124,11 +135,19 @@ impl<A: Allocator + Copy> Searcher<A> {
             → GivesNext all c a known given result (state_of self.new) }
         ensures ascends { (past : Key) → IsPastSearch past self.old
             → GoesAfter past result (state_of self.new) }
+        ensures kept { IfSome result
+            (λ item. IfOk item (IsKept (rules_here self.new.active))) }
+        ensures known { self.old.kinds ≡ true
+            → IfSome result (λ item. IfOk item (λ found. IsSome found.is_dir)) }
+        ensures asked { MatchOption result
+            (T.asks tree.new + self.old.meter.spent ≤ T.asks tree.old + self.new.meter.spent)
+            (λ item. IsPaid item (T.asks tree.old) (T.asks tree.new)
+            self.old.meter.spent self.new.meter.spent) }
         ensures falls { MatchOption result
             (items_left self.new.meter self.new.way ≤ items_left self.old.meter self.old.way)
             (λ _. items_left self.new.meter self.new.way
             < items_left self.old.meter self.old.way) }
-        ensures rules { IfSome result (λ item. IfErr item (FitsFiles (file_names self.old))) }
+        ensures faults { IfSome result (λ item. IfErr item (FitsFiles (file_names self.old))) }
     {
         while let Some(work) = self.way.next(self.rule_files.as_slice()) {
             match self.turn(work, tree, texts) {
@@ -159,6 +178,9 @@ impl<A: Allocator + Copy> Searcher<A> {
         ensures depth { self.new.depth ≡ self.old.depth }
         ensures done { IsDone self.new.way }
         ensures files { self.new.rule_files ≡ self.old.rule_files }
+        ensures beginnings { self.new.beginnings ≡ self.old.beginnings }
+        ensures active { self.new.active ≡ self.old.active }
+        ensures kinds { self.new.kinds ≡ self.old.kinds }
     {
         self.way = Way {
             entering: None,
@@ -179,6 +201,12 @@ impl<A: Allocator + Copy> Searcher<A> {
         ensures falls { OnOk result (weight self.new.meter self.new.way
             < weight self.old.meter self.old.way + work_weight work) }
         ensures files { self.new.rule_files ≡ self.old.rule_files }
+        ensures beginnings { self.new.beginnings ≡ self.old.beginnings }
+        ensures lists { AreSameLists self.old.active self.new.active }
+        ensures read { (known : Text → Option Text) → R.texts texts.old ≡ Some known
+            → AreOfFiles known (file_names self.old) (active_lists self.old.active.files.items)
+            → AreOfFiles known (file_names self.old) (active_lists self.new.active.files.items) }
+        ensures kinds { self.new.kinds ≡ self.old.kinds }
         ensures content { T.tells tree.new ≡ T.tells tree.old }
         ensures texts { R.texts texts.new ≡ R.texts texts.old }
         ensures turns { (c : Content) (a : Aim) (known : Text → Option Text)
@@ -186,11 +214,16 @@ impl<A: Allocator + Copy> Searcher<A> {
             → HasWork c a known self.old work
             → Turns c a known (work_left c a self.old work ++ search_left c a self.old)
             result self.new }
-        ensures later { (past : Key) → IsPastWork past work self.old.way
-            → TurnsLater past result self.new.way }
+        ensures later { (past : Key) → IsPastWork self.old.beginnings past work self.old.way
+            → TurnsLater self.old.beginnings past result self.new.way }
+        ensures kept { IfOk result (λ o. ForSome o (IsKept (rules_here self.new.active))) }
+        ensures known { self.old.kinds ≡ true
+            → IfOk result (λ o. ForSome o (λ found. IsSome found.is_dir)) }
+        ensures asked { IsPaid result (T.asks tree.old) (T.asks tree.new)
+            self.old.meter.spent self.new.meter.spent }
         ensures takes { Takes (stock self.old.meter self.old.way + work_stock work)
             (stock self.new.meter self.new.way) result }
-        ensures rules { IfErr result (FitsFiles (file_names self.old)) }
+        ensures faults { IfErr result (FitsFiles (file_names self.old)) }
     {
         match work {
             Work::Enter(opening) => self.enter(tree, opening)?,
@@ -201,7 +234,7 @@ impl<A: Allocator + Copy> Searcher<A> {
         Ok(None)
     }
 
-    /// Visits an entry of the last directory. It may be found, and it may be entered next.
+    /// Meets an entry of the last directory. It may be found, and it may be entered next.
     fn meet<T: Tree<Alloc = A>, R: RuleTexts<Alloc = A>>(
         &mut self,
         tree: &mut T,
@@ -214,6 +247,9 @@ impl<A: Allocator + Copy> Searcher<A> {
         ensures falls { OnOk result (weight self.new.meter self.new.way
             ≤ weight self.old.meter self.old.way + 1) }
         ensures files { self.new.rule_files ≡ self.old.rule_files }
+        ensures beginnings { self.new.beginnings ≡ self.old.beginnings }
+        ensures active { self.new.active ≡ self.old.active }
+        ensures kinds { self.new.kinds ≡ self.old.kinds }
         ensures content { T.tells tree.new ≡ T.tells tree.old }
         ensures texts { R.texts texts.new ≡ R.texts texts.old }
         ensures turns { (c : Content) (a : Aim) (known : Text → Option Text)
@@ -221,8 +257,14 @@ impl<A: Allocator + Copy> Searcher<A> {
             → HasWork c a known self.old (Work.Meet entry)
             → Turns c a known (work_left c a self.old (Work.Meet entry) ++ search_left c a self.old)
             result self.new }
-        ensures later { (past : Key) → IsPastWork past (Work.Meet entry) self.old.way
-            → TurnsLater past result self.new.way }
+        ensures later { (past : Key)
+            → IsPastWork self.old.beginnings past (Work.Meet entry) self.old.way
+            → TurnsLater self.old.beginnings past result self.new.way }
+        ensures kept { IfOk result (λ o. ForSome o (IsKept (rules_here self.new.active))) }
+        ensures known { self.old.kinds ≡ true
+            → IfOk result (λ o. ForSome o (λ found. IsSome found.is_dir)) }
+        ensures asked { IsPaid result (T.asks tree.old) (T.asks tree.new)
+            self.old.meter.spent self.new.meter.spent }
         ensures frames { OnOk result (self.new.way.frames ≡ self.old.way.frames) }
         ensures last { IfErr result (λ fault. is_last fault ≡ true) }
     {
@@ -266,6 +308,9 @@ impl<A: Allocator + Copy> Searcher<A> {
         ensures kind { (c : Content) (kind : Kind) → IsTold (T.tells tree.old) c
             → kind_found c path.now ≡ Some kind → ForSome known (λ d. d ≡ is_dir kind)
             → IfOk result (λ learned. ForSome learned (λ d. d ≡ is_dir kind)) }
+        ensures known { self.old.kinds ≡ true → IfOk result (λ learned. IsSome learned) }
+        ensures asked { IsPaid result (T.asks tree.old) (T.asks tree.new)
+            self.old.meter.spent self.new.meter.spent }
         ensures matters { IfOk result
             (λ learned. learned ≡ None → (goes_on ≡ false) × IsKindless self.old path.now) }
         ensures last { IfErr result (λ fault. is_last fault ≡ true) }
@@ -290,6 +335,8 @@ impl<A: Allocator + Copy> Searcher<A> {
             → IsTrue (list_all is_proper (directory ++ n ∷ []))
             → path.now ≡ path_of (directory ++ n ∷ [])
             → IfOk result (λ out. out ≡ is_ignored a (directory ++ n ∷ []) is_dir) }
+        ensures read { IfOk result (λ out. out ≡ false
+            → is_ignored_by (rules_here self.now.active) path.now is_dir ≡ false) }
     {
         if self.active.ignores(self.alloc, path, is_dir)? {
             return Ok(true);
@@ -324,7 +371,8 @@ impl<A: Allocator + Copy> Searcher<A> {
 
     /// Whether the kind of what is found at a path matters: to the caller, or to the rules.
     fn needs_kind(&self, path: &str) -> Result<bool, AllocError>
-        ensures { IfOk result (λ needed. needed ≡ false → IsKindless self.now path.now) }
+        ensures kindless { IfOk result (λ needed. needed ≡ false → IsKindless self.now path.now) }
+        ensures kinds { self.now.kinds ≡ true → IfOk result (λ needed. needed ≡ true) }
     {
         if self.kinds || self.wanted != Wanted::All {
             return Ok(true);
@@ -346,6 +394,12 @@ impl<A: Allocator + Copy> Searcher<A> {
         ensures spent { self.old.meter.spent ≤ self.new.meter.spent }
         ensures charged { OnOk result (self.old.meter.spent < self.new.meter.spent) }
         ensures files { self.new.rule_files ≡ self.old.rule_files }
+        ensures beginnings { self.new.beginnings ≡ self.old.beginnings }
+        ensures lists { AreSameLists self.old.active self.new.active }
+        ensures read { (known : Text → Option Text) → R.texts texts.old ≡ Some known
+            → AreOfFiles known (file_names self.old) (active_lists self.old.active.files.items)
+            → AreOfFiles known (file_names self.old) (active_lists self.new.active.files.items) }
+        ensures kinds { self.new.kinds ≡ self.old.kinds }
         ensures texts { R.texts texts.new ≡ R.texts texts.old }
         ensures reads { (c : Content) (a : Aim) (known : Text → Option Text)
             → IsTrue (is_content c) → R.texts texts.old ≡ Some known

@@ -1,5 +1,7 @@
 //! What a search is asked for, besides its patterns.
-ghost use Rattle.std.specs.Prelude.{◌≡◌};
+ghost use Rattle.std.specs.Prelude.{◌≡◌, [], false};
+ghost use Rattle.glob_pattern.specs.Matching.Options.{new_options};
+ghost use Rattle.glob_search.specs.declared.settings.Wanted.TheVariants.{All as Everything};
 
 use crate::outer::OuterRules;
 use glob_pattern::MatchOptions;
@@ -57,7 +59,16 @@ pub struct Settings<A: Allocator = Global> {
 
 impl<A: Allocator + Copy> Settings<A> {
     /// All that the patterns match, case-sensitively, with no rules and practically no limit.
-    pub fn new(alloc: A) -> Self {
+    pub fn new(alloc: A) -> Self
+        ensures options { result.options ≡ new_options }
+        ensures depth { result.depth ≡ 0xFFFFFFFFFFFFFFFF }
+        ensures wanted { result.wanted ≡ Everything }
+        ensures kinds { result.kinds ≡ false }
+        ensures limit { result.limit ≡ 0xFFFFFFFFFFFFFFFF }
+        ensures first { result.first.items ≡ [] }
+        ensures last { result.last.items ≡ [] }
+        ensures files { result.rule_files.items ≡ [] }
+    {
         Settings {
             options: MatchOptions::new(),
             depth: usize::MAX,

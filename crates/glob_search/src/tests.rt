@@ -8,7 +8,7 @@ use crate::{OuterRules, RuleTexts, Search, SearchFault, Settings, Wanted};
 use glob_pattern::MatchOptions;
 use glob_rules::IgnoreList;
 use glob_set::SetRefusal;
-use glob_tree::{Entry, ListError, Look, MemTree, Tree};
+use glob_tree::{Asks, Entry, ListError, Look, MemTree, Tree, copy_name};
 use rows::{ROWS, SOURCE};
 use std::alloc::{AllocError, Global};
 use std::io;
@@ -53,10 +53,13 @@ fn row_of(text: &str) -> Option<Row<'_>> {
     })
 }
 
-/// A tree in memory that counts what is asked of it.
+/// A tree in memory that counts what is asked of it. It may repeat the first entry of each listing, as the other kind.
 #[derive(Drop)]
 struct Counted {
     tree: MemTree,
+    asks: Asks,
+    repeats: bool,
+    alloc: Global,
     looks: usize,
     lists: usize,
 }
@@ -66,20 +69,29 @@ impl Tree for Counted {
 
     ghost tells = { λ _. None };
 
-    ghost asks = { λ counted. counted.tree.asks };
+    ghost asks = { λ counted. counted.asks };
 
     fn look(&mut self, path: &str) -> Result<Look, AllocError> {
+        self.asks = self.asks.after(1);
         self.looks = self.looks.saturating_add(1);
         self.tree.look(path)
     }
 
     fn list(&mut self, path: &str) -> Result<Vec<Entry>, ListError> {
+        self.asks = self.asks.after(1);
         self.lists = self.lists.saturating_add(1);
-        self.tree.list(path)
+        let mut entries = self.tree.list(path)?;
+        if self.repeats && !entries.is_empty() {
+            let name = copy_name(self.alloc, &entries[0].name)?;
+            let is_dir = !entries[0].is_dir;
+            entries.push(Entry { name, is_dir })?;
+        }
+        self.asks = self.asks.after(entries.len());
+        Ok(entries)
     }
 }
 
-/// The texts of a row, each after its path and `:`, with a space for each line feed.
+/// The texts of a row, each after its path and `:`, with a space for each line feed. The text `-` leaves its path out.
 #[derive(Drop)]
 struct RowTexts<'a> {
     files: &'a str,
@@ -104,6 +116,15 @@ impl RuleTexts for RowTexts<'_> {
             }
         }
         Ok(None)
+    }
+
+    fn leaves_out(&mut self, path: &str, _is_dir: bool) -> Result<bool, AllocError> {
+        for file in self.files.split(';') {
+            if file.split_once(':') == Some((path, "-")) {
+                return Ok(true);
+            }
+        }
+        Ok(false)
     }
 }
 
@@ -139,13 +160,15 @@ fn tree_of(alloc: Global, keys: &str) -> Result<MemTree, AllocError> {
 }
 
 /// The settings of a row: the letters `i` and `d` of options, `D` for only directories or `F` for only others, and a
-/// digit for the depth.
+/// digit for the depth, and `L` for a limit of 4. `R` is for the tree.
 fn settings_of(alloc: Global, row: &Row) -> Result<Settings, AllocError> {
     let mut settings = Settings::new(alloc);
     for c in row.letters.chars() {
         match c {
             'D' => settings.wanted = Wanted::Directories,
             'F' => settings.wanted = Wanted::Others,
+            'L' => settings.limit = 4,
+            'R' => {}
             _ => match c.to_digit(10) {
                 Some(depth) => settings.depth = depth as usize,
                 None => settings.options = settings
@@ -232,6 +255,9 @@ fn finds_what_rows_say(rt: HostRuntime) -> Result<(), AllocError> {
         };
         let mut tree = Counted {
             tree: tree_of(rt.alloc(), row.keys)?,
+            asks: Asks::new(),
+            repeats: row.letters.contains('R'),
+            alloc: rt.alloc(),
             looks: 0,
             lists: 0,
         };

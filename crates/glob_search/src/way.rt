@@ -12,7 +12,7 @@ pub enum Work<A: Allocator> {
     Enter(Opening<A>),
     /// It reads, in the last directory, the ignore file with the name at this index.
     Read(usize),
-    /// It visits an entry of the last directory.
+    /// It meets an entry of the last directory.
     Meet(Entry<A>),
     /// It has left a directory. This many of the lists in `ActiveRules::files` still apply.
     Leave(usize),

@@ -7,8 +7,8 @@ use Rattle.std.proofs.lemmas.List.{get_or-map, length-append, length-map}
 use Rattle.std.proofs.lemmas.List.Elements.{Contains-get_or}
 use Rattle.std.proofs.lemmas.List.Sums.{sum_by-append}
 use Rattle.glob_text.specs.Text.{Text}
-use Rattle.glob_search.specs.States.{FitsFiles}
-use Rattle.glob_search.specs.Private.Faults.{IsOfListing, IsOfRules, is_last}
+use Rattle.glob_search.specs.States.{FitsFiles, is_last}
+use Rattle.glob_search.specs.Private.Faults.{IsOfListing, IsOfRules}
 use Rattle.glob_search.specs.Private.Steps.{MayEnter, NextWork}
 use Rattle.glob_search.specs.Private.Ways.{IsDone}
 use Rattle.glob_search.specs.Private.Weights.{Takes, last_left, stock, unmet, work_stock}

@@ -26,7 +26,7 @@ use Rattle.glob_tree.proofs.ContentLemmas.Sorting.{sorted_entries-contains}
 use Rattle.glob_search.specs.Searching.{Aim, alive, beginnings_from, components, ends_recursive, takes}
 use Rattle.glob_search.specs.Searching.{is_listed, is_named, is_shut}
 use Rattle.glob_search.specs.Private.Engine.{AreEntries, EntriesGive, FitsSource}
-use Rattle.glob_search.specs.Private.Faults.{is_last}
+use Rattle.glob_search.specs.States.{is_last}
 use Rattle.glob_search.specs.Private.Listings.{AreLookedUp, IsEntry, IsListed, looked}
 use Rattle.glob_search.specs.Private.Nodes.{AreBeginnings, AreNames, folded}
 use Rattle.glob_search.specs.Private.Ways.{entries_left, met, visited}

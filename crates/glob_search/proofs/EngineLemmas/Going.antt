@@ -6,10 +6,9 @@ use Rattle.glob_text.specs.Text.{Text}
 use Rattle.glob_tree.specs.Content.{Content}
 use Rattle.glob_search.specs.Aims.{AreRefused}
 use Rattle.glob_search.specs.Searching.{Aim}
-use Rattle.glob_search.specs.States.{GivesNext}
+use Rattle.glob_search.specs.States.{GivesNext, is_last}
 use Rattle.glob_search.specs.Visiting.{Gift, Unread}
 use Rattle.glob_search.specs.Private.Engine.{FaultGives, IsSound, Ready, file_names}
-use Rattle.glob_search.specs.Private.Faults.{is_last}
 use Rattle.glob_search.specs.Private.Finding.{Find, state_of}
 use Rattle.glob_search.specs.Private.Ways.{search_left}
 use Rattle.glob_search.specs.declared.fault.SearchFault.{SearchFault}

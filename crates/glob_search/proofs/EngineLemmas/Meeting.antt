@@ -18,12 +18,14 @@ use Rattle.glob_search.specs.Visiting.{Gift, Found, found_at, meet}
 use Rattle.glob_search.specs.Private.Engine.{AreFrames, IsBelow, IsFrame, IsKindless, IsMet}
 use Rattle.glob_search.specs.Private.Engine.{IsOpening, IsReady, Keeps, Ready, Turns, file_names, found_if}
 use Rattle.glob_search.specs.Private.Engine.{frame_names, lists_of, met_in}
-use Rattle.glob_search.specs.Private.Faults.{is_last}
-use Rattle.glob_search.specs.Private.Active.{AreActive}
+use Rattle.glob_search.specs.States.{is_last}
+use Rattle.glob_search.specs.Kept.{IsKept, is_ignored_by}
+use Rattle.glob_search.specs.Private.Active.{AreActive, rules_here}
 use Rattle.glob_search.specs.Private.Listings.{IsEntry}
 use Rattle.glob_search.specs.Private.Nodes.{AreAlive}
 use Rattle.glob_search.specs.Private.Steps.{MayEnter}
 use Rattle.glob_search.specs.Private.Ways.{frame_left, met, names_in, opening_left, search_left, visited}
+use Rattle.glob_search.specs.declared.active.ActiveRules.{ActiveRules}
 use Rattle.glob_search.specs.declared.fault.SearchFault.{SearchFault}
 use Rattle.glob_search.specs.declared.found.Found.{Found as FoundPath}
 use Rattle.glob_search.specs.declared.frame.Frame.{Frame}
@@ -302,3 +304,34 @@ both-same {A} s u t same-u same-t =
     let first : t ≡ record s { meter = u.meter; way = t.way } = same-t ∙ ap f same-u in
     let g : Meter → Searcher A = λ m. record s { meter = m; way = t.way } in
     first ∙ ap g (sym (ap (λ x. x.meter) first))
+
+-- what is found is kept
+pub found-kept : {A E : Type 0} (h : ActiveRules A) (r : Result (Option (FoundPath A)) E) (test : Bool) (path : String A)
+    (d : Option Bool) → IfOk r (λ o. o ≡ found_if test path d)
+    → is_ignored_by (rules_here h) (string_bytes path) (unwrap_or d false) ≡ false
+    → (d ≡ None → is_ignored_by (rules_here h) (string_bytes path) true ≡ is_ignored_by (rules_here h) (string_bytes path) false)
+    → IfOk r (λ o. ForSome o (IsKept (rules_here h)))
+found-kept h (Err x) test path d finds out same = tt
+found-kept {A} h (Ok o) test path d finds out same = by_test test finds
+  where
+    kept : IsKept (rules_here h) (record { path = path; is_dir = d })
+    kept e known = by_kind d known out same
+      where
+        says : Bool → Bool
+        says k = is_ignored_by (rules_here h) (string_bytes path) k
+
+        by_kind : (o : Option Bool) → ForSome o (λ k. k ≡ e) → says (unwrap_or o false) ≡ false
+            → (o ≡ None → says true ≡ says false) → says e ≡ false
+        by_kind (Some k) is not same = ap says (sym (is k refl)) ∙ not
+        by_kind None is not same = by_bool e
+          where
+            by_bool : (b : Bool) → says b ≡ false
+            by_bool true = same refl ∙ not
+            by_bool false = not
+
+    by_test : (t : Bool) → o ≡ found_if t path d → ForSome o (IsKept (rules_here h))
+    by_test false is = λ found some. absurd (nothing found (sym is ∙ some))
+      where
+        nothing : (found : FoundPath A) → None ≡ Some found → ⊥
+        nothing found e = cc
+    by_test true is = λ found some. subst (IsKept (rules_here h)) (same_Some _ found (sym is ∙ some)) kept

@@ -1,5 +1,5 @@
 -- Ignore files that are skipped.
-use Rattle.std.proofs.Common.{◌≡◌, ℕ, ◌+◌, ◌<◌, ◌≤◌, List, [], ◌∷◌, ⊎_elim, length, get_or, refl, ap, sym, subst, ◌∙◌, arith}
+use Rattle.std.proofs.Common.{◌≡◌, ℕ, ◌+◌, ◌<◌, ◌≤◌, List, [], ◌∷◌, Option, None, Some, ⊎_elim, length, get_or, refl, ap, sym, subst, ◌∙◌, arith}
 use Rattle.std.specs.Prelude.{Vec, vec_len}
 use Rattle.std.proofs.Math.Nat.{eq-or-lt_of_le}
 use Rattle.glob_text.specs.Text.{Text}
@@ -35,3 +35,9 @@ absent-more first names low n name before is here k from below = ⊎_elim
 pub same-but_files : {A : Type 0} (first now : Frame A) (n : ℕ) → now ≡ record first { files = now.files }
     → record now { files = n } ≡ record first { files = n }
 same-but_files {A} first now n is = let f : Frame A → Frame A = λ h. record h { files = n } in ap f is
+
+pub not-next : {X : Type 0} (o : Option X) (x : X) → o ≡ None → o ≡ Some x → ⊥
+not-next {X = X} o x none some = nothing (sym none ∙ some)
+  where
+    nothing : None ≡ Some x → ⊥
+    nothing e = cc

@@ -13,7 +13,7 @@ use Rattle.glob_search.specs.Visiting.{Gift, Unread}
 use Rattle.glob_search.specs.Private.Engine.{AreEntries, EntriesGive, FaultGives, GoesOn, IsBelow}
 use Rattle.glob_search.specs.Private.Engine.{IsOpening, IsReading, IsReady, IsSound, Keeps, Reading, Ready}
 use Rattle.glob_search.specs.Private.Engine.{StepsInto, frame_names, lists_of, opening_names}
-use Rattle.glob_search.specs.Private.Faults.{is_last}
+use Rattle.glob_search.specs.States.{is_last}
 use Rattle.glob_search.specs.Private.Active.{active_lists, lists_above}
 use Rattle.glob_search.specs.Private.Ways.{entries_left, frame_left, opening_left, search_left, visited}
 use Rattle.glob_search.specs.declared.fault.SearchFault.{SearchFault}

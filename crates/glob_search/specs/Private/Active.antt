@@ -7,6 +7,7 @@ use Rattle.glob_text.specs.Text.{Text}
 use Rattle.glob_tree.specs.Content.{Key}
 use Rattle.glob_rules.specs.Lists.{Ignores}
 use Rattle.glob_search.specs.Aims.{outer_of}
+use Rattle.glob_search.specs.Kept.{Rules}
 use Rattle.glob_search.specs.Searching.{Aim, said}
 use Rattle.glob_search.specs.declared.active.FileRules.{FileRules}
 use Rattle.glob_search.specs.declared.active.ActiveRules.{ActiveRules}
@@ -47,6 +48,19 @@ lists_at a directory = lists_above a directory ++ lists_in a directory
 abbrev pub active_said : List (ℕ × Ignores) → (path : Text) → (is_directory : Bool) → Option Bool
 active_said lists path d =
     fold (λ before l. option_or (said l.1 (drop l.0 path) d) before) None lists
+
+-- the rules that are active, as contracts see them
+abbrev pub rules_here : {A : Type 0} → ActiveRules A → Rules
+rules_here h = record {
+  first = active_lists h.first.items;
+  files = active_lists h.files.items;
+  last = outer_of h.last.items;
+}
+
+-- only the lists of files may differ
+pub record AreSameLists {A : Type 0} (old new : ActiveRules A) : Type 0 where
+  pub first : new.first ≡ old.first
+  pub last : new.last ≡ old.last
 
 -- these are exactly the lists that apply in the directory
 pub record AreActive {A : Type 0} (a : Aim) (directory : Key) (h : ActiveRules A) : Type 0 where

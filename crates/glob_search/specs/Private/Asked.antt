@@ -8,6 +8,7 @@ use Rattle.glob_rules.specs.Deciding.{naming_rule}
 use Rattle.glob_rules.specs.Lists.{Ignores}
 use Rattle.glob_rules.specs.declared.rule.Rule.{Rule}
 use Rattle.glob_search.specs.Asking.{Origin, First, File, Last}
+use Rattle.glob_search.specs.Kept.{after_bytes}
 use Rattle.glob_search.specs.declared.active.FileRules.{FileRules}
 use Rattle.glob_search.specs.declared.held.HeldRules.{HeldRules}
 use Rattle.glob_search.specs.declared.outer.OuterRules.{OuterRules}
@@ -15,6 +16,10 @@ use Rattle.glob_search.specs.declared.outer.OuterRules.{OuterRules}
 -- each list, and what it sees of a path
 abbrev pub seen_by : {A : Type 0} → (path : Text) → List (FileRules A) → List (Ignores × Text)
 seen_by path files = map (λ f. (f.list, drop f.above path)) files
+
+-- the same for any path: a list sees all of it where a character would be cut
+abbrev pub cut_by : {A : Type 0} → (path : Text) → List (FileRules A) → List (Ignores × Text)
+cut_by path files = map (λ f. (f.list, after_bytes f.above path)) files
 
 abbrev pub seen_by_outer : {A : Type 0} → (path : Text) → List (OuterRules A) → List (Ignores × Text)
 seen_by_outer path lists = map (λ l. (l.list, join (string_bytes l.prefix) path)) lists

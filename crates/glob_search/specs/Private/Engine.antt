@@ -17,7 +17,8 @@ use Rattle.glob_tree.specs.Paths.{is_proper}
 use Rattle.glob_search.specs.Aims.{AreRefused, AreTextsOf, outer_of, path_of, rules_from, wants}
 use Rattle.glob_search.specs.Searching.{Aim, is_ignored, is_listed}
 use Rattle.glob_search.specs.Visiting.{Gift, Found, Unread}
-use Rattle.glob_search.specs.Private.Active.{AreActive, above_of, after, active_lists, lists_above, lists_at}
+use Rattle.glob_search.specs.Kept.{is_ignored_by}
+use Rattle.glob_search.specs.Private.Active.{AreActive, above_of, after, active_lists, lists_above, lists_at, rules_here}
 use Rattle.glob_search.specs.Private.Listings.{IsEntry, names_down}
 use Rattle.glob_search.specs.Private.Nodes.{AreAlive, AreBeginnings}
 use Rattle.glob_search.specs.Private.Ways.{entries_left, met, names_in, opening_left, search_left, visited}
@@ -208,7 +209,7 @@ pub record AreEntries {A : Type 0} (c : Content) (a : Aim) (names : Key) (source
   pub whole : source ≢ LookedUp → names_of (entries_of entries) ≡ names_down c names
   pub gives : entries_left c a names entries ≡ visited c a names
 
--- or the directory cannot be listed, and this is what it gives
+-- What listing a directory gives: its entries, or the fault that it cannot be listed.
 abbrev pub EntriesGive : {A : Type 0} → Content → Aim → (names : Key) → Source → (path : Text)
     → Result (Vec (Entry A) A) (SearchFault A) → Type 0
 EntriesGive c a names source path (Ok entries) = AreEntries c a names source entries.items
@@ -232,6 +233,7 @@ pub record IsKindless {A : Type 0} (s : Searcher A) (path : Text) : Type 0 where
   pub same : (a : Aim) (directory : Key) (n : Text) → AreActive a directory s.active
       → list_all is_proper (directory ++ n ∷ []) ≡ true → path ≡ path_of (directory ++ n ∷ [])
       → is_ignored a (directory ++ n ∷ []) true ≡ is_ignored a (directory ++ n ∷ []) false
+  pub read : is_ignored_by (rules_here s.active) path true ≡ is_ignored_by (rules_here s.active) path false
 
 -- the directory became the last one on the way
 pub record StepsInto {A : Type 0} (o : Opening A) (source : Source) (entries : Vec (Entry A) A) (old new : Searcher A) : Type 0 where

@@ -121,6 +121,6 @@ pub record HasDescended {A : Type 0} (a : Aim) (known : Text → Option Text) (p
 abbrev pub Entering : Type 0 → Reading
 Entering A = record { State = Directories A; Agrees = IsRead }
 
--- what contracts see of them
+-- what contracts see of such rules
 abbrev pub rules_state : {A : Type 0} → Directories A → RulesState (Entering A)
 rules_state s = record { files = rule_names s; state = s }

@@ -1,17 +1,9 @@
--- Which faults end a search.
-use Rattle.std.specs.Prelude.{ℕ, ◌<◌, Bool, true, false, List, string_bytes, ⊤}
+-- Which faults a part of a search may have.
+use Rattle.std.specs.Prelude.{ℕ, ◌<◌, List, string_bytes, ⊤}
 use Rattle.glob_text.specs.Text.{Text}
 use Rattle.glob_search.specs.States.{IsRuleFile}
 use Rattle.glob_search.specs.declared.fault.SearchFault.{SearchFault}
 use Rattle.glob_search.specs.declared.fault.SearchFault.TheVariants as fault
-
--- the fault ends the search
-abbrev pub is_last : {A : Type 0} → SearchFault A → Bool
-is_last (fault.Unread path e) = false
-is_last (fault.UnreadRules path e) = false
-is_last (fault.RefusedRules path refusals) = false
-is_last fault.Limit = true
-is_last fault.Memory = true
 
 -- the fault is that a directory cannot be listed, which costs something, or it is the last fault
 abbrev pub IsOfListing : {A : Type 0} → (before after : ℕ) → SearchFault A → Type 0

@@ -1,6 +1,6 @@
 -- A measure that each turn of a search lowers, so that the search ends.
 use Rattle.std.specs.Prelude.{◌≡◌, ℕ, ◌+◌, ◌-◌, ◌*◌, ◌<◌, ◌≤◌, false, List, [], ◌∷◌, Option, Some, None, Result, Ok, Err, vec_len, sum_by}
-use Rattle.glob_search.specs.Private.Faults.{is_last}
+use Rattle.glob_search.specs.States.{is_last}
 use Rattle.glob_search.specs.declared.fault.SearchFault.{SearchFault}
 use Rattle.glob_search.specs.declared.frame.Frame.{Frame}
 use Rattle.glob_search.specs.declared.frame.Opening.{Opening}

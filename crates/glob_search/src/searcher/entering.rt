@@ -6,7 +6,8 @@ ghost use Rattle.glob_tree.specs.Content.{Content, Key, is_dir_at};
 ghost use Rattle.glob_search.specs.Aims.{path_of};
 ghost use Rattle.glob_search.specs.Searching.{Aim};
 ghost use Rattle.glob_search.specs.Private.Engine.{EntriesGive, FitsSource, GoesOn, HasWork, StepsInto};
-ghost use Rattle.glob_search.specs.Private.Faults.{IsOfListing, is_last};
+ghost use Rattle.glob_search.specs.States.{IsPaid, is_last};
+ghost use Rattle.glob_search.specs.Private.Faults.{IsOfListing};
 ghost use Rattle.glob_search.specs.Private.Listings.{AreFalling};
 ghost use Rattle.glob_search.specs.Private.Nodes.{AreAlive, AreBeginnings};
 ghost use Rattle.glob_search.specs.Private.Order.{IsPastWork, StaysPast};
@@ -34,6 +35,11 @@ impl<A: Allocator + Copy> Searcher<A> {
         ensures falls { OnOk result (weight self.new.meter self.new.way
             ≤ weight self.old.meter self.old.way) }
         ensures files { self.new.rule_files ≡ self.old.rule_files }
+        ensures beginnings { self.new.beginnings ≡ self.old.beginnings }
+        ensures active { self.new.active ≡ self.old.active }
+        ensures kinds { self.new.kinds ≡ self.old.kinds }
+        ensures asked { IsPaid result (T.asks tree.old) (T.asks tree.new)
+            self.old.meter.spent self.new.meter.spent }
         ensures content { T.tells tree.new ≡ T.tells tree.old }
         ensures enters { (c : Content) (a : Aim) (known : Text → Option Text)
             → IsTold (T.tells tree.old) c → HasWork c a known self.old (Enter opening)
@@ -44,8 +50,9 @@ impl<A: Allocator + Copy> Searcher<A> {
         ensures stays { IfErr result (λ fault. is_last fault ≡ false
             → self.new.way ≡ self.old.way) }
         ensures fails { IfErr result (IsOfListing self.old.meter.spent self.new.meter.spent) }
-        ensures later { (past : Key) → IsPastWork past (Enter opening) self.old.way
-            → StaysPast past result self.new.way }
+        ensures later { (past : Key)
+            → IsPastWork self.old.beginnings past (Enter opening) self.old.way
+            → StaysPast self.old.beginnings past result self.new.way }
     {
         let source = self.source_of(&opening);
         let entries = self.entries(tree, &opening, source)?;
@@ -115,6 +122,8 @@ impl<A: Allocator + Copy> Searcher<A> {
         ensures spent { self.old.meter.spent ≤ self.new.meter.spent }
         ensures charged { IfOk result (λ entries.
             self.old.meter.spent + vec_len entries ≤ self.new.meter.spent) }
+        ensures asked { IsPaid result (T.asks tree.old) (T.asks tree.new)
+            self.old.meter.spent self.new.meter.spent }
         ensures content { T.tells tree.new ≡ T.tells tree.old }
         ensures entries { (c : Content) (a : Aim) (names : Key) → IsTold (T.tells tree.old) c
             → IsTrue (is_dir_at c (c.current ++ names))

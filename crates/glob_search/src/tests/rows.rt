@@ -5,12 +5,15 @@ pub const SOURCE: &str =
     "src/ src/a.c src/b.h src/sub/ src/sub/c.c lib/ lib/d.h doc/ doc/e.txt .git/ .git/f.c";
 
 /// Keys, patterns, letters, rules, names of files with rules, their texts, what is found, listings, lookups.
-pub static ROWS: [&str; 37] = [
+pub static ROWS: [&str; 40] = [
     "SOURCE|src/*.c lib/*.h|||||lib/d.h src/a.c|2|2",
     "SOURCE|src/*.c lib/*.h|i||||lib/d.h src/a.c|3|2",
     "SOURCE|**/*.c|||||.git/f.c src/a.c src/sub/c.c|6|0",
     "SOURCE|**/*.c|d||||src/a.c src/sub/c.c|5|0",
     "SOURCE|src/a.c src/x doc|||||doc src/a.c|0|4",
+    "SOURCE|src/*.c lib/*.h|L||||lib/d.h !limit|1|2",
+    "SOURCE|src/*|R||||src/a.c src/b.h src/sub|1|1",
+    "a/ a/b b|**||||a:-|b|1|0",
     "SOURCE|**|1||||.git doc lib src|1|0",
     "SOURCE|**|2F||||.git/f.c doc/e.txt lib/d.h src/a.c src/b.h|5|6",
     "SOURCE|**|D||||.git doc lib src src/sub|6|0",

@@ -12,6 +12,7 @@ pub loop-name-init : goal.loop-name-init
 loop-name-init g c = record {
   limit = refl;
   charged = omega (arith, c.new-entries.ensures.len);
+  asked = omega arith;
   content = refl;
   entries = λ content names told there path.
       sym (ap (λ es. entries_of es ++ filter_map (looked content names)
@@ -31,6 +32,7 @@ loop-name-preserved-in-Continue-branch-4 g c = record {
     c.in_ok-push.ensures.len,
     c.loop-name.invariant.charged,
   );
+  asked = omega (arith, c.in_ok-entry.ensures.asked, c.loop-name.invariant.asked);
   content = c.in_ok-entry.ensures.content ∙ c.loop-name.invariant.content;
   entries = λ content names told there path.
       looking-some (λ t. t.now) (looked content names) _ c.loop-name.names.items c.pop.new.self.items c.in-Some.name c.in-Some.ensures.items
@@ -49,6 +51,7 @@ pub loop-name-preserved : goal.loop-name-preserved
 loop-name-preserved g c = record {
   limit = c.in_ok-entry.ensures.limit ∙ c.loop-name.invariant.limit;
   charged = omega (arith, c.in_ok-entry.ensures.spent, c.loop-name.invariant.charged);
+  asked = omega (arith, c.in_ok-entry.ensures.asked, c.loop-name.invariant.asked);
   content = c.in_ok-entry.ensures.content ∙ c.loop-name.invariant.content;
   entries = λ content names told there path.
       looking-none (λ t. t.now) (looked content names) _ c.loop-name.names.items c.pop.new.self.items c.in-Some.name c.in-Some.ensures.items

@@ -11,6 +11,7 @@ abbrev pub invariant-loop-name : goal.invariant-loop-name
 invariant-loop-name g l = record {
   limit : l.meter.limit ≡ l.initial.meter.limit;
   charged : l.initial.meter.spent + vec_len l.entries ≤ l.meter.spent;
+  asked : g.T.Tree.asks l.tree + l.initial.meter.spent ≤ g.T.Tree.asks l.initial.tree + l.meter.spent;
   content : g.T.Tree.tells l.tree ≡ g.T.Tree.tells l.initial.tree;
   entries : (c : Content) (names : Key) → IsTold (g.T.Tree.tells l.initial.tree) c → IsTrue
       (is_dir_at c (c.current ++ names)) → string_bytes l.opening.path ≡ path_of names

@@ -7,7 +7,7 @@ use Rattle.glob_tree.specs.Paths.{join}
 use Rattle.glob_search.specs.Aims.{path_of}
 use Rattle.glob_search.specs.Private.Active.{above_of, active_lists}
 use Rattle.glob_search.specs.Private.Reading.{sources_of}
-use Rattle.glob_search.specs.Private.Faults.{is_last}
+use Rattle.glob_search.specs.States.{is_last}
 use Rattle.glob_search.proofs.ActiveLemmas.{active_lists-push}
 use Rattle.glob_search.proofs.ReadLemmas.{path-above, path-joined, read-none, read-some, source-none, source-some}
 use Rattle.glob_search.proofs.held.HeldRules.read_file.Goals as goal

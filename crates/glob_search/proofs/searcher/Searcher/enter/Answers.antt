@@ -29,12 +29,12 @@ returns-clause-enters g c = λ content a known told (ready, free, opening).
 pub returns-in_err-entries-clause-later : goal.returns-in_err-entries-clause-later
 returns-in_err-entries-clause-later g c = λ past work.
     let p = err_from_is_err_and c.from_residual.result c.from_residual.ensures.1 in
-    rw (p.1, p.2) (λ goes. passes-past past c.args.opening c.args.self.now.way c.entries.new.self.way work
+    rw (p.1, p.2) (λ goes. passes-past c.args.self.now.beginnings past c.args.opening c.args.self.now.way c.entries.new.self.way work
     (ap (λ s. s.way) c.entries.ensures.same))
 
 pub returns-clause-later : goal.returns-clause-later
 returns-clause-later g c = λ past work.
-    enters-past past c.args.opening c.source_of-source.result c.in_ok-entries.entries c.args.self.now
+    enters-past c.args.self.now.beginnings past c.args.opening c.source_of-source.result c.in_ok-entries.entries c.args.self.now
     c.entries.new.self c.step_into.new.self c.step_into.result
     (ap (λ s. s.way) c.entries.ensures.same) work c.in_ok-entries.ensures.falls c.step_into.ensures.none
     c.step_into.ensures.some c.step_into.ensures.last

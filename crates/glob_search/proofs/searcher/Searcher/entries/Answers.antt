@@ -20,6 +20,7 @@ returns-in-Listed g c = record {
   limit = c.list.ensures.limit;
   spent = c.list.ensures.spent;
   charged = c.list.ensures.charged;
+  asked = c.list.ensures.asked;
   content = c.list.ensures.content;
   entries = λ content a names told there path begins living fits.
       gives-listed content (IsContent-from_test content told.1) a names there c.args.source

@@ -1,23 +1,26 @@
-use Rattle.std.proofs.Common.{◌≡◌, ◌-◌, ◌&&◌, ◌++◌, ◌∷◌, [], Some, true, false, length, nat_lt, string_bytes, ap, refl}
+use Rattle.std.proofs.Common.{◌≡◌, ◌-◌, ◌&&◌, ◌++◌, ◌∷◌, [], Some, true, false, length, nat_lt, string_bytes, ap, ap₂, refl, Bool, None}
 use Rattle.std.proofs.Common.{sym, subst, ◌∙◌, arith}
 use Rattle.std.specs.Prelude.{IfOk, OnOk, slice_get, unwrap_or}
 use Rattle.std.specs.Option.{ForSome}
 use Rattle.std.proofs.lemmas.Bool.{and_parts}
 use Rattle.std.proofs.lemmas.Result.{err_from_is_err_and}
-use Rattle.glob_tree.specs.Content.{is_dir, kind_found}
+use Rattle.glob_tree.specs.Content.{Key, is_dir, kind_found}
 use Rattle.glob_tree.specs.Paths.{child, is_proper}
 use Rattle.glob_tree.proofs.ContentLemmas.Contents.{IsContent-from_test}
 use Rattle.glob_search.specs.Aims.{path_of, wants}
-use Rattle.glob_search.specs.Searching.{goes_on, is_ignored}
+use Rattle.glob_search.specs.Searching.{Aim, goes_on, is_ignored, is_taken}
 use Rattle.glob_search.specs.Private.Engine.{Turns, found_if, frame_names}
-use Rattle.glob_search.specs.Private.Active.{AreActive}
+use Rattle.glob_search.specs.Kept.{IsKept, is_ignored_by}
+use Rattle.glob_search.specs.Private.Active.{AreActive, rules_here}
 use Rattle.glob_search.specs.Private.Listings.{known_kind}
-use Rattle.glob_search.specs.Private.Nodes.{AreAlive}
+use Rattle.glob_search.specs.Private.Nodes.{AreAlive, AreBeginnings}
 use Rattle.glob_search.specs.Private.Order.{IsPastWay}
 use Rattle.glob_search.specs.Private.Steps.{MayEnter}
 use Rattle.glob_search.specs.Private.Ways.{search_left}
+use Rattle.glob_search.specs.declared.active.ActiveRules.{ActiveRules}
 use Rattle.glob_search.proofs.EngineLemmas.Ending.{enters-frames}
-use Rattle.glob_search.proofs.EngineLemmas.Meeting.{both-same, are_active, ignored-same, met-file, met-ignored, met-nothing, met-of}
+use Rattle.glob_search.proofs.EngineLemmas.Meeting.{both-same, are_active, found-kept, ignored-same, met-file, met-ignored, met-nothing}
+use Rattle.glob_search.proofs.EngineLemmas.Meeting.{met-of}
 use Rattle.glob_search.proofs.EngineLemmas.Meeting.{not-known}
 use Rattle.glob_search.proofs.EngineLemmas.Meeting.{on-else, on-then, passes, takes}
 use Rattle.glob_search.proofs.EngineLemmas.Past.{meets-past, skips-past}
@@ -91,7 +94,7 @@ returns-then-not-may_enter-clause-turns g c = λ content a known answers (ready,
     (not-known c.kind_of-known.result (is_dir kind) (sym c.unwrap_or-may_enter.ensures ∙ c.if-not-may_enter.true) known-is)))
 
 pub returns-then-not-may_enter-clause-later : goal.returns-then-not-may_enter-clause-later
-returns-then-not-may_enter-clause-later g c = λ past work. skips-past past c.args.entry c.args.self.now.way work
+returns-then-not-may_enter-clause-later g c = λ past work. skips-past c.args.self.now.beginnings past c.args.entry c.args.self.now.way work
 
 pub returns-then-branch-clause-turns : goal.returns-then-branch-clause-turns
 returns-then-branch-clause-turns g c = λ content a known answers (ready, free, met).
@@ -210,15 +213,17 @@ returns-clause-turns g c = λ content a known answers (ready, free, met).
 pub returns-in_err-is_dir-clause-later : goal.returns-in_err-is_dir-clause-later
 returns-in_err-is_dir-clause-later g c = λ past work.
     let p = err_from_is_err_and c.from_residual-in_err-is_dir.result c.from_residual-in_err-is_dir.ensures.1 in
-    rw (p.1, p.2) (λ goes. subst (IsPastWay past) (sym (ap (λ x. x.way) c.in_err-is_dir.ensures.same))
-    (skips-past past c.args.entry c.args.self.now.way work))
+    rw (p.1, p.2) (λ goes. subst (IsPastWay c.args.self.now.beginnings past) (sym (ap (λ x. x.way) c.in_err-is_dir.ensures.same))
+    (skips-past c.args.self.now.beginnings past c.args.entry c.args.self.now.way work))
 
 pub returns-then-branch-clause-later : goal.returns-then-branch-clause-later
 returns-then-branch-clause-later g c = λ past work.
-    subst (IsPastWay past) (sym (ap (λ x. x.way) c.in_ok-is_dir.ensures.same)) (skips-past past c.args.entry c.args.self.now.way work)
+    let s = c.args.self.now in
+    subst (IsPastWay s.beginnings past) (sym (ap (λ x. x.way) c.in_ok-is_dir.ensures.same))
+    (skips-past s.beginnings past c.args.entry s.way work)
 
 pub returns-then-not-goes_on-clause-later : goal.returns-then-not-goes_on-clause-later
-returns-then-not-goes_on-clause-later g c = λ past work. skips-past past c.args.entry c.args.self.now.way work
+returns-then-not-goes_on-clause-later g c = λ past work. skips-past c.args.self.now.beginnings past c.args.entry c.args.self.now.way work
 
 pub returns-clause-later : goal.returns-clause-later
 returns-clause-later g c = λ past work.
@@ -227,16 +232,45 @@ returns-clause-later g c = λ past work.
     let t = c.take.new.self in
     let d = c.in_ok-is_dir.is_dir in
     let same = ap (λ x. x.way) c.in_ok-is_dir.ensures.same in
-    meets-past past c.args.entry s.way t.way frame (c.if-len-self.goes_on && unwrap_or d false)
-    (c.is_found-is_found.result && wants c.kind_at.new.self.wanted (unwrap_or d false))
-    c.in_ok-path.path c.in_ok-alive.alive.items d c.take.result work
+    let taken-is : (a : Aim) (names : Key) → AreBeginnings a.options a.patterns s.beginnings
+    → AreAlive s.beginnings names c.in_ok-alive.alive.items → c.is_found-is_found.result ≡ is_taken a names =
+    λ a names for living. c.is_found-is_found.ensures.found a names for
+    (subst (AreAlive s.beginnings names) (sym c.as_slice-2.ensures.value) living) in
+    let follow : (names : Key) → AreAlive s.beginnings names frame.alive.items
+    → AreAlive s.beginnings (names ++ c.args.entry.name ∷ []) c.in_ok-alive.alive.items = λ names living.
+    subst (λ x. AreAlive s.beginnings (names ++ x ∷ []) c.in_ok-alive.alive.items) c.as_str.ensures
+    (c.in_ok-alive.ensures.alive names (subst (AreAlive s.beginnings names) (sym c.as_slice.ensures.value) living)) in
+    meets-past s.beginnings past c.args.entry s.way t.way (c.if-len-self.goes_on && unwrap_or d false)
+    (wants c.kind_at.new.self.wanted (unwrap_or d false)) c.is_found-is_found.result
+    c.in_ok-path.path c.in_ok-alive.alive.items d c.take.result taken-is
+    (subst (λ w. OnOk c.take.result (MayEnter (c.if-len-self.goes_on && unwrap_or d false)
+    (string_bytes c.in_ok-path.path) c.in_ok-alive.alive.items w t.way)) same c.take.ensures.enters)
+    c.take.ensures.finds c.take.ensures.last frame work
     (λ f fs is. last-get s.way.frames.items fs f frame is (c.in-Some.ensures.value ∙ ap (λ xs. slice_get xs
     (length xs - 1)) c.deref.ensures.value))
     (c.in_ok-path.ensures ∙ ap (λ p. child p c.as_str-3.result.now) c.as_str-2.ensures.value ∙ ap
     (child (string_bytes frame.path)) c.as_str-3.ensures)
-    (subst (λ w. OnOk c.take.result (MayEnter (c.if-len-self.goes_on && unwrap_or d false)
-    (string_bytes c.in_ok-path.path) c.in_ok-alive.alive.items w t.way)) same c.take.ensures.enters)
-    c.take.ensures.finds c.take.ensures.last
+    follow
+
+pub returns-clause-kept : goal.returns-clause-kept
+returns-clause-kept g c =
+    let s = c.args.self.now in
+    let u = c.kind_at.new.self in
+    let t = c.take.new.self in
+    let path = string_bytes c.in_ok-path.path in
+    let d = c.in_ok-is_dir.is_dir in
+    let same : u.active ≡ s.active = ap (λ x. x.active) c.in_ok-is_dir.ensures.same in
+    let says : Bool → Bool = λ e. is_ignored_by (rules_here u.active) path e in
+    let out : says (unwrap_or d false) ≡ false =
+    ap₂ (λ p e. is_ignored_by (rules_here u.active) p e) (sym c.as_str-5.ensures.value) (sym c.unwrap_or.ensures)
+    ∙ c.in_ok-is_left_out.ensures.read c.if-branch.false in
+    let both : d ≡ None → says true ≡ says false = λ unknown.
+    subst (λ (h : ActiveRules _). is_ignored_by (rules_here h) path true ≡ is_ignored_by (rules_here h) path false) (sym same)
+    (subst (λ p. is_ignored_by (rules_here s.active) p true ≡ is_ignored_by (rules_here s.active) p false) c.as_str-4.ensures.value
+    (c.in_ok-is_dir.ensures.matters unknown).1.read) in
+    subst (λ (h : ActiveRules _). IfOk c.take.result (λ o. ForSome o (IsKept (rules_here h))))
+    (sym (ap (λ x. x.active) c.take.ensures.same))
+    (found-kept u.active c.take.result _ c.in_ok-path.path d c.take.ensures.finds out both)
 
 pub returns-clause-frames : goal.returns-clause-frames
 returns-clause-frames g c =

@@ -12,7 +12,7 @@ use Rattle.glob_tree.proofs.ContentLemmas.Contents.{IsContent-from_test}
 use Rattle.glob_tree.specs.Paths.{child}
 use Rattle.glob_search.proofs.EngineLemmas.Ending.{named-file}
 use Rattle.glob_search.proofs.EngineLemmas.Paths.{directory-proper}
-use Rattle.glob_search.proofs.ActiveLemmas.{active_lists-push}
+use Rattle.glob_search.proofs.ActiveLemmas.{active_lists-push, child-long, files-push, text-of}
 use Rattle.glob_search.proofs.EngineLemmas.Reading.{last-get, path-in, read-same, reads-keeps, refused-at}
 use Rattle.glob_search.proofs.ReadLemmas.{path-above, read-none, read-some}
 use Rattle.glob_search.proofs.searcher.Searcher.read_rules.Goals as goal
@@ -177,3 +177,75 @@ returns-clause-fails g c =
           (c.in-Some-get.ensures.lookup.1 ∙ ap (λ xs. get_or xs c.args.number name) c.deref-2.ensures.value);
       at = c.in_ok-path.ensures ∙ ap (child c.as_str.result.now) c.as_str-2.ensures.value;
     }
+
+pub returns-then-is_empty-clause-read : goal.returns-then-is_empty-clause-read
+returns-then-is_empty-clause-read g c = λ known same were.
+    let s = c.args.self.now in
+    let names = file_names s in
+    let files = s.rule_files.items in
+    let name = c.in-Some-get.name.now in
+    let file = string_bytes name in
+    let directory = c.as_str.result.now in
+    let path-is : string_bytes c.in_ok-path.path ≡ child directory file =
+    c.in_ok-path.ensures ∙ ap (child directory) c.as_str-2.ensures.value in
+    let text = text-of c.in-Some-2.list (known c.as_str-3.result.now) (rw c.in-Some-2.is at (c.in_ok-list.ensures.list known same)) in
+    files-push known names s.active.files.items c.push.new.self.items
+    (record { above = c.saturating_sub-above.result; list = c.in-Some-2.list }) c.in_ok-push.ensures.items were (record {
+      directory = directory;
+      file = file;
+      named = named-file files c.args.number name (omega (
+        arith,
+        ltb-true _ _ (sym c.in-Some-get.ensures.lookup.0),
+        ap length c.deref-2.ensures.value,
+      ))
+          (c.in-Some-get.ensures.lookup.1 ∙ ap (λ xs. get_or xs c.args.number name) c.deref-2.ensures.value);
+      text = text.0;
+      held = ap known (sym (c.as_str-3.ensures.value ∙ path-is)) ∙ text.1;
+      rules = text.2;
+      below = omega (
+        arith,
+        c.saturating_sub-above.ensures,
+        c.len.ensures,
+        c.len-2.ensures,
+        c.in_ok-path.path.bytes.ok.0,
+        name.bytes.ok.0,
+        ap length path-is,
+        child-long directory file,
+      );
+    })
+
+pub returns-clause-read : goal.returns-clause-read
+returns-clause-read g c = λ known same were.
+    let s = c.args.self.now in
+    let names = file_names s in
+    let files = s.rule_files.items in
+    let name = c.in-Some-get.name.now in
+    let file = string_bytes name in
+    let directory = c.as_str.result.now in
+    let path-is : string_bytes c.in_ok-path.path ≡ child directory file =
+    c.in_ok-path.ensures ∙ ap (child directory) c.as_str-2.ensures.value in
+    let text = text-of c.in-Some-2.list (known c.as_str-3.result.now) (rw c.in-Some-2.is at (c.in_ok-list.ensures.list known same)) in
+    files-push known names s.active.files.items c.push.new.self.items
+    (record { above = c.saturating_sub-above.result; list = c.in-Some-2.list }) c.in_ok-push.ensures.items were (record {
+      directory = directory;
+      file = file;
+      named = named-file files c.args.number name (omega (
+        arith,
+        ltb-true _ _ (sym c.in-Some-get.ensures.lookup.0),
+        ap length c.deref-2.ensures.value,
+      ))
+          (c.in-Some-get.ensures.lookup.1 ∙ ap (λ xs. get_or xs c.args.number name) c.deref-2.ensures.value);
+      text = text.0;
+      held = ap known (sym (c.as_str-3.ensures.value ∙ path-is)) ∙ text.1;
+      rules = text.2;
+      below = omega (
+        arith,
+        c.saturating_sub-above.ensures,
+        c.len.ensures,
+        c.len-2.ensures,
+        c.in_ok-path.path.bytes.ok.0,
+        name.bytes.ok.0,
+        ap length path-is,
+        child-long directory file,
+      );
+    })

@@ -1,7 +1,12 @@
 use Rattle.std.proofs.Common.{◌≡◌, ◌+◌, ◌<◌, ◌≤◌, ap, arith, false, refl, subst, sym, ◌∙◌}
 use Rattle.std.proofs.lemmas.Result.{err_from_is_err_and}
+use Rattle.glob_search.specs.Kept.{AreOfFiles}
+use Rattle.glob_search.specs.Private.Active.{active_lists}
+use Rattle.glob_search.specs.declared.active.ActiveRules.{ActiveRules}
+use Rattle.glob_search.specs.declared.searcher.Searcher.{Searcher}
+use Rattle.glob_search.proofs.ActiveLemmas.{files-take}
 use Rattle.glob_search.specs.Private.Engine.{HasWork, Turns, file_names, work_left}
-use Rattle.glob_search.specs.Private.Faults.{is_last}
+use Rattle.glob_search.specs.States.{is_last}
 use Rattle.glob_search.specs.Private.Order.{IsPastWay, IsPastWork}
 use Rattle.glob_search.specs.Private.Ways.{search_left}
 use Rattle.glob_search.specs.Private.Weights.{Takes, stock, unmet, work_stock}
@@ -41,17 +46,21 @@ returns-clause-turns g c = λ content a known answers work.
 pub returns-in_err-enter-in-Enter-clause-later : goal.returns-in_err-enter-in-Enter-clause-later
 returns-in_err-enter-in-Enter-clause-later g c = λ past work.
     let p = err_from_is_err_and c.from_residual.result c.from_residual.ensures.1 in
-    rw (p.1, p.2) (c.in_err-enter-in-Enter.ensures.later past (subst (λ k. IsPastWork past k c.args.self.now.way) c.in-Enter.is work))
+    let s = c.args.self.now in
+    rw (p.1, p.2) (c.in_err-enter-in-Enter.ensures.later past
+    (subst (λ k. IsPastWork s.beginnings past k s.way) c.in-Enter.is work))
 
 pub returns-clause-later : goal.returns-clause-later
 returns-clause-later g c = λ past work.
     let s = c.args.self.now in
     elim c.match-work.branch [
-      | in-Enter+in_ok-enter-in-Enter w ↦ subst (λ t. IsPastWay past t.way) (sym w.self-is)
-          (w.in_ok-enter-in-Enter.ensures.later past (subst (λ k. IsPastWork past k s.way) w.in-Enter.is work))
-      | in-Read+in_ok-read_rules-in-Read w ↦ subst (λ t. IsPastWay past t.way) (sym w.self-is)
-          (subst (IsPastWay past) (sym w.in_ok-read_rules-in-Read.ensures.way) (subst (λ k. IsPastWork past k s.way) w.in-Read.is work))
-      | in-Leave w ↦ subst (IsPastWay past) (sym (ap (λ x. x.way) w.self-is)) (subst (λ k. IsPastWork past k s.way) w.in-Leave.is work)
+      | in-Enter+in_ok-enter-in-Enter w ↦ subst (λ t. IsPastWay s.beginnings past t.way) (sym w.self-is)
+          (w.in_ok-enter-in-Enter.ensures.later past (subst (λ k. IsPastWork s.beginnings past k s.way) w.in-Enter.is work))
+      | in-Read+in_ok-read_rules-in-Read w ↦ subst (λ t. IsPastWay s.beginnings past t.way) (sym w.self-is)
+          (subst (IsPastWay s.beginnings past) (sym w.in_ok-read_rules-in-Read.ensures.way)
+          (subst (λ k. IsPastWork s.beginnings past k s.way) w.in-Read.is work))
+      | in-Leave w ↦ subst (IsPastWay s.beginnings past) (sym (ap (λ x. x.way) w.self-is))
+          (subst (λ k. IsPastWork s.beginnings past k s.way) w.in-Leave.is work)
     ]
 
 pub returns-in_err-enter-in-Enter-clause-takes : goal.returns-in_err-enter-in-Enter-clause-takes
@@ -106,15 +115,29 @@ returns-clause-takes g c =
           subst (λ t. stock t.meter t.way ≤ stock s.meter s.way + work_stock c.args.work) (sym w.self-is) less
     ]
 
-pub returns-in_err-enter-in-Enter-clause-rules : goal.returns-in_err-enter-in-Enter-clause-rules
-returns-in_err-enter-in-Enter-clause-rules g c =
+pub returns-in_err-enter-in-Enter-clause-faults : goal.returns-in_err-enter-in-Enter-clause-faults
+returns-in_err-enter-in-Enter-clause-faults g c =
     let p = err_from_is_err_and c.from_residual.result c.from_residual.ensures.1 in
     rw (p.1, p.2) (listing-fits (file_names c.args.self.now) _ _ c.in_err-enter-in-Enter.field-0.0 c.in_err-enter-in-Enter.ensures.fails)
 
-pub returns-in_err-read_rules-in-Read-clause-rules : goal.returns-in_err-read_rules-in-Read-clause-rules
-returns-in_err-read_rules-in-Read-clause-rules g c =
+pub returns-in_err-read_rules-in-Read-clause-faults : goal.returns-in_err-read_rules-in-Read-clause-faults
+returns-in_err-read_rules-in-Read-clause-faults g c =
     let p = err_from_is_err_and c.from_residual-in_err-read_rules-in-Read.result c.from_residual-in_err-read_rules-in-Read.ensures.1 in
     rw (p.1, p.2) (rules-fit (file_names c.args.self.now) c.in_err-read_rules-in-Read.field-0.0 c.in_err-read_rules-in-Read.ensures.fails)
 
-pub returns-in-Meet-clause-rules : goal.returns-in-Meet-clause-rules
-returns-in-Meet-clause-rules g c = last-fits-of (file_names c.args.self.now) c.meet.result c.meet.ensures.last
+pub returns-in-Meet-clause-faults : goal.returns-in-Meet-clause-faults
+returns-in-Meet-clause-faults g c = last-fits-of (file_names c.args.self.now) c.meet.result c.meet.ensures.last
+
+pub returns-clause-read : goal.returns-clause-read
+returns-clause-read g c = λ known same were.
+    let s = c.args.self.now in
+    let names = file_names s in
+    elim c.match-work.branch [
+      | in-Enter+in_ok-enter-in-Enter w ↦ subst (λ (t : Searcher _). AreOfFiles known names (active_lists t.active.files.items))
+          (sym w.self-is) (subst (λ (h : ActiveRules _). AreOfFiles known names (active_lists h.files.items))
+          (sym w.in_ok-enter-in-Enter.ensures.active) were)
+      | in-Read+in_ok-read_rules-in-Read w ↦ subst (λ (t : Searcher _). AreOfFiles known names (active_lists t.active.files.items))
+          (sym w.self-is) (w.in_ok-read_rules-in-Read.ensures.read known same were)
+      | in-Leave w ↦ subst (λ (t : Searcher _). AreOfFiles known names (active_lists t.active.files.items)) (sym w.self-is)
+          (files-take known names s.active.files.items w.truncate.new.self.items w.in-Leave.active w.truncate.ensures.items were)
+    ]
