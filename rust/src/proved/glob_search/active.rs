@@ -1,4 +1,4 @@
-//! Made by `bin/rust_crate` from `crates/glob_search/src/active.rt`, where its contracts are: sha256 5a79739008be2e77.
+//! Made by `bin/rust_crate` from `crates/glob_search/src/active.rt`, where its contracts are: sha256 ad9e321bf564a7ca.
 //!
 //! The ignore rules that are active in a directory: those that may name a path in it.
 
@@ -67,7 +67,7 @@ pub fn last_naming(rules: &[FileRules], path: &str, is_dir: bool) -> Option<(usi
     None
 }
 
-/// The path without its first `above` bytes.
+/// The path without its first `above` bytes; all of it if they end within a character.
 fn below(path: &str, above: usize) -> &str {
     match path.split_at_checked(above) {
         Some((_, rest)) => rest,

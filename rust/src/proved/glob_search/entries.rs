@@ -1,4 +1,4 @@
-//! Made by `bin/rust_crate` from `crates/glob_search/src/entries.rt`, where its contracts are: sha256 bc0c107c74a61c7b.
+//! Made by `bin/rust_crate` from `crates/glob_search/src/entries.rt`, where its contracts are: sha256 4146dea54ef6064e.
 //!
 //! The entries of a directory, looked up or listed.
 

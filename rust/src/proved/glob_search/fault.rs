@@ -1,4 +1,4 @@
-//! Made by `bin/rust_crate` from `crates/glob_search/src/fault.rt`, where its contracts are: sha256 c6fa695a997278e7.
+//! Made by `bin/rust_crate` from `crates/glob_search/src/fault.rt`, where its contracts are: sha256 5e6e461a97635069.
 //! `SearchFault` is not `#[non_exhaustive]` there.
 //!
 //! What a search could not do.

@@ -1,4 +1,4 @@
-//! Made by `bin/rust_crate` from `crates/glob_search/src/frame.rt`, where its contracts are: sha256 46ce2347f165b4f9.
+//! Made by `bin/rust_crate` from `crates/glob_search/src/frame.rt`, where its contracts are: sha256 943280b871bef755.
 //!
 //! A directory that a search is in, or enters next.
 
@@ -28,7 +28,7 @@ pub struct Frame {
     /// The beginnings that are alive in it.
     pub alive: Vec<usize>,
     pub source: Source,
-    /// The entries that are still to be visited, each name once, in descending order: the last is visited first.
+    /// The entries that are still to be met, each name once, in descending order: the last is met first.
     pub entries: Vec<Entry>,
     /// How many names of ignore files are done: the file was read, or is known to be missing.
     pub files: usize,

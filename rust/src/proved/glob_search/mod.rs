@@ -1,4 +1,4 @@
-//! Made by `bin/rust_crate` from `crates/glob_search/src/lib.rt`, where its contracts are: sha256 e7b2f2348fb9577c.
+//! Made by `bin/rust_crate` from `crates/glob_search/src/lib.rt`, where its contracts are: sha256 8b8dff2a6153e02a.
 //!
 //! Searches: the paths below a directory that at least one of many patterns matches, each once and in order, without
 //! those that ignore files exclude.
@@ -10,8 +10,10 @@
 //! order, and each directory that could not be listed. The [`laws`] tie the order to the filter. This holds until the
 //! limit is reached, or memory runs out.
 //!
-//! Over any tree, even if its answers contradict each other, a search is safe: each call returns, paths come in
-//! strictly ascending order of names, and the units charged never exceed the limit.
+//! Over any tree, even if its answers contradict each other, a search is safe: each call returns; paths come in strictly
+//! ascending order of names; a pattern takes each, and the rules that the search holds do not ignore it; what was asked
+//! of the tree was charged, and never more than the limit. A name that a listing repeats counts once. If it comes with
+//! two kinds, either may count.
 //!
 //! `PathRules` answers for paths from elsewhere, in any order: it ignores what a search by the same rules leaves out,
 //! and names the rule that decides (`specs/Asking.antt`).

@@ -1,4 +1,4 @@
-//! Made by `bin/rust_crate` from `crates/glob_search/src/rule_texts.rt`, where its contracts are: sha256 f2c2e290696753d0.
+//! Made by `bin/rust_crate` from `crates/glob_search/src/rule_texts.rt`, where its contracts are: sha256 06478ba587419deb.
 //!
 //! Where the texts of ignore files come from.
 

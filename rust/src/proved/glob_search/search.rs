@@ -1,4 +1,4 @@
-//! Made by `bin/rust_crate` from `crates/glob_search/src/search.rt`, where its contracts are: sha256 e4b9a0ec13544514.
+//! Made by `bin/rust_crate` from `crates/glob_search/src/search.rt`, where its contracts are: sha256 b5b373f228c3b9d2.
 //!
 //! A search, as its callers see it.
 

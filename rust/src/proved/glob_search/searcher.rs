@@ -1,9 +1,9 @@
-//! Made by `bin/rust_crate` from `crates/glob_search/src/searcher.rt`, where its contracts are: sha256 6e021b63f2940d40.
+//! Made by `bin/rust_crate` from `crates/glob_search/src/searcher.rt`, where its contracts are: sha256 8807a9ad0f800e8e.
 //!
 //! The turns of a search.
 //!
 //! A search has a frame for each directory on the way down to where it is. A turn enters a directory, reads one of its
-//! ignore files, visits one of its entries, or leaves it.
+//! ignore files, meets one of its entries, or leaves it.
 
 mod entering;
 
@@ -96,7 +96,7 @@ impl Searcher {
         Ok(None)
     }
 
-    /// Visits an entry of the last directory. It may be found, and it may be entered next.
+    /// Meets an entry of the last directory. It may be found, and it may be entered next.
     fn meet<T: Tree, R: RuleTexts>(
         &mut self,
         tree: &mut T,

@@ -1,4 +1,4 @@
-//! Made by `bin/rust_crate` from `crates/glob_search/src/settings.rt`, where its contracts are: sha256 8ccc78f323699ba4.
+//! Made by `bin/rust_crate` from `crates/glob_search/src/settings.rt`, where its contracts are: sha256 2f1a3fe43ca1ccb8.
 //! `Wanted` is not `#[non_exhaustive]` there.
 //!
 //! What a search is asked for, besides its patterns.

@@ -1,4 +1,4 @@
-//! Made by `bin/rust_crate` from `crates/glob_search/src/way.rt`, where its contracts are: sha256 a843a2db10557eda.
+//! Made by `bin/rust_crate` from `crates/glob_search/src/way.rt`, where its contracts are: sha256 35ab7586052b983b.
 //!
 //! The way down to where a search is, and what it does next.
 
@@ -11,7 +11,7 @@ pub enum Work {
     Enter(Opening),
     /// It reads, in the last directory, the ignore file with the name at this index.
     Read(usize),
-    /// It visits an entry of the last directory.
+    /// It meets an entry of the last directory.
     Meet(Entry),
     /// It has left a directory. This many of the lists in `ActiveRules::files` still apply.
     Leave(usize),

@@ -1,4 +1,4 @@
-//! Made by `bin/rust_crate` from `crates/glob_search/src/searcher/entering.rt`, where its contracts are: sha256 fbd56954709eb294.
+//! Made by `bin/rust_crate` from `crates/glob_search/src/searcher/entering.rt`, where its contracts are: sha256 a56effd03a3cd65b.
 //!
 //! How a directory is entered.
 
