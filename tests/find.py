@@ -2,8 +2,8 @@
 """Compares the output of `globs find` on random trees on the disk: with a filter of all paths by tests/lib/reference.py,
 where symbolic links are not followed, with several patterns with braces and leads, excluded paths, kinds and depths; and,
 with `--git`, with what git lists, where the trees have ignore files at any depth, and a search begins anywhere in them,
-perhaps with excluded names. Half of the searches are compared with each. Order and duplicates count. In a table it counts the directories that are listed. The last line counts searches: 'N
-passed, M failed'.
+perhaps with excluded names. Half of the searches are compared with each. Order and duplicates count. In a table it counts
+the directories that are listed. The last line counts searches: 'N passed, M failed'.
 
     tests/find.py [--seed N] [--searches N]
 """
@@ -28,7 +28,8 @@ GIT = {"GIT_CONFIG_NOSYSTEM": "1", "GIT_CONFIG_GLOBAL": "/dev/null"}
 
 # Lines about words that may have been meant otherwise.
 HINT = re.compile(
-    r"globs: (`.*` (is a directory|is a symbolic link|is not (there|a directory),|matches (one path|only (names at the start|paths of more names)))"
+    r"globs: (`.*` (is a (directory|regular file|symbolic link)|is not (there|a directory),"
+    r"|matches (one path|only (names at the start|paths of more names)))"
     r"|-x .* ignores all that |\[\^ lists a \^ here|the start is ignored by )"
 )
 
